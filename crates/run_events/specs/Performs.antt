@@ -1,29 +1,20 @@
 -- What the act of an event leaves in a machine, under the rows of a memory or of a world (own).
 use Rattle.std.specs.Prelude.{◌≡◌, ◌≢◌, ◌+◌, ◌<◌, ◌≤◌, ℕ, Bool, true, false, List, [], length, slice_get, Option, Some, None, Result, Ok, Err}
-use Rattle.std.specs.List.{All}
 use Rattle.std.specs.Option.{ForSome}
-use Rattle.ub_base.specs.declared.clause.Clause.{Clause}
-use Rattle.ub_base.specs.declared.clause.NoMemory.{NoMemory}
 use Rattle.ub_base.specs.declared.names.Event.{Event}
 use Rattle.addr_map.specs.declared.map.Row.{Row}
-use Rattle.c_typed.specs.Lawful.{ContentIsLawful}
 use Rattle.mem_spec.specs.Script.{Script, Done, Raised, run}
 use Rattle.mem_spec.specs.Store.{Store}
-use Rattle.mem_laws.specs.MoreRows.{Extends}
-use Rattle.prov_memory.specs.declared.value.Value.{Value as Kept_value}
 use Rattle.prov_memory.specs.Keeps.{Keeps}
-use Rattle.prov_memory.specs.Made.{IsMade}
 use Rattle.prov_memory.specs.Memory.{store_of}
 use Rattle.prov_memory.specs.Sound.{IsSound}
 use Rattle.prov_memory.specs.Tags.{AreTagged}
 use Rattle.c_model.specs.Nodes.{changed}
 use Rattle.c_model.specs.Values.{Value, Nothing, integer_of}
-use Rattle.run_acts.specs.declared.values.Pointer.{Pointer as Place}
-use Rattle.run_acts.specs.Kept.{IsOf}
 use Rattle.run_code.specs.declared.steps.Act.{Act}
 use Rattle.run_code.specs.declared.steps.Act.TheVariants as act
 use Rattle.run_state.specs.declared.machine.Machine.{Machine}
-use Rattle.run_state.specs.Stands.{Holds, StandsTables}
+use Rattle.run_state.specs.Stands.{Holds}
 use Rattle.run_events.specs.declared.acts.Outcome.{Outcome}
 use Rattle.run_events.specs.declared.acts.Outcome.TheVariants as outcome
 use Rattle.run_events.specs.declared.fault.Fault.{Fault}
@@ -39,13 +30,6 @@ pub record CanAct (m : Machine) : Type 0 where
 -- the store that memory and streams are
 abbrev pub store_in : Machine → Store
 store_in m = store_of m.memory m.streams
-
--- the memory's rows are among these, and what the code names by number stands where the machine says; its constants are those of a lawful program
-pub record CanPerform (rows : List Row) (m : Machine) : Type 0 where
-  pub can : CanAct m
-  pub extends : Extends m.memory.rows rows
-  pub tables : StandsTables m
-  pub constants : All (λ cs. All (λ c. ContentIsLawful m.program.now c.content) cs.now) m.code.now.tables.constants.items
 
 -- an effect gives no value, and a body keeps its own
 abbrev pub gives_value : Act → Bool
@@ -126,24 +110,3 @@ Effects old new script (Err (fault.Raise c)) = run old.memory.rows script (store
 Effects old new script (Err (fault.Over cause number)) = ⊥
 Effects old new script (Err fault.Unplaced) = ⊥
 Effects old new script (Err fault.NoMemory) = Unit {0}
-
--- 3. The store of a parameter.
-
--- Memory is sound, and its rows are among these; what the code names by number stands where the machine says; and what the place and the value name was
--- made in memory.
-pub record CanPut (rows : List Row) (m : Machine) (p : Place) (v : Kept_value) : Type 0 where
-  pub sound : IsSound m.memory
-  pub extends : Extends m.memory.rows rows
-  pub tables : StandsTables m
-  pub place : IsMade m.memory p.prov
-  pub value : IsOf m.memory v
-
--- The store is done as its script does it: without a value, with the items that `spare` has then, and its store; or it raises the script's clause.
-abbrev pub Puts : List Row → Machine → Machine → Script Value → Result (Result (Unit {0}) Clause) NoMemory → Type 0
-Puts rows old new script (Ok (Ok done)) = run rows script (store_in old) ≡ Done Nothing new.spare (store_in new)
-Puts rows old new script (Ok (Err c)) = run rows script (store_in old) ≡ Raised c
-Puts rows old new script (Err e) = Unit {0}
-
--- nothing but memory and `spare` has changed
-abbrev pub TouchesSpare : Machine → Machine → Type 0
-TouchesSpare old new = new ≡ record old { memory = new.memory; spare = new.spare }

@@ -7,6 +7,7 @@ use Rattle.std.proofs.Common.{
   ◌+◌,
   ◌<◌,
   ◌≤◌,
+  ◌^◌,
   Bool,
   true,
   false,
@@ -38,7 +39,7 @@ use Rattle.addr_map.specs.declared.map.Row.{Row}
 use Rattle.c_typed.specs.declared.tree.Change.{Change}
 use Rattle.c_typed.specs.declared.tree.Place.{Place}
 use Rattle.c_typed.specs.Order.{is_body, is_val}
-use Rattle.c_typed.specs.Tree.{size}
+use Rattle.c_typed.specs.Tree.{Tree, size}
 use Rattle.mem_spec.specs.Script.{Act as Acted, Done as Acts_done, Script, run}
 use Rattle.mem_spec.specs.Store.{Store}
 use Rattle.prov_memory.specs.Keeps.{Keeps, RowsStay}
@@ -47,7 +48,7 @@ use Rattle.c_model.specs.ChoiceLaws.{IsClosed, IsNext, StaysClosed}
 use Rattle.c_model.specs.Moves.{Move, Stay}
 use Rattle.c_model.specs.Nodes.{changed}
 use Rattle.c_model.specs.Program.{Expr, expr, tree_of}
-use Rattle.c_model.specs.Runs.{Entry, Running, State, acted, entry_of, limited, moved, step}
+use Rattle.c_model.specs.Runs.{Running, State, acted, depth_of, entry_of, limit_passed, limited, moved, step, within}
 use Rattle.c_model.specs.Steps.{Begun, Ev, Local, MayPick, Scene, at_node, does, event_act, event_of, move, move_of, next, started, taken_by, values_of, with_given}
 use Rattle.c_model.specs.Values.{Value}
 use Rattle.c_model.specs.World.{World}
@@ -61,6 +62,7 @@ use Rattle.run_code.specs.declared.steps.Expression.{Expression}
 use Rattle.run_code.specs.declared.steps.Listed.{Listed}
 use Rattle.run_code.specs.Chosen.{IsKept}
 use Rattle.run_code.specs.Keeping.{KeepsAtEvent}
+use Rattle.run_code.specs.LaidOut.{LaidOutBy}
 use Rattle.run_listing.specs.Along.{IsListed, part_of}
 use Rattle.run_listing.specs.Cursor.{StandsBehind, StandsStraight}
 use Rattle.run_state.specs.declared.machine.Machine.{Machine}
@@ -96,12 +98,12 @@ use Rattle.run_machine.specs.Taking.{
   IsEventOf,
   StandsOpen,
   TakesEvent,
-  WorksOut,
   after_event,
   store_after,
 }
 use Rattle.run_machine.proofs.Deciding.{ChosenThen, NotedThen, Passed, chosen_then, done_then, listed_in, noted_then, passed}
 use Rattle.run_machine.proofs.Giving.{from_each, node_within, none_of, values_after}
+use Rattle.run_machine.proofs.Laying.{RoomsLaid, WorksOut, rooms_laid}
 use Rattle.run_machine.proofs.Opened.{Opened, opened, top_frame}
 use Rattle.run_machine.proofs.Standing.{frames_under, locals_on, moved_on, part_same, result_none, some_there, tables_on}
 use Rattle.run_machine.proofs.Still.{above_same, depth_same}
@@ -173,8 +175,14 @@ module _ (trees : TreesAreKept) (keeps_at : KeepsAtEvent) (gives : RoomGives) (b
       subst (λ (l : Expression). IsListed (part_of listing l.first l.end) d) same_laid
       (listed_in listing laid.first laid.end t.event.at d t.event.first t.event.end t.event.entry)
 
-  in_rooms : HasRooms (part_of listing x.laid.first x.laid.end) old.top.rooms e
-  in_rooms = subst (λ (es : List Listed). HasRooms es old.top.rooms e) parts t.rooms
+  few : size (tree_of e.root) < 2 ^ 32
+  few = subst (λ (r : Tree). size r < 2 ^ 32) (sym look.tree) look.few
+
+  in_rooms : RoomsLaid (part_of listing x.laid.first x.laid.end) old.top.rooms e
+  in_rooms =
+      rooms_laid old.code.now.tables listing x.laid t.event.firsts t.event.nodes
+      (subst (λ (l : Expression). LaidOutBy t.event.firsts t.event.nodes old.code.now.tables listing l) same_laid t.event.lays) e x.root few old.top.rooms
+      (subst (λ (es : List Listed). HasRooms es old.top.rooms e) parts t.rooms)
 
   -- the cursor has passed it
   way : Passed behind world old s st.top.scene e d v height x.shown x.shows look.listed t.stage s.straight t.taken.past
@@ -374,6 +382,16 @@ module _ (trees : TreesAreKept) (keeps_at : KeepsAtEvent) (gives : RoomGives) (b
       ∙ ap (λ (k : Machine). Acts_done v k.items (store_of k.memory k.streams)) (changes.rest)
       ∙ ap (λ (k : Machine). Acts_done v k.items (store_after k)) (sym moves)
 
+  -- and nothing was created
+  pub stays_within : limit_passed world.limits (depth_of st.top st.held) st.store ≡ None →
+      limit_passed world.limits (depth_of then_frame st.held) (store_after new) ≡ None
+  stays_within is =
+      let created = t.taken.created ∙ ap (λ (k : Machine). k.memory.created) way.is in
+      ap (λ (k : Machine). limit_passed world.limits (depth_of then_frame st.held) (store_after k)) moves
+      ∙ ap (λ (n : ℕ). limit_passed world.limits n (store_of done.memory old.streams)) (depth_same st.top then_frame st.held refl)
+      ∙ ap (λ (n : ℕ). limit_passed world.limits (depth_of st.top st.held) (record (store_of old.memory old.streams) { created = n })) created
+      ∙ ap (limit_passed world.limits (depth_of st.top st.held)) (sym t.stood.stands.memory.store) ∙ is
+
 pub event_stands : TreesAreKept → KeepsAtEvent → RoomGives → StandsBehind → StaysClosed → EventStands
 event_stands trees keeps_at gives behind closes world meaning old new st e s laid d v t =
     event_stands_so trees keeps_at gives behind closes world meaning old new st e s laid d v t
@@ -397,6 +415,8 @@ steps_so world st e u v is s begun plain ran =
     ∙ ap (λ (b : Option Begun). limited world.limits (Running (record { top = next world st.top b (Ev u) v; held = st.held; store = s; trace = trace }))) begun
 
 pub event_steps : TreesAreKept → KeepsAtEvent → RoomGives → StandsBehind → StaysClosed → EventSteps
-event_steps trees keeps_at gives behind closes world meaning old new st e s laid d v t a =
+event_steps trees keeps_at gives behind closes world meaning old new st e s laid d v t a is =
+    let after = after_event world st e d.place v new.items (store_after new) in
     steps_so world st e d.place v new.items (store_after new) t.stood.begun t.plain
-    (ran trees keeps_at gives behind closes world meaning old new st e s laid d v t a)
+        (ran trees keeps_at gives behind closes world meaning old new st e s laid d v t a)
+    ∙ ap (λ (l : Option _). within l (Running after)) (stays_within trees keeps_at gives behind closes world meaning old new st e s laid d v t is)

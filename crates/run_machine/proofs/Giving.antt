@@ -57,7 +57,7 @@ use Rattle.run_state.specs.Stands.{Holds, IsUpdate, StandsValues}
 use Rattle.run_events.specs.Performs.{gives_value, kept_room}
 use Rattle.run_events.proofs.Stays.{holds_stay}
 use Rattle.run_machine.specs.Ending.{IsUpdateRoom}
-use Rattle.run_machine.specs.Taking.{HasRooms, WorksOut}
+use Rattle.run_machine.proofs.Laying.{RoomsLaid, WorksOut}
 use Rattle.run_machine.proofs.Standing.{moved_on, some_there}
 
 -- ---- what is given then
@@ -116,7 +116,7 @@ kept_gives (act.Initialize n) r e = absurd (cc)
 
 -- ---- the values of the full expression
 module _ (world : World) (m n : Machine) (t : Open) (keeps : Keeps m.memory n.memory) (f : Scene) (e : Begun) (d : Due) (v : Value)
-    (base first end count : ℕ) (rooms : HasRooms (part_of m.code.now.listing.items first end) count e)
+    (base first end count : ℕ) (rooms : RoomsLaid (part_of m.code.now.listing.items first end) count e)
     (listed_there : IsListed (part_of m.code.now.listing.items first end) d) (plain : is_body d.place.kind ≡ false)
     (within : (w : Place) → is_some (e.given w) ≡ true → w.node < size (tree_of e.root)) (here : d.place.node < size (tree_of e.root))
     (there : base + count ≤ length m.values.items)
@@ -148,7 +148,7 @@ module _ (world : World) (m n : Machine) (t : Open) (keeps : Keeps m.memory n.me
   node_stays : (j : ℕ) → j < size (tree_of e.root) → (is_val d.place.kind ≡ true → j ≢ d.place.node)
       → slice_get n.values.items (base + j) ≡ slice_get m.values.items (base + j)
   node_stays j lt apart =
-      stays j apart (λ r is eq. (let le = rooms.kept r d listed_there is in omega (arith, le, lt, eq)))
+      stays j apart (λ r is eq. (let le = rooms.kept r d listed_there plain is in omega (arith, le, lt, eq)))
 
   held : (room : ℕ) (w : Value) → slice_get n.values.items (base + room) ≡ slice_get m.values.items (base + room)
       → Holds m.memory m.values.items (base + room) w → Holds n.memory n.values.items (base + room) w

@@ -2,6 +2,7 @@ mod Behind
 mod Deciding
 mod Giving
 mod Going
+mod Laying
 mod Leaving
 mod Left
 mod Lives

@@ -1,18 +1,16 @@
 -- An event that isn't a body is taken: what is asked of the machine, and what it stands for then (own).
-use Rattle.std.specs.Prelude.{◌≡◌, ◌+◌, ◌<◌, ◌≤◌, ℕ, suc, Bool, true, false, List, [], ◌∷◌, length, map, reverse, slice_get, Option, Some, None, pos}
+use Rattle.std.specs.Prelude.{◌≡◌, ◌+◌, ◌<◌, ◌≤◌, ℕ, suc, Bool, true, false, List, [], ◌∷◌, length, map, reverse, slice_get, Option, Some, None}
 use Rattle.std.specs.Borrow.{Bor}
-use Rattle.ub_base.specs.declared.clause.Kind.TheVariants.{Val}
+use Rattle.ub_base.specs.declared.clause.Kind.TheVariants.{Eff}
 use Rattle.ub_base.specs.declared.names.Item.{Item}
-use Rattle.c_types.specs.declared.ty.Ty.{Ty}
-use Rattle.c_typed.specs.declared.tree.Change.{Change}
 use Rattle.c_typed.specs.declared.tree.Place.{Place}
-use Rattle.c_typed.specs.Order.{place, is_body, is_val}
+use Rattle.c_typed.specs.Order.{is_body}
 use Rattle.c_typed.specs.Tree.{is_quiet, size}
 use Rattle.mem_spec.specs.Store.{Store}
 use Rattle.prov_memory.specs.Memory.{store_of}
 use Rattle.c_model.specs.ChoiceLaws.{IsClosed}
 use Rattle.c_model.specs.Program.{tree_of}
-use Rattle.c_model.specs.Runs.{Entry, Running, State, entry_of, limited, step}
+use Rattle.c_model.specs.Runs.{Running, State, entry_of, step}
 use Rattle.c_model.specs.Steps.{Begun, Ev, MayPick, Scene, with_given}
 use Rattle.c_model.specs.Values.{Value}
 use Rattle.c_model.specs.World.{World}
@@ -20,14 +18,10 @@ use Rattle.program_view.specs.Trees.{expr_of}
 use Rattle.seq_order.specs.Marked.{taken_in}
 use Rattle.run_control.specs.View.{Meaning}
 use Rattle.run_code.specs.declared.nodes.NodeInfo.{NodeInfo}
-use Rattle.run_code.specs.declared.steps.Act.{Act}
-use Rattle.run_code.specs.declared.steps.Act.TheVariants as act
 use Rattle.run_code.specs.declared.steps.Due.{Due}
 use Rattle.run_code.specs.declared.steps.Expression.{Expression}
 use Rattle.run_code.specs.declared.steps.Listed.{Listed}
 use Rattle.run_code.specs.declared.steps.Listed.TheVariants as listed
-use Rattle.run_code.specs.declared.steps.Operand.{Operand}
-use Rattle.run_code.specs.declared.steps.Operand.TheVariants.{Integer}
 use Rattle.run_code.specs.declared.whole.Code.{Code}
 use Rattle.run_code.specs.Chosen.{IsKept, Views}
 use Rattle.run_code.specs.LaidOut.{LaidOutBy}
@@ -39,8 +33,8 @@ use Rattle.run_state.specs.Stands.{Stands}
 use Rattle.run_events.specs.Nodes.{IsActOf}
 use Rattle.run_events.specs.Performs.{gives_value, kept_room, ChangesOnly, IsDone}
 use Rattle.run_events.specs.Ways.{Chooses}
-use Rattle.run_machine.specs.Answering.{newest_items}
-use Rattle.run_machine.specs.Ending.{IsUpdateRoom, KeepToRooms, IsInRooms, NotesWay}
+use Rattle.run_machine.specs.Answering.{IsWithin}
+use Rattle.run_machine.specs.Ending.{IsUpdateRoom, KeepToRooms, NotesWay}
 use Rattle.run_machine.specs.Picks.{ahead_part, at_cursor, event_at, top_of, whole_part}
 
 -- 1. A machine in whose top frame a full expression is open.
@@ -59,23 +53,14 @@ pub record StandsOpen (world : World) (meaning : Option ℕ → Meaning) (m : Ma
 
 -- 2. What is asked of the code of that full expression: so it is in code that was laid out of a program.
 
--- the act works out what an update that gives its old value will store, and keeps it in this room (6.5.2.4p2)
-abbrev pub WorksOut : Act → Change → (room : ℕ) → Type 0
-WorksOut a c room = (ty : Bor Ty) × (target : Operand) × (a ≡ act.Change c true ty target (Integer (pos 1)) room)
-
--- There is a room for each node. What an update is to store stands in the room of its node, or, where it gives the old value, in one behind those of all
--- nodes: its value keeps it there, and no event of another node keeps anything there. Values alone give values.
+-- There is a room for each node, and for what each update is to store; no event of another node than the update's keeps anything there. An effect gives no
+-- value.
 pub record HasRooms (entries : List Listed) (rooms : ℕ) (e : Begun) : Type 0 where
   pub nodes : size (tree_of e.root) ≤ rooms
   pub within : (room : ℕ) → IsUpdateRoom entries e room → room < rooms
-  pub own : (room : ℕ) (r : IsUpdateRoom entries e room) → r.old ≡ false → room ≡ r.due.place.node
-  pub behind : (room : ℕ) (r : IsUpdateRoom entries e room) → r.old ≡ true → size (tree_of e.root) ≤ room
-  pub value : (room : ℕ) (r : IsUpdateRoom entries e room) (d : Due) → r.old ≡ true → IsListed entries d → d.place ≡ place r.due.place.node Val
-      → WorksOut d.act r.change room
   pub apart : (room : ℕ) (r : IsUpdateRoom entries e room) (d : Due) → IsListed entries d → kept_room d.act ≡ Some room
       → d.place.node ≡ r.due.place.node
-  pub kept : (room : ℕ) (d : Due) → IsListed entries d → kept_room d.act ≡ Some room → size (tree_of e.root) ≤ room
-  pub gives : (d : Due) → IsListed entries d → is_body d.place.kind ≡ false → gives_value d.act ≡ is_val d.place.kind
+  pub effects : (d : Due) → IsListed entries d → d.place.kind ≡ Eff → gives_value d.act ≡ false
 
 -- The event is one of the listing of the full expression, which is laid out, of a node that isn't known beforehand. What its code takes to be known
 -- beforehand is so by the definitions.
@@ -103,7 +88,7 @@ abbrev pub Decides : Option ℕ → Machine → Machine → Type 0
 Decides None old new = new ≡ old
 Decides (Some number) old new = Chooses old.code.now number old new
 
--- The cursor passed the event; then its act was done, which created nothing, with this value, and an effect left all values; it was noted; and its choice
+-- The cursor passed the event; then its act was done, with this value, and created nothing, and an effect left all values; it was noted; and its choice
 -- was made.
 pub record IsTaken (world : World) (old : Machine) (s : Stage) (d : Due) (v : Value) (new : Machine) : Type 0 where
   pub past : Machine
@@ -113,6 +98,7 @@ pub record IsTaken (world : World) (old : Machine) (s : Stage) (d : Due) (v : Va
   pub changes : ChangesOnly past done d.place.node d.act
   pub does : IsDone world.rows past done (event_at past d.place) d.act v
   pub rows : done.memory.rows ≡ past.memory.rows
+  pub created : done.memory.created ≡ past.memory.created
   pub effect : gives_value d.act ≡ false → done.values ≡ past.values
   pub notes : NotesWay s.straight done d.place noted
   pub decides : Decides d.choice noted new
@@ -150,9 +136,9 @@ EventStands =
     → TakesEvent world meaning old st e s laid d v new
     → StandsOpen world meaning new (after_event world st e d.place v new.items (store_after new)) (with_given e d.place v)
 
--- Where the act is that of its node, this is the definitions' next state, within the limits, with the items of the pick.
+-- Where the act is that of its node, this is the definitions' next state, of one within the limits, with the items of the pick.
 abbrev pub EventSteps : Type 0
 EventSteps =
     (world : World) (meaning : Option ℕ → Meaning) (old new : Machine) (st : State) (e : Begun) (s : Stage) (laid : Expression) (d : Due) (v : Value)
-    → (t : TakesEvent world meaning old st e s laid d v new) → IsActOf world t.taken.past st.top.scene e d
-    → step world st (Ev d.place) ≡ limited world.limits (Running (after_event world st e d.place v new.items (store_after new)))
+    → (t : TakesEvent world meaning old st e s laid d v new) → IsActOf world t.taken.past st.top.scene e d → IsWithin world st
+    → step world st (Ev d.place) ≡ Running (after_event world st e d.place v new.items (store_after new))
