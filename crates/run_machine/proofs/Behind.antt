@@ -52,7 +52,8 @@ use Rattle.c_model.specs.Runs.{Running, State, acted, depth_of, entry_of, limit_
 use Rattle.c_model.specs.Steps.{Begun, Ev, Local, MayPick, Scene, at_node, does, event_act, event_of, move, move_of, next, started, taken_by, values_of, with_given}
 use Rattle.c_model.specs.Values.{Value}
 use Rattle.c_model.specs.World.{World}
-use Rattle.c_model.proofs.Decided.{found_before, has_due}
+use Rattle.c_model.proofs.Closed.{found_before}
+use Rattle.c_model.proofs.Decided.{has_due}
 use Rattle.program_view.specs.Laws.{TreesAreKept}
 use Rattle.seq_order.specs.Marked.{taken_in}
 use Rattle.run_control.specs.View.{Meaning}
@@ -102,7 +103,7 @@ use Rattle.run_machine.specs.Taking.{
   store_after,
 }
 use Rattle.run_machine.proofs.Deciding.{ChosenThen, NotedThen, Passed, chosen_then, done_then, listed_in, noted_then, passed}
-use Rattle.run_machine.proofs.Giving.{from_each, node_within, none_of, values_after}
+use Rattle.run_machine.proofs.Giving.{node_within, none_of, values_after}
 use Rattle.run_machine.proofs.Laying.{RoomsLaid, WorksOut, rooms_laid}
 use Rattle.run_machine.proofs.Opened.{Opened, opened, top_frame}
 use Rattle.run_machine.proofs.Standing.{frames_under, locals_on, moved_on, part_same, result_none, some_there, tables_on}
@@ -246,7 +247,7 @@ module _ (trees : TreesAreKept) (keeps_at : KeepsAtEvent) (gives : RoomGives) (b
   own_value is = act_done.value is room_there
 
   chosen : ChosenThen world st.top.scene after noted new x.shown
-  chosen = chosen_then keeps_at gives world st.top.scene laid e d v noted new x.shown t.event look.listed.0.formed (t.stood.chosen x.shown x.shows)
+  chosen = chosen_then keeps_at gives world st.top.scene laid e d v noted new x.shown t.event (whole_part old s) look.listed.0 (t.stood.chosen x.shown x.shows)
       t.may.ready.due due_now.left x.shows (λ is. own_value (own_gives ∙ is)) decides
 
   -- so it is the machine that moved on
@@ -263,7 +264,7 @@ module _ (trees : TreesAreKept) (keeps_at : KeepsAtEvent) (gives : RoomGives) (b
 
   low : (j : ℕ) → j < old.top.base → slice_get done.values.items j ≡ slice_get old.values.items j
   low j lt = others j (λ eq. omega (arith, lt, eq))
-      (from_each (kept_room d.act) (λ r. j ≢ old.top.base + r) (λ r is eq. omega (arith, lt, eq)))
+      (λ r kept eq. omega (arith, lt, eq))
 
   values : StandsValues world (moved_on old end there) old.top.base x.laid.first x.laid.end st.top.scene after
   values = values_after world old end there act_done.kept st.top.scene e d v old.top.base x.laid.first x.laid.end old.top.rooms in_rooms in_part t.plain

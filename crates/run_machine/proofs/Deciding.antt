@@ -41,7 +41,6 @@ use Rattle.c_model.specs.Program.{tree_of}
 use Rattle.c_model.specs.Steps.{Begun, Scene, is_done, taken_by, with_given}
 use Rattle.c_model.specs.Values.{Value, truth}
 use Rattle.c_model.specs.World.{World}
-use Rattle.elaborate.specs.Formed.{is_formed}
 use Rattle.program_view.specs.Trees.{expr_of}
 use Rattle.seq_order.specs.declared.done.Marks.{Marks}
 use Rattle.seq_order.specs.Marked.{done_in, taken_in}
@@ -57,6 +56,7 @@ use Rattle.run_code.specs.declared.tables.Tables.{Tables}
 use Rattle.run_code.specs.Choices.{ChoosesAt}
 use Rattle.run_code.specs.Chosen.{IsKept}
 use Rattle.run_code.specs.Keeping.{KeepsAtEvent, choice_of, kept_by}
+use Rattle.run_code.specs.OfTrees.{IsListingOf}
 use Rattle.run_code.specs.Resolved.{resolved}
 use Rattle.run_listing.specs.Along.{IsListed, Next, part_of}
 use Rattle.run_listing.specs.Cursor.{StandsBehind, StandsStraight, IsListed as HasListed}
@@ -114,7 +114,7 @@ pub record ChosenThen (world : World) (f : Scene) (e : Begun) (m new : Machine) 
   pub kept : IsKept world f e (taken_in choices)
 
 module _ (keeps_at : KeepsAtEvent) (gives : RoomGives) (world : World) (f : Scene) (laid : Expression) (e : Begun) (d : Due) (v : Value) (m new : Machine)
-    (b : Shown) (event : IsEventOf world m.code.now f laid e d) (formed : is_formed (tree_of e.root) ≡ true) (kept : IsKept world f e (taken_in b.taken))
+    (b : Shown) (event : IsEventOf world m.code.now f laid e d) (entries : List Listed) (lists : IsListingOf entries (tree_of e.root)) (kept : IsKept world f e (taken_in b.taken))
     (due : is_due (tree_of e.root) (taken_by world f e) d.place ≡ true) (left : e.given d.place ≡ None) (top : top_of m ≡ Some b)
     (value : is_val d.place.kind ≡ true → Holds m.memory m.values.items (m.top.base + d.place.node) v) where
   abbrev tables : Tables
@@ -168,7 +168,7 @@ module _ (keeps_at : KeepsAtEvent) (gives : RoomGives) (world : World) (f : Scen
   chosen_then decides =
       let entry = event.lays.each event.at (listed.Event d) event.first event.end event.entry in
       made entry.0 entry.1 d.choice entry.3 decides
-      (keeps_at world f event.firsts event.nodes tables m.code.now.listing.items laid e (taken_in b.taken) event.at d v event.lays event.views formed kept
+      (keeps_at world f event.firsts event.nodes tables m.code.now.listing.items laid e (taken_in b.taken) event.at d v event.lays event.views lists.formed kept
       event.first event.end event.entry due left)
 
 -- ---- what is done of it then

@@ -83,14 +83,6 @@ pub node_within : (taken : Taken) (root : Tree) (u : Place) → is_due root take
 node_within taken root u due = (let r = events_in taken root 0 u due in omega (arith, r.1))
 
 -- ---- rooms that an act keeps something in
-pub from_each : (o : Option ℕ) (P : ℕ → Type 0) → ((r : ℕ) → o ≡ Some r → P r) → ForSome o P
-from_each None P f = tt
-from_each (Some r) P f = f r refl
-
-for_some : (o : Option ℕ) (P Q : ℕ → Type 0) → ((r : ℕ) → P r → Q r) → ForSome o P → ForSome o Q
-for_some None P Q f h = tt
-for_some (Some r) P Q f h = f r h
-
 kept_gives : (a : Act) (r : ℕ) → kept_room a ≡ Some r → gives_value a ≡ true
 kept_gives (act.Change c true ty target o k) r e = refl
 kept_gives (act.Change c false ty target o k) r e = refl
@@ -140,8 +132,7 @@ module _ (world : World) (m n : Machine) (t : Open) (keeps : Keeps m.memory n.me
       go true is =
           let ne : j ≢ d.place.node = apart (sym gives ∙ is) in
           others (base + j) (λ eq. ne (omega (arith, eq)))
-          (for_some (kept_room d.act) (λ r. j ≢ r) (λ r. base + j ≢ base + r) (λ r no eq. no (omega (arith, eq)))
-          (from_each (kept_room d.act) (λ r. j ≢ r) away))
+          (λ r kept eq. away r kept (omega (arith, eq)))
       go false is = effect is (base + j)
 
   -- that of another node
@@ -156,9 +147,9 @@ module _ (world : World) (m n : Machine) (t : Open) (keeps : Keeps m.memory n.me
 
   -- another place than the event's is that of another node
   other_node : (k : ℕ) → same_place d.place (place k Val) ≡ false → is_val d.place.kind ≡ true → k ≢ d.place.node
-  other_node k no val eq =
+  other_node k away val eq =
       let is : d.place ≡ place k Val = place_eq d.place k Val (sym eq) (val_kind d.place.kind val) in
-      true≢false (sym (subst (λ (w : Place). same_place d.place w ≡ true) is (same_place_itself d.place)) ∙ no)
+      true≢false (sym (subst (λ (w : Place). same_place d.place w ≡ true) is (same_place_itself d.place)) ∙ away)
 
   own_value : (k : ℕ) → same_place d.place (place k Val) ≡ true → Holds n.memory n.values.items (base + k) v
   own_value k is =
@@ -189,7 +180,7 @@ module _ (world : World) (m n : Machine) (t : Open) (keeps : Keeps m.memory n.me
       held k w (node_stays k (within (place k Body) (some_there (e.given (place k Body)) w before)) (other_node k is))
       (s.body k w (sym (given_else e d.place (place k Val) v is) ∙ none) before)
 
-  room_of : (i : ℕ) (due : Due) (store room : ℕ) (target : Operand) (c : Change) (old : Bool) (es : Exprs)
+  abbrev room_of : (i : ℕ) (due : Due) (store room : ℕ) (target : Operand) (c : Change) (old : Bool) (es : Exprs)
       → slice_get (part_of m.code.now.listing.items first end) i ≡ Some (listed.Event due) → due.act ≡ act.Store store target (Done room)
       → due.place.kind ≡ Eff → IsUpdate (at_node 0 e.root due.place.node) c old es
       → IsUpdateRoom (part_of m.code.now.listing.items first end) e room

@@ -66,6 +66,7 @@ use Rattle.run_code.specs.declared.steps.Operand.TheVariants.{Done, Integer}
 use Rattle.run_code.specs.declared.tables.Tables.{Tables}
 use Rattle.run_code.specs.EventActs.{IsAct, IsDue, IsEffect, IsValue, Sight, head_at, room_of, sight_of}
 use Rattle.run_code.specs.LaidOut.{LaidOutBy}
+use Rattle.run_code.specs.Resolved.{value_at}
 use Rattle.run_listing.specs.Along.{IsListed, part_of}
 use Rattle.run_state.specs.Stands.{IsUpdate}
 use Rattle.run_events.specs.Performs.{gives_value, kept_room}
@@ -219,7 +220,7 @@ pub record RoomsLaid (entries : List Listed) (rooms : ℕ) (e : Begun) : Type 0 
   pub kept : (room : ℕ) (d : Due) → IsListed entries d → is_body d.place.kind ≡ false → kept_room d.act ≡ Some room → size (tree_of e.root) ≤ room
   pub gives : (d : Due) → IsListed entries d → is_body d.place.kind ≡ false → gives_value d.act ≡ is_val d.place.kind
 
-stored_room : Act → ℕ
+abbrev stored_room : Act → ℕ
 stored_room (act.Store n target (Done room)) = room
 stored_room a = 0
 
@@ -304,7 +305,8 @@ module _ (tables : Tables) (listing : List Listed) (laid : Expression) (firsts :
   works_out : (s : Sight) (a : Act) (c : Change) (old : Bool) (room : ℕ) → old ≡ true → s.room ≡ room → IsValue (shape.Update c old) s a →
       WorksOut a c room
   works_out s a c false room is same v = absurd (cc)
-  works_out s a c true room is same v = (v.0, _, subst (λ (k : ℕ). a ≡ act.Change c true v.0 _ _ k) same v.2)
+  works_out s a c true room is same v =
+      (v.0, value_at s.operands 0, v.2 ∙ ap (λ (k : ℕ). act.Change c true v.0 (value_at s.operands 0) (Integer (pos 1)) k) same)
 
   value_works : (room : ℕ) (r : IsUpdateRoom entries e room) (d : Due) → r.old ≡ true → IsListed entries d → d.place ≡ place r.due.place.node Val →
       WorksOut d.act r.change room

@@ -82,21 +82,21 @@ pub record HasGiven (old : Machine) (v : Kept_value) (new : Machine) : Type 0 wh
 
 -- The frame below goes on with what the top frame left, in the room of the node that started it, whose body is noted.
 pub record GoesBack (old new : Machine) : Type 0 where
-  pub open : Open
+  pub frame : Open
   pub value : Kept_value
   pub middle : Machine
-  pub below : old.below.items ≡ middle.below.items ++ open ∷ []
+  pub below : old.below.items ≡ middle.below.items ++ frame ∷ []
   pub leaves : LeavesValue old.program.now old.top.function old.left value
   pub rest : middle ≡ record old {
     work = middle.work;
     depth = depth_without old.top.function old.depth;
     left = None;
     below = middle.below;
-    top = open;
+    top = frame;
     values = middle.values;
   }
-  pub room : open.base + old.top.node < length old.values.items → slice_get middle.values.items (open.base + old.top.node) ≡ Some value
-  pub others : (j : ℕ) → j ≢ open.base + old.top.node → slice_get middle.values.items j ≡ slice_get old.values.items j
+  pub room : frame.base + old.top.node < length old.values.items → slice_get middle.values.items (frame.base + old.top.node) ≡ Some value
+  pub others : (j : ℕ) → j ≢ frame.base + old.top.node → slice_get middle.values.items j ≡ slice_get old.values.items j
   pub noted : Notes middle (place old.top.node Body) new
 
 -- the end of the first frame is that of the run, whose status is by what it left
