@@ -1,34 +1,5 @@
 -- Behind an event that isn't a body the machine stands for the definitions' next state.
-use Rattle.std.proofs.Common.{
-  ◌≡◌,
-  ◌≢◌,
-  ℕ,
-  suc,
-  ◌+◌,
-  ◌<◌,
-  ◌≤◌,
-  ◌^◌,
-  Bool,
-  true,
-  false,
-  refl,
-  sym,
-  ap,
-  ◌∙◌,
-  subst,
-  arith,
-  List,
-  [],
-  ◌∷◌,
-  length,
-  map,
-  reverse,
-  Option,
-  Some,
-  None,
-  slice_get,
-  pos,
-}
+use Rattle.std.proofs.Common.{◌≡◌, ◌≢◌, ℕ, suc, ◌+◌, ◌<◌, ◌^◌, Bool, true, false, refl, sym, ap, ◌∙◌, subst, arith, List, ◌∷◌, length, map, reverse, Option, Some, None, slice_get, pos}
 use Rattle.std.specs.Prelude.{is_some, if◌then◌else◌}
 use Rattle.std.specs.Option.{ForSome}
 use Rattle.std.proofs.lemmas.List.{length-reverse}
@@ -40,16 +11,33 @@ use Rattle.c_typed.specs.declared.tree.Change.{Change}
 use Rattle.c_typed.specs.declared.tree.Place.{Place}
 use Rattle.c_typed.specs.Order.{is_body, is_val}
 use Rattle.c_typed.specs.Tree.{Tree, size}
-use Rattle.mem_spec.specs.Script.{Act as Acted, Done as Acts_done, Script, run}
+use Rattle.mem_spec.specs.Script.{Done as Acts_done, Script, run}
 use Rattle.mem_spec.specs.Store.{Store}
-use Rattle.prov_memory.specs.Keeps.{Keeps, RowsStay}
+use Rattle.prov_memory.specs.Keeps.{RowsStay}
 use Rattle.prov_memory.specs.Memory.{store_of}
 use Rattle.c_model.specs.ChoiceLaws.{IsClosed, IsNext, StaysClosed}
 use Rattle.c_model.specs.Moves.{Move, Stay}
 use Rattle.c_model.specs.Nodes.{changed}
 use Rattle.c_model.specs.Program.{Expr, expr, tree_of}
 use Rattle.c_model.specs.Runs.{Running, State, acted, depth_of, entry_of, limit_passed, limited, moved, step, within}
-use Rattle.c_model.specs.Steps.{Begun, Ev, Local, MayPick, Scene, at_node, does, event_act, event_of, move, move_of, next, started, taken_by, values_of, with_given}
+use Rattle.c_model.specs.Steps.{
+  Begun,
+  Ev,
+  Local,
+  MayPick,
+  Scene,
+  at_node,
+  does,
+  event_act,
+  event_of,
+  move,
+  move_of,
+  next,
+  started,
+  taken_by,
+  values_of,
+  with_given,
+}
 use Rattle.c_model.specs.Values.{Value}
 use Rattle.c_model.specs.World.{World}
 use Rattle.c_model.proofs.Closed.{found_before}
@@ -71,37 +59,13 @@ use Rattle.run_state.specs.declared.machine.Open.{Open}
 use Rattle.run_state.specs.declared.machine.Stage.{Stage}
 use Rattle.run_state.specs.declared.watch.Begun.{Begun as Shown}
 use Rattle.run_state.specs.Operands.{RoomGives}
-use Rattle.run_state.specs.Stands.{
-  Holds,
-  HoldsAll,
-  StandFrames,
-  Stands,
-  StandsBegun,
-  StandsDone,
-  StandsExpression,
-  StandsFrame,
-  StandsMemory,
-  StandsStrayed,
-  StandsValues,
-  frames_of,
-  result_seen,
-}
-use Rattle.run_events.specs.Acts.{given_by, script_in}
+use Rattle.run_state.specs.Stands.{Holds, HoldsAll, StandFrames, Stands, StandsBegun, StandsDone, StandsExpression, StandsFrame, StandsValues, frames_of, result_seen}
+use Rattle.run_events.specs.Acts.{script_in}
 use Rattle.run_events.specs.Nodes.{IsActOf}
-use Rattle.run_events.specs.Performs.{ChangesOnly, HoldsUpdate, IsDone, gives_value, kept_room, store_in}
+use Rattle.run_events.specs.Performs.{ChangesOnly, HoldsUpdate, IsDone, gives_value, kept_room}
 use Rattle.run_machine.specs.Ending.{NotesWay}
 use Rattle.run_machine.specs.Picks.{at_cursor, event_at, top_of, whole_part}
-use Rattle.run_machine.specs.Taking.{
-  Decides,
-  EventStands,
-  EventSteps,
-  HasRooms,
-  IsEventOf,
-  StandsOpen,
-  TakesEvent,
-  after_event,
-  store_after,
-}
+use Rattle.run_machine.specs.Taking.{Decides, EventStands, EventSteps, HasRooms, StandsOpen, TakesEvent, after_event, store_after}
 use Rattle.run_machine.proofs.Deciding.{ChosenThen, NotedThen, Passed, chosen_then, done_then, listed_in, noted_then, passed}
 use Rattle.run_machine.proofs.Giving.{node_within, none_of, values_after}
 use Rattle.run_machine.proofs.Laying.{RoomsLaid, WorksOut, rooms_laid}
@@ -374,7 +338,8 @@ module _ (trees : TreesAreKept) (keeps_at : KeepsAtEvent) (gives : RoomGives) (b
       run world.rows (event_act world st.top.scene e d.place (at_node 0 e.root d.place.node)) st.store ≡ Acts_done v new.items (store_after new)
   ran a =
       let seen : event_at past d.place ≡ event_of world st.top.scene d.place = event_seen world meaning old past st d.place t.stood.stands refl refl in
-      let same : script_in world.rows past (event_of world st.top.scene d.place) d.act ≡ event_act world st.top.scene e d.place (at_node 0 e.root d.place.node) =
+      let same : script_in world.rows past (event_of world st.top.scene d.place) d.act
+          ≡ event_act world st.top.scene e d.place (at_node 0 e.root d.place.node) =
       ap (λ (k : Machine). script_in world.rows k (event_of world st.top.scene d.place) d.act) (sym way.is) ∙ a.same in
       ap (run world.rows (event_act world st.top.scene e d.place (at_node 0 e.root d.place.node))) t.stood.stands.memory.store
       ∙ ap (λ (p : Script Value). run world.rows p (store_of old.memory old.streams)) (sym same)

@@ -29,22 +29,18 @@ use Rattle.std.proofs.Common.{
   None,
   slice_get,
 }
-use Rattle.std.specs.Borrow.{Bor}
 use Rattle.std.specs.Prelude.{◌||◌}
 use Rattle.std.proofs.lemmas.Option.{same_Some}
 use Rattle.ub_base.specs.declared.clause.Kind.{Kind}
 use Rattle.ub_base.specs.declared.clause.Kind.TheVariants.{Val, Eff, Body}
 use Rattle.c_typed.specs.declared.tree.Place.{Place}
-use Rattle.c_typed.specs.Order.{Taken, is_due, is_val, same_place}
-use Rattle.c_typed.specs.Tree.{is_quiet}
+use Rattle.c_typed.specs.Order.{is_due, is_val, same_place}
 use Rattle.c_model.specs.Program.{tree_of}
-use Rattle.c_model.specs.Steps.{Begun, Scene, is_done, taken_by, with_given}
+use Rattle.c_model.specs.Steps.{Begun, Scene, taken_by, with_given}
 use Rattle.c_model.specs.Values.{Value, truth}
 use Rattle.c_model.specs.World.{World}
-use Rattle.program_view.specs.Trees.{expr_of}
 use Rattle.seq_order.specs.declared.done.Marks.{Marks}
 use Rattle.seq_order.specs.Marked.{done_in, taken_in}
-use Rattle.run_acts.specs.Views.{value_in}
 use Rattle.run_code.specs.declared.nodes.NodeInfo.{NodeInfo}
 use Rattle.run_code.specs.declared.steps.Choice.{Choice}
 use Rattle.run_code.specs.declared.steps.Due.{Due}
@@ -57,16 +53,13 @@ use Rattle.run_code.specs.Choices.{ChoosesAt}
 use Rattle.run_code.specs.Chosen.{IsKept}
 use Rattle.run_code.specs.Keeping.{KeepsAtEvent, choice_of, kept_by}
 use Rattle.run_code.specs.OfTrees.{IsListingOf}
-use Rattle.run_code.specs.Resolved.{resolved}
 use Rattle.run_listing.specs.Along.{IsListed, Next, part_of}
 use Rattle.run_listing.specs.Cursor.{StandsBehind, StandsStraight, IsListed as HasListed}
 use Rattle.run_state.specs.declared.machine.Machine.{Machine}
 use Rattle.run_state.specs.declared.machine.Stage.{Stage}
 use Rattle.run_state.specs.declared.watch.Begun.{Begun as Shown}
-use Rattle.run_state.specs.Operands.{Gives, RoomGives, operand_in}
+use Rattle.run_state.specs.Operands.{Gives, RoomGives}
 use Rattle.run_state.specs.Stands.{Holds, StandsDone, StandsStrayed}
-use Rattle.run_events.specs.Choices.{HasChosen}
-use Rattle.run_events.specs.Ways.{made_by}
 use Rattle.run_machine.specs.Ending.{NotesWay}
 use Rattle.run_machine.specs.Picks.{at_cursor, top_of}
 use Rattle.run_machine.specs.Taking.{Decides, IsEventOf, IsPast}
@@ -114,7 +107,8 @@ pub record ChosenThen (world : World) (f : Scene) (e : Begun) (m new : Machine) 
   pub kept : IsKept world f e (taken_in choices)
 
 module _ (keeps_at : KeepsAtEvent) (gives : RoomGives) (world : World) (f : Scene) (laid : Expression) (e : Begun) (d : Due) (v : Value) (m new : Machine)
-    (b : Shown) (event : IsEventOf world m.code.now f laid e d) (entries : List Listed) (lists : IsListingOf entries (tree_of e.root)) (kept : IsKept world f e (taken_in b.taken))
+    (b : Shown) (event : IsEventOf world m.code.now f laid e d) (entries : List Listed) (lists : IsListingOf entries (tree_of e.root))
+    (kept : IsKept world f e (taken_in b.taken))
     (due : is_due (tree_of e.root) (taken_by world f e) d.place ≡ true) (left : e.given d.place ≡ None) (top : top_of m ≡ Some b)
     (value : is_val d.place.kind ≡ true → Holds m.memory m.values.items (m.top.base + d.place.node) v) where
   abbrev tables : Tables

@@ -1,38 +1,12 @@
 -- An event that isn't a body gives its value: what stands in the rooms of its full expression then.
-use Rattle.std.proofs.Common.{
-  ◌≡◌,
-  ◌≢◌,
-  ℕ,
-  suc,
-  ◌+◌,
-  ◌<◌,
-  ◌≤◌,
-  Bool,
-  true,
-  false,
-  refl,
-  sym,
-  ap,
-  ◌∙◌,
-  subst,
-  arith,
-  true≢false,
-  List,
-  length,
-  Option,
-  Some,
-  None,
-  slice_get,
-  pos,
-}
+use Rattle.std.proofs.Common.{◌≡◌, ◌≢◌, ℕ, suc, ◌+◌, ◌<◌, ◌≤◌, Bool, true, false, refl, sym, ap, ◌∙◌, subst, arith, true≢false, length, Option, Some, None, slice_get, pos}
 use Rattle.std.specs.Prelude.{◌||◌, is_some, if◌then◌else◌}
 use Rattle.std.specs.Option.{ForSome}
 use Rattle.std.proofs.lemmas.Option.{same_Some}
-use Rattle.ub_base.specs.declared.clause.Kind.{Kind}
 use Rattle.ub_base.specs.declared.clause.Kind.TheVariants.{Val, Eff, Body}
 use Rattle.c_typed.specs.declared.tree.Change.{Change}
 use Rattle.c_typed.specs.declared.tree.Place.{Place}
-use Rattle.c_typed.specs.Order.{Taken, has, events, is_body, is_due, is_val, place, same_place}
+use Rattle.c_typed.specs.Order.{Taken, is_body, is_due, is_val, place, same_place}
 use Rattle.c_typed.specs.Tree.{Tree, size}
 use Rattle.c_model.specs.Nodes.{amount, changed, new_value}
 use Rattle.c_model.specs.Program.{Exprs, tree_of}
@@ -46,7 +20,6 @@ use Rattle.prov_memory.specs.Keeps.{Keeps}
 use Rattle.run_code.specs.declared.steps.Act.{Act}
 use Rattle.run_code.specs.declared.steps.Act.TheVariants as act
 use Rattle.run_code.specs.declared.steps.Due.{Due}
-use Rattle.run_code.specs.declared.steps.Listed.{Listed}
 use Rattle.run_code.specs.declared.steps.Listed.TheVariants as listed
 use Rattle.run_code.specs.declared.steps.Operand.{Operand}
 use Rattle.run_code.specs.declared.steps.Operand.TheVariants.{Done}

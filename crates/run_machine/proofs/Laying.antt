@@ -1,38 +1,5 @@
 -- What code that is laid out says of the rooms of updates.
-use Rattle.std.proofs.Common.{
-  ◌≡◌,
-  ℕ,
-  zero,
-  suc,
-  ◌+◌,
-  ◌-◌,
-  ◌<◌,
-  ◌≤◌,
-  ◌^◌,
-  min,
-  Bool,
-  true,
-  false,
-  refl,
-  sym,
-  ap,
-  ◌∙◌,
-  subst,
-  arith,
-  List,
-  [],
-  ◌∷◌,
-  length,
-  take,
-  drop,
-  Option,
-  Some,
-  None,
-  slice_get,
-  pos,
-  ℤ,
-  if◌then◌else◌,
-}
+use Rattle.std.proofs.Common.{◌≡◌, ℕ, zero, suc, ◌+◌, ◌-◌, ◌<◌, ◌≤◌, ◌^◌, min, Bool, true, false, refl, sym, ap, ◌∙◌, subst, arith, List, [], ◌∷◌, length, take, drop, Option, Some, slice_get, pos, ℤ, if◌then◌else◌}
 use Rattle.std.specs.Borrow.{Bor}
 use Rattle.std.specs.Prelude.{◌&&◌, ◌==◌, unsigned_abs}
 use Rattle.std.proofs.lemmas.Option.{same_Some}
@@ -47,7 +14,6 @@ use Rattle.c_typed.specs.declared.tree.Node.TheOpen.{Node-F}
 use Rattle.c_typed.specs.declared.tree.Typed.{Typed, out-Typed}
 use Rattle.c_typed.specs.Order.{is_body, is_val, place}
 use Rattle.c_typed.specs.Sites as sites
-use Rattle.c_typed.specs.Tree as typed
 use Rattle.c_typed.specs.Tree.{size}
 use Rattle.c_model.specs.Program as model
 use Rattle.c_model.specs.Program.{Expr, Exprs, expr, tree_of}
