@@ -57,7 +57,7 @@ got [] more k lt = absurd (omega (arith, lt))
 got (t ∷ ts) more zero lt = refl
 got (t ∷ ts) more (suc k) lt = got ts more k (omega (arith, lt))
 
-type_stays : (ts more : List Ty) (n : ℕ) → n ≤ length ts + 12 → type_numbered (map type_of (ts ++ more)) n ≡ type_numbered (map type_of ts) n
+pub type_stays : (ts more : List Ty) (n : ℕ) → n ≤ length ts + 12 → type_numbered (map type_of (ts ++ more)) n ≡ type_numbered (map type_of ts) n
 type_stays ts more n le = go (nat_le n 12) refl
   where
     go : (b : Bool) → nat_le n 12 ≡ b → type_numbered (map type_of (ts ++ more)) n ≡ type_numbered (map type_of ts) n

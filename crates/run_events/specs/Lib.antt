@@ -4,3 +4,5 @@ pub mod Acts
 pub mod Performs
 pub mod Nodes
 pub mod Takes
+pub mod Choices
+pub mod Ways

@@ -1,5 +1,9 @@
+mod Behind
+mod Deciding
 mod Given
+mod Giving
 mod Going
+mod Laying
 mod Leaving
 mod Left
 mod Lives
@@ -9,6 +13,7 @@ mod Picked
 mod Results
 mod Returning
 mod Rooms
+mod Standing
 mod Staying
 mod Steering
 mod Still

@@ -4,3 +4,4 @@ pub mod Answering
 pub mod Leaving
 pub mod Ending
 pub mod Ended
+pub mod Taking
