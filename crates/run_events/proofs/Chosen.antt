@@ -84,7 +84,7 @@ one_more old middle new cs c a d =
       taken = λ b is.
           let first = a.taken b is in
           let second = d.taken (record b { taken = first.0 })
-              (subst (λ (k : ℕ). slice_get middle.begun.items k ≡ Some (record b { taken = first.0 })) (sym same) first.1) in (
+          (subst (λ (k : ℕ). slice_get middle.begun.items k ≡ Some (record b { taken = first.0 })) (sym same) first.1) in (
             second.0,
             subst (λ (k : ℕ). slice_get new.begun.items k ≡ Some (record b { taken = second.0 })) same second.1,
             λ n.
@@ -130,8 +130,8 @@ module _ (code : Code) (number : ℕ) (old : Machine) (k : Choice) (w : Way) (t 
       let by = by_value c h there is in
       let all : (k.node, i) ∷ cs ≡ made_by code.tables c (truth (value_in old.memory h)) =
       ap (λ (l : List (ℕ × ℕ)). (k.node, i) ∷ l) entries
-          ∙ ap (λ (o : Option ℕ). by_way k.node o (λ j. part_of code.tables.chosen.items w.chosen)) (sym some)
-          ∙ ap (λ (x : Way). by_way k.node x.operand (λ j. part_of code.tables.chosen.items x.chosen)) by
-          ∙ ap (λ (x : Choice). by_way x.node (way_of c (truth (value_in old.memory h))).operand
-          (λ j. part_of code.tables.chosen.items (way_of c (truth (value_in old.memory h))).chosen)) (same_Some k c (sym at ∙ there)) in
+      ∙ ap (λ (o : Option ℕ). by_way k.node o (λ j. part_of code.tables.chosen.items w.chosen)) (sym some)
+      ∙ ap (λ (x : Way). by_way k.node x.operand (λ j. part_of code.tables.chosen.items x.chosen)) by
+      ∙ ap (λ (x : Choice). by_way x.node (way_of c (truth (value_in old.memory h))).operand
+      (λ j. part_of code.tables.chosen.items (way_of c (truth (value_in old.memory h))).chosen)) (same_Some k c (sym at ∙ there)) in
       subst (λ (l : List (ℕ × ℕ)). HasChosen old l new) all (both_chosen old mid new (k.node, i) cs first later)

@@ -339,7 +339,7 @@ module _ (trees : TreesAreKept) (keeps_at : KeepsAtEvent) (gives : RoomGives) (b
   ran a =
       let seen : event_at past d.place ≡ event_of world st.top.scene d.place = event_seen world meaning old past st d.place t.stood.stands refl refl in
       let same : script_in world.rows past (event_of world st.top.scene d.place) d.act
-          ≡ event_act world st.top.scene e d.place (at_node 0 e.root d.place.node) =
+      ≡ event_act world st.top.scene e d.place (at_node 0 e.root d.place.node) =
       ap (λ (k : Machine). script_in world.rows k (event_of world st.top.scene d.place) d.act) (sym way.is) ∙ a.same in
       ap (run world.rows (event_act world st.top.scene e d.place (at_node 0 e.root d.place.node))) t.stood.stands.memory.store
       ∙ ap (λ (p : Script Value). run world.rows p (store_of old.memory old.streams)) (sym same)
@@ -384,5 +384,5 @@ pub event_steps : TreesAreKept → KeepsAtEvent → RoomGives → StandsBehind �
 event_steps trees keeps_at gives behind closes world meaning old new st e s laid d v t a is =
     let after = after_event world st e d.place v new.items (store_after new) in
     steps_so world st e d.place v new.items (store_after new) t.stood.begun t.plain
-        (ran trees keeps_at gives behind closes world meaning old new st e s laid d v t a)
+    (ran trees keeps_at gives behind closes world meaning old new st e s laid d v t a)
     ∙ ap (λ (l : Option _). within l (Running after)) (stays_within trees keeps_at gives behind closes world meaning old new st e s laid d v t is)

@@ -137,8 +137,8 @@ module _ (keeps_at : KeepsAtEvent) (gives : RoomGives) (world : World) (f : Scen
       let taken = has.taken b top in
       let same : taken_in taken.0 ≡ kept_by tables (choice_of tables (Some number)) (truth v) (taken_in b.taken) =
       λ i n. (taken.2 n
-          ∙ ap (λ (w : Value). kept_by tables (Some c) (truth w) (taken_in b.taken) n) test.3
-          ∙ ap (λ (o : Option Choice). kept_by tables o (truth v) (taken_in b.taken) n) (sym at)) i in
+      ∙ ap (λ (w : Value). kept_by tables (Some c) (truth w) (taken_in b.taken) n) test.3
+      ∙ ap (λ (o : Option Choice). kept_by tables o (truth v) (taken_in b.taken) n) (sym at)) i in
       record {
         rest = has.rest;
         others = has.others;

@@ -283,7 +283,7 @@ module _ (tables : Tables) (listing : List Listed) (laid : Expression) (firsts :
       let same : k.node ≡ n.node = same_Some k.node n.node (sym k.there ∙ ap (slice_get nodes) number ∙ n.there) in
       let head : head_at (out-Typed k.node.tree.now).node ≡ shape.Update r.change r.old =
       ap (λ (z : NodeInfo). head_at (out-Typed z.tree.now).node) same
-          ∙ head_there r.due.place.node n.node r.change r.old r.operands n.there r.update in
+      ∙ head_there r.due.place.node n.node r.change r.old r.operands n.there r.update in
       works_out (sight d.place.node k.node) d.act r.change r.old room old
       (ap (λ (z : NodeInfo). (sight d.place.node z).room) same ∙ ap (λ (i : ℕ). (sight i n.node).room) number ∙ sym (room_is room r n))
       (subst (λ (h : sites.Head). IsValue h (sight d.place.node k.node) d.act) head (value_act d k (ap (λ p. p.kind) is)))
