@@ -82,7 +82,7 @@ small_role word h g (storage s) a small =
 small_role word h g type_word a small =
     let s : IsSmall (record h { types = with_type word h.types }) = record {
       storages = small.storages;
-      counts = λ k. small_by (is_word word (word_of k)) (kept k h.types) (kept k (with_type word h.types)) (small.counts k) (step_count k word h.types)
+      counts = λ k. small_by (is_word word (word_of k)) (kept k h.types) (kept k (with_type word h.types)) (small.counts k) (step_count k word h.types);
     } in
     subst IsSmall (sym a) s
 small_role word h g const_word a small =
@@ -155,8 +155,8 @@ first_storage h r s t st seen some none tells = record {
   restricted = tells.restricted;
   function = tells.function;
   storages = (let one : one_if st ≡ 1 = one_storage st some in
-    let zero : one_if s.storage ≡ 0 = ap one_if none in
-    let was : r.storages ≡ min (one_more h.storages + one_if s.storage) 255 = tells.storages in omega arith);
+      let zero : one_if s.storage ≡ 0 = ap one_if none in
+      let was : r.storages ≡ min (one_more h.storages + one_if s.storage) 255 = tells.storages in omega arith);
   storage = tells.storage ∙ ap (or_storage (storage_seen t)) none ∙ seen ∙ sym (last_storage (storage_seen h.storage) st some);
   only = tells.only;
   counts = tells.counts;
@@ -191,7 +191,7 @@ one_type word h r s is tells = record {
   storage = tells.storage;
   only = ap (λ b. b && are_types s.types) (ap is_type_role is) ∙ tells.only;
   counts = λ k. count_by (is_word word (word_of k)) (kept k h.types) (times (word_of k) s.types) (kept k r.types)
-    (tells.counts k ∙ ap (λ n. min (n + times (word_of k) s.types) 255) (step_count k word h.types));
+      (tells.counts k ∙ ap (λ n. min (n + times (word_of k) s.types) 255) (step_count k word h.types));
 }
 
 by_role : (word : Word) (h g r : held.Words) (s : Words) (was : Role) → role word ≡ was → IsAdded word h was g → TellsAll g s r
@@ -296,14 +296,14 @@ all_said : (o : Option Words) (r : held.Words) → Tells none_held o r → Says 
 all_said None r tells = tells
 all_said (Some s) r tells = record {
   allowed = allowed_by (is_some r.unknown) r.storages (ap is_some tells.unknown)
-    (let most : one_if s.storage ≤ 1 = one_at_most s.storage in let was : r.storages ≡ min (0 + one_if s.storage) 255 = tells.storages in omega arith);
+      (let most : one_if s.storage ≤ 1 = one_at_most s.storage in let was : r.storages ≡ min (0 + one_if s.storage) 255 = tells.storages in omega arith);
   storage = tells.storage ∙ no_first s.storage;
   constant = tells.constant;
   restricted = tells.restricted;
   function = tells.function;
   types = record {
     types = tells.only;
-    counts = λ k. count_all (times (word_of k) s.types) (kept k r.types) (kept k no_types) (zero_kept k) (tells.counts k)
+    counts = λ k. count_all (times (word_of k) s.types) (kept k r.types) (kept k no_types) (zero_kept k) (tells.counts k);
   };
 }
 

@@ -200,8 +200,8 @@ times_same t row words c types few same u = elim (which_type u) [
       (let k = p.0 in
       let low : times (word_of k) row ≤ 4 = let h = times_few (word_of k) row in omega arith in
       let e : times (word_of k) words ≡ times (word_of k) row =
-        few_same (kept k t) (kept k (counts_of row)) (times (word_of k) words) (times (word_of k) row) (same_fields t (counts_of row) same k)
-        (c.counts k) (row_counts k row) low in
+      few_same (kept k t) (kept k (counts_of row)) (times (word_of k) words) (times (word_of k) row) (same_fields t (counts_of row) same k)
+      (c.counts k) (row_counts k row) low in
       ap (λ x. times x row) p.1 ∙ sym e ∙ ap (λ x. times x words) (sym p.1))
   | inr other ↦ other_zero u row other types ∙ sym (other_zero u words other c.types)
 ]
@@ -212,7 +212,7 @@ pub row_is : (t : Types) (row words : List Word) → AreCounted t words → are_
 row_is t row words c types few = same_by (are_same t (counts_of row)) (are_same_words row words)
     (λ same. same_to row words (times_same t row words c types few same))
     (λ same. all_fields t (counts_of row) (λ k. c.counts k
-      ∙ ap (λ n. min n 255) (sym (same_from row words same (word_of k))) ∙ sym (row_counts k row)))
+    ∙ ap (λ n. min n 255) (sym (same_from row words same (word_of k))) ∙ sym (row_counts k row)))
 
 abbrev are_rows : List (List Word × CType) → Bool
 are_rows [] = true
@@ -243,7 +243,6 @@ no_word (v ∷ vs) = refl
 -- no type specifier stands there
 pub none_is : (t : Types) (words : List Word) → AreCounted t words → are_same t no_types ≡ is_no_word words
 none_is t words c = row_is t [] words c refl (omega arith) ∙ no_word words
-
 
 -- 4. Rows behind others.
 

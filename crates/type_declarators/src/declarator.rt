@@ -6,7 +6,6 @@ ghost use Rattle.typing_env.specs.Seen.{SeenTag, tag_seen};
 ghost use Rattle.typing_spec.specs.Tags as tags;
 ghost use Rattle.typing_spec.specs.Words.{said, type_named, type_table, plain, plain_option, is_function_type, may_be_restricted, pointer_by, array_with, counted_array, function_with, is_lone_void};
 ghost use Rattle.typing_spec.specs.Words as spec;
-ghost use Rattle.typing_spec.specs.Expressions as expressions;
 ghost use Rattle.type_declarators.specs.Finds.{Finds};
 ghost use Rattle.type_declarators.specs.Keywords.{Says, IsSaid, AreCounted};
 ghost use Rattle.type_declarators.specs.Parts.{qualified_so, is_plain, with_keywords, part_seen, parts_seen, applied, FitsCount, AllFit};
@@ -32,10 +31,8 @@ pub struct Declared {
 }
 
 /// Whether the operand is a value.
-pub fn is_value(operand: &Operand) -> bool
-    ensures { result ≡ expressions.is_value operand.now.form }
-{
-    matches!(operand.form, Form::Value)
+pub fn is_value(operand: &Operand) -> bool {
+    operand.form == Form::Value
 }
 
 /// A copy of the type in front of a list of declarators.

@@ -20,7 +20,8 @@ pub loop-part-preserved : goal.loop-part-preserved
 loop-part-preserved c fits =
     let tags = map tag_seen (c.args.state.now).tags in
     let inv = c.loop-part.invariant fits in
-    let fit = fits_last c.pop.new.self.items c.in-Some.part (subst (λ (ds : List Derivation). AllFit ds) c.in-Some.ensures.items inv.0) in
-    (fit.0,
+    let fit = fits_last c.pop.new.self.items c.in-Some.part (subst (λ (ds : List Derivation). AllFit ds) c.in-Some.ensures.items inv.0) in (
+      fit.0,
       sym (one_applied tags c.loop-part.parts.items c.pop.new.self.items c.in-Some.part (qualified_of c.loop-part.qual)
-      (Some (qualified_of c.in-Ok.next)) c.in-Some.ensures.items (c.in-Ok.ensures fit.1)) ∙ inv.1)
+          (Some (qualified_of c.in-Ok.next)) c.in-Some.ensures.items (c.in-Ok.ensures fit.1)) ∙ inv.1,
+    )
