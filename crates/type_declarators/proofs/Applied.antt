@@ -6,9 +6,9 @@ use Rattle.std.proofs.lemmas.List.{reverse-append, length-reverse}
 use Rattle.c_types.specs.Types.{Qualified}
 use Rattle.typing_env.specs.Env.{if_found}
 use Rattle.typing_env.specs.Seen.{SeenTag}
-use Rattle.typing_spec.specs.Words.{derived_by, derived, limited}
+use Rattle.typing_words.specs.Words.{derived_by, derived, limited}
 use Rattle.type_declarators.specs.declared.declarator.Derivation.{Derivation}
-use Rattle.typing_spec.specs.Words as spec
+use Rattle.typing_words.specs.Words as spec
 use Rattle.type_declarators.proofs.Derived.{at_last, derived_is}
 use Rattle.type_declarators.specs.Parts.{part_seen, parts_seen, applied, FitsCount, AllFit}
 

@@ -6,10 +6,10 @@ use Rattle.c_types.specs.Types.{CType, Params, void, int, enumeration, pointer, 
 use Rattle.type_limits.specs.Limits.{height, heights, parts, is_within, height_limit, parts_limit}
 use Rattle.typing_env.specs.Env.{if_found}
 use Rattle.typing_env.specs.Seen.{SeenTag}
-use Rattle.typing_spec.specs.Tags.{is_complete}
+use Rattle.typing_words.specs.Tags.{is_complete}
 use Rattle.type_declarators.specs.Parts.{applied}
-use Rattle.typing_spec.specs.Words.{Derivation, pointer_to, array_of, function_of, derived_by, derived, limited, plain, complete, plain_option}
-use Rattle.typing_spec.specs.Words.{array_by, function_with, is_function_type}
+use Rattle.typing_words.specs.Words.{Derivation, pointer_to, array_of, function_of, derived_by, derived, limited, plain, complete, plain_option}
+use Rattle.typing_words.specs.Words.{array_by, function_with, is_function_type}
 
 record Grows (q r : Qualified) : Type 0 where
   height : height q.ty ≤ height r.ty

@@ -12,7 +12,7 @@ use Rattle.c_types.specs.declared.tags.Extent.{Extent}
 use Rattle.c_types.specs.Layout as below
 use Rattle.c_types.specs.Layout.{Known, and_then, padded, no_members, placed, extent}
 use Rattle.typing_env.specs.Seen.{member_seen, tag_seen}
-use Rattle.typing_spec.specs.Tags.{members_extent, if_any, extent_of_tag, known_by, extents, is_complete}
+use Rattle.typing_words.specs.Tags.{members_extent, if_any, extent_of_tag, known_by, extents, is_complete}
 
 length_same : (tags : List Tag) → length (map tag_seen tags) ≡ length tags
 length_same [] = refl

@@ -4,10 +4,10 @@ use Rattle.std.specs.Prelude.{nat_lt, ◌&&◌, ◌||◌, if◌then◌else◌, O
 use Rattle.std.proofs.lemmas.Bool.Decides.{nat_tests}
 use Rattle.c_lex.specs.declared.token.Word.{Word}
 use Rattle.c_lex.specs.declared.token.Word.TheVariants as w
-use Rattle.typing_spec.specs.Words.{Role, role, storage, type_word, const_word, restrict_word, function_word, left_out, is_word}
-use Rattle.typing_spec.specs.Words.{Words, said, and_word, with_word}
-use Rattle.typing_spec.specs.Words.{has_no_storage, with_storage, no_storage, typedefs, externs, statics, autos, registers}
-use Rattle.typing_spec.specs.Words as spec
+use Rattle.typing_words.specs.Words.{Role, role, storage, type_word, const_word, restrict_word, function_word, left_out, is_word}
+use Rattle.typing_words.specs.Words.{Words, said, and_word, with_word}
+use Rattle.typing_words.specs.Words.{has_no_storage, with_storage, no_storage, typedefs, externs, statics, autos, registers}
+use Rattle.typing_words.specs.Words as spec
 use Rattle.type_declarators.specs.Keywords as kw
 use Rattle.type_declarators.specs.Keywords.{storage_seen, one_more, with_type, stored, added, all_added, none_held, no_types, is_refused, is_type_role}
 use Rattle.type_declarators.specs.Keywords.{TypeWord, a_void, a_boolean, a_character, a_short, an_int, a_long, a_signed, an_unsigned}

@@ -10,7 +10,7 @@ use Rattle.c_lex.specs.declared.token.Word.{Word}
 use Rattle.c_lex.specs.declared.token.Word.TheVariants as w
 use Rattle.c_lex.specs.contracts.token.Word.{the_type as word_type}
 use Rattle.c_types.specs.Types.{CType}
-use Rattle.typing_spec.specs.Words.{role, is_word, without, put_first, is_so, are_same_words, type_named, type_table, is_no_word}
+use Rattle.typing_words.specs.Words.{role, is_word, without, put_first, is_so, are_same_words, type_named, type_table, is_no_word}
 use Rattle.type_declarators.specs.Keywords.{one_more, no_types, is_type_role}
 use Rattle.type_declarators.specs.Keywords.{TypeWord, a_void, a_boolean, a_character, a_short, an_int, a_long, a_signed, an_unsigned}
 use Rattle.type_declarators.specs.Keywords.{word_of, kept, times, are_types, AreCounted, counts_of, are_same, named_by}

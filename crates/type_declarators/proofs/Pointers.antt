@@ -3,9 +3,9 @@ use Rattle.std.proofs.Common.{◌≡◌, Bool, true, false, List, [], ◌∷◌,
 use Rattle.std.specs.Prelude.{◌&&◌, ◌||◌, not, if◌then◌else◌, Option, Some, None}
 use Rattle.c_lex.specs.declared.token.Word.{Word}
 use Rattle.c_lex.specs.declared.token.Word.TheVariants as w
-use Rattle.typing_spec.specs.Words.{role, Words, said, and_word, with_word, Derivation, pointer_to, pointer_by, are_qualifiers, has_no_storage, is_no_word}
-use Rattle.typing_spec.specs.Words.{Role, storage, type_word, const_word, restrict_word, function_word, left_out}
-use Rattle.typing_spec.specs.Words.{Storage, no_storage, with_storage}
+use Rattle.typing_words.specs.Words.{role, Words, said, and_word, with_word, Derivation, pointer_to, pointer_by, are_qualifiers, has_no_storage, is_no_word}
+use Rattle.typing_words.specs.Words.{Role, storage, type_word, const_word, restrict_word, function_word, left_out}
+use Rattle.typing_words.specs.Words.{Storage, no_storage, with_storage}
 use Rattle.type_declarators.specs.Keywords.{pointer_from}
 
 -- what the keywords give behind those before

@@ -3,7 +3,7 @@ use Rattle.std.proofs.Common.{◌≡◌, Bool, true, false, List, refl, sym, ap,
 use Rattle.std.specs.Prelude.{not, ◌&&◌, ◌||◌, if◌then◌else◌, Option, Some, None, Result}
 use Rattle.c_lex.specs.declared.token.Word.{Word}
 use Rattle.c_types.specs.Types.{Qualified}
-use Rattle.typing_spec.specs.Words.{Words, is_no_word, with_qualifiers, may_be_restricted, const_type}
+use Rattle.typing_words.specs.Words.{Words, is_no_word, with_qualifiers, may_be_restricted, const_type}
 use Rattle.type_scope.specs.declared.fault.TypeFault.{TypeFault}
 use Rattle.type_declarators.specs.Finds.{Finds}
 use Rattle.type_declarators.specs.Keywords.{Says, IsSaid, AreCounted, is_refused}

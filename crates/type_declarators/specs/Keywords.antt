@@ -7,8 +7,8 @@ use Rattle.c_types.specs.Types.{CType, int}
 use Rattle.c_types.specs.declared.kind.IntKind.TheVariants.{Bool as Boolean, Char, SChar, UChar, Short, UShort, Int, UInt, Long, ULong, LLong, ULLong}
 use Rattle.type_reasons.specs.declared.reason.Reason.{Reason}
 use Rattle.type_reasons.specs.declared.reason.Reason.TheVariants as reason
-use Rattle.typing_spec.specs.Words.{Role, role, type_word, is_word, Words, Derivation, pointer_to}
-use Rattle.typing_spec.specs.Words as said
+use Rattle.typing_words.specs.Words.{Role, role, type_word, is_word, Words, Derivation, pointer_to}
+use Rattle.typing_words.specs.Words as said
 use Rattle.type_declarators.specs.declared.words.Storage.{Storage}
 use Rattle.type_declarators.specs.declared.words.Storage.TheVariants as storage
 use Rattle.type_declarators.specs.declared.words.Types.{Types}

@@ -5,8 +5,8 @@ use Rattle.c_ast.specs.declared.declaration.Base.{Base}
 use Rattle.c_ast.specs.declared.declaration.Base.TheBlock.{Plain}
 use Rattle.typing_env.specs.Env.{if_found}
 use Rattle.typing_env.specs.Seen.{SeenTag}
-use Rattle.typing_spec.specs.Words.{Words, Derivation, pointer_to, array_of, function_of, derived_by}
-use Rattle.typing_spec.specs.Words.{may_be_restricted, const_type, with_qualifiers, is_no_word}
+use Rattle.typing_words.specs.Words.{Words, Derivation, pointer_to, array_of, function_of, derived_by}
+use Rattle.typing_words.specs.Words.{may_be_restricted, const_type, with_qualifiers, is_no_word}
 use Rattle.type_declarators.specs.declared.declarator.Derivation as held
 use Rattle.type_declarators.specs.declared.declarator.Derivation.TheVariants as part
 

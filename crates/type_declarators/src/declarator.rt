@@ -3,9 +3,9 @@ ghost use Rattle.std.specs.Prelude.{◌≡◌, ◌<◌, ◌^◌, ◌<ℤ◌, ℤ
 ghost use Rattle.c_lex.specs.declared.token.Word.{Word};
 ghost use Rattle.c_types.specs.Types.{type_of, qualified_of, params_of, pointer, array, function, Params};
 ghost use Rattle.typing_env.specs.Seen.{SeenTag, tag_seen};
-ghost use Rattle.typing_spec.specs.Tags as tags;
-ghost use Rattle.typing_spec.specs.Words.{said, type_named, type_table, plain, plain_option, is_function_type, may_be_restricted, pointer_by, array_with, counted_array, function_with, is_lone_void};
-ghost use Rattle.typing_spec.specs.Words as spec;
+ghost use Rattle.typing_words.specs.Tags as tags;
+ghost use Rattle.typing_words.specs.Words.{said, type_named, type_table, plain, plain_option, is_function_type, may_be_restricted, pointer_by, array_with, counted_array, function_with, is_lone_void};
+ghost use Rattle.typing_words.specs.Words as spec;
 ghost use Rattle.type_declarators.specs.Finds.{Finds};
 ghost use Rattle.type_declarators.specs.Keywords.{Says, IsSaid, AreCounted};
 ghost use Rattle.type_declarators.specs.Parts.{qualified_so, is_plain, with_keywords, part_seen, parts_seen, applied, FitsCount, AllFit};

@@ -1,7 +1,7 @@
 use Rattle.std.proofs.Common.{ap, ◌∙◌, map}
 use Rattle.c_types.specs.Types.{qualified_of}
 use Rattle.typing_env.specs.Seen.{tag_seen}
-use Rattle.typing_spec.specs.Words.{derived, limited, limited_type}
+use Rattle.typing_words.specs.Words.{derived, limited, limited_type}
 use Rattle.type_declarators.specs.Parts.{parts_seen}
 use Rattle.type_declarators.proofs.Applied.{none_derived, some_derived}
 use Rattle.type_declarators.proofs.Standing.{finds_same}

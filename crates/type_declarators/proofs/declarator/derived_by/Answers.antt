@@ -1,7 +1,7 @@
 use Rattle.std.proofs.Common.{map, ap, sym, subst}
 use Rattle.c_types.specs.Types.{qualified_of}
 use Rattle.typing_env.specs.Seen.{tag_seen}
-use Rattle.typing_spec.specs.Words.{Derivation, derived_by}
+use Rattle.typing_words.specs.Words.{Derivation, derived_by}
 use Rattle.type_declarators.specs.Finds.{Finds}
 use Rattle.type_declarators.specs.Parts.{part_seen}
 use Rattle.type_declarators.proofs.declarator.derived_by.Goals as goal

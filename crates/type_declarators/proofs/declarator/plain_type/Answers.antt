@@ -1,7 +1,7 @@
 use Rattle.std.proofs.Common.{ap, sym, ◌∙◌}
 use Rattle.std.specs.Prelude.{Some}
 use Rattle.c_types.specs.Types.{Qualified}
-use Rattle.typing_spec.specs.Words.{plain_option}
+use Rattle.typing_words.specs.Words.{plain_option}
 use Rattle.type_declarators.proofs.declarator.plain_type.Goals as goal
 
 pub returns-in-Some : goal.returns-in-Some

@@ -1,5 +1,5 @@
 use Rattle.std.proofs.Common.{sym, subst}
-use Rattle.typing_spec.specs.Words.{said}
+use Rattle.typing_words.specs.Words.{said}
 use Rattle.type_declarators.specs.Keywords.{Says}
 use Rattle.type_declarators.specs.declared.words.Words.{Words}
 use Rattle.type_declarators.proofs.Keywords.{says_of}
