@@ -1,0 +1,3 @@
+pub mod Finds
+pub mod Keywords
+pub mod Parts

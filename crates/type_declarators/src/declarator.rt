@@ -1,4 +1,14 @@
 // Specifiers, declarators and static assertions, from their parts (6.7, 6.7.2 to 6.7.6, 6.7.8, 6.7.10).
+ghost use Rattle.std.specs.Prelude.{◌≡◌, ◌<◌, ◌^◌, ◌<ℤ◌, ℤ, List, Bool, true, Option, Some, None, IfOk, MatchOption, map, not, ◌||◌, if◌then◌else◌, pos, int_le, reverse};
+ghost use Rattle.c_lex.specs.declared.token.Word.{Word};
+ghost use Rattle.c_types.specs.Types.{type_of, qualified_of, params_of, pointer, array, function, Params};
+ghost use Rattle.typing_env.specs.Seen.{SeenTag, tag_seen};
+ghost use Rattle.typing_words.specs.Tags as tags;
+ghost use Rattle.typing_words.specs.Words.{said, type_named, type_table, plain, plain_option, is_function_type, may_be_restricted, pointer_by, array_with, counted_array, function_with, is_lone_void};
+ghost use Rattle.typing_words.specs.Words as spec;
+ghost use Rattle.type_declarators.specs.Finds.{Finds};
+ghost use Rattle.type_declarators.specs.Keywords.{Says, IsSaid, AreCounted};
+ghost use Rattle.type_declarators.specs.Parts.{qualified_so, is_plain, with_keywords, part_seen, parts_seen, applied, FitsCount, AllFit};
 
 use crate::literal::literal_bytes;
 use crate::words::{Storage, Words, pointer_words};
@@ -11,7 +21,7 @@ use type_limits::is_within;
 use type_operands::{Form, Operand, qualified};
 use type_reasons::Reason;
 use type_scope::{Meaning, Source, State, TypeFault, placed};
-use ub_base::Items;
+use ub_base::{Items, NoMemory};
 
 /// A name, where there is one, and its type.
 #[derive(Drop)]
@@ -26,12 +36,16 @@ pub fn is_value(operand: &Operand) -> bool {
 }
 
 /// A copy of the type in front of a list of declarators.
-pub fn copy(state: &State, qual: &Qual) -> Result<Qual, TypeFault> {
+pub fn copy(state: &State, qual: &Qual) -> Result<Qual, TypeFault>
+    ensures { Finds qualified_of (Some (qualified_of qual.now)) result }
+{
     Ok(copied_qual(state.alloc, qual)?)
 }
 
 /// The type without a qualifier.
-pub fn unqualified(ty: Ty) -> Qual {
+pub fn unqualified(ty: Ty) -> Qual
+    ensures { qualified_of result ≡ plain (type_of ty) }
+{
     Qual {
         ty,
         constant: false,
@@ -39,7 +53,9 @@ pub fn unqualified(ty: Ty) -> Qual {
 }
 
 /// The type that keywords alone name (6.7.2p2).
-pub fn plain_type(source: &Source<'_>, words: &Words, at: u32) -> Result<Qual, TypeFault> {
+pub fn plain_type(source: &Source<'_>, words: &Words, at: u32) -> Result<Qual, TypeFault>
+    ensures { (all : List Word) → AreCounted words.now.types all → Finds qualified_of (plain_option (type_named all type_table)) result }
+{
     match words.named_type() {
         Some(ty) => Ok(unqualified(ty)),
         None => Err(source.fault(at, Reason::TypeSpecifiers)),
@@ -54,11 +70,48 @@ pub fn typedef_type(source: &Source<'_>, state: &State, name: u32) -> Result<Qua
     }
 }
 
-fn may_be_restricted(ty: &Ty) -> bool {
+fn is_function(ty: &Ty) -> bool
+    ensures { result ≡ is_function_type (type_of ty.now) }
+{
+    matches!(ty, Ty::Function(_))
+}
+
+fn may_be_restricted(ty: &Ty) -> bool
+    ensures { result ≡ may_be_restricted (type_of ty.now) }
+{
     match ty {
-        Ty::Pointer(target) => !matches!(target.get().ty, Ty::Function(_)),
+        Ty::Pointer(target) => !is_function(&target.get().ty),
         _ => false,
     }
+}
+
+// The type, const or restrict-qualified as well (6.7.3p2, 6.7.3p9).
+fn qualified_by(
+    source: &Source<'_>,
+    alloc: Global,
+    qual: Qual,
+    restricted: bool,
+    constant: bool,
+    at: u32,
+) -> Result<Qual, TypeFault>
+    ensures { Finds qualified_of (qualified_so restricted constant (qualified_of qual)) result }
+{
+    if restricted && !may_be_restricted(&qual.ty) {
+        return Err(source.fault(at, Reason::Restrict));
+    }
+    if !constant {
+        return Ok(qual);
+    }
+    if is_function(&qual.ty) {
+        return Err(source.fault(at, Reason::QualifiedFunction));
+    }
+    placed(source.line(at), qualified(alloc, &qual.ty, true))
+}
+
+fn is_plain(base: &Base) -> bool
+    ensures { result ≡ is_plain base.now }
+{
+    matches!(base, Base::Plain)
 }
 
 /// The type of specifiers with their keywords: no further type specifier stands beside one that is no keyword, and the
@@ -70,24 +123,16 @@ pub fn with_words(
     words: &Words,
     base: &Base,
     at: u32,
-) -> Result<Qual, TypeFault> {
-    let plain = matches!(base, Base::Plain);
+) -> Result<Qual, TypeFault>
+    ensures { (o : Option spec.Words) → Says words.now o → Finds qualified_of (with_keywords (is_plain base.now) o (qualified_of qual)) result }
+{
     if let Some(reason) = words.refusal() {
         return Err(source.fault(at, reason));
     }
-    if !plain && !words.name_no_type() {
+    if !is_plain(base) && !words.name_no_type() {
         return Err(source.fault(at, Reason::TypeSpecifiers));
     }
-    if words.restricted && !may_be_restricted(&qual.ty) {
-        return Err(source.fault(at, Reason::Restrict));
-    }
-    if !words.constant {
-        return Ok(qual);
-    }
-    if matches!(qual.ty, Ty::Function(_)) {
-        return Err(source.fault(at, Reason::QualifiedFunction));
-    }
-    placed(source.line(at), qualified(alloc, &qual.ty, true))
+    qualified_by(source, alloc, qual, words.restricted, words.constant, at)
 }
 
 /// A part of a declarator (6.7.6p3).
@@ -102,7 +147,9 @@ pub enum Derivation {
 }
 
 /// A `*` with its qualifiers (6.7.6.1).
-pub fn pointer_part(source: &Source<'_>, words: &[Word], at: u32) -> Result<Derivation, TypeFault> {
+pub fn pointer_part(source: &Source<'_>, words: &[Word], at: u32) -> Result<Derivation, TypeFault>
+    ensures { Finds part_seen (pointer_by (said words.now)) result }
+{
     match pointer_words(words) {
         Some((constant, restricted)) => Ok(Derivation::Pointer {
             constant,
@@ -110,6 +157,12 @@ pub fn pointer_part(source: &Source<'_>, words: &[Word], at: u32) -> Result<Deri
         }),
         None => Err(source.fault(at, Reason::LeftOutQualifier)),
     }
+}
+
+fn pointer_to(alloc: Global, target: Qual) -> Result<Ty, NoMemory>
+    ensures { IfOk result (λ t. type_of t ≡ pointer (qualified_of target).constant (qualified_of target).ty) }
+{
+    Ok(Ty::Pointer(Shared::new(alloc, target)?))
 }
 
 // A pointer to the type; a restrict-qualified one to an object or incomplete type (6.7.3p2, 6.7.6.1).
@@ -120,23 +173,63 @@ fn pointer(
     constant: bool,
     restricted: bool,
     at: u32,
-) -> Result<Qual, TypeFault> {
-    if restricted && matches!(target.ty, Ty::Function(_)) {
+) -> Result<Qual, TypeFault>
+    ensures { (t : List SeenTag) → Finds qualified_of (spec.derived_by t (qualified_of target) (spec.pointer_to constant restricted)) result }
+{
+    if restricted && is_function(&target.ty) {
         return Err(source.fault(at, Reason::Restrict));
     }
     Ok(Qual {
-        ty: Ty::Pointer(Shared::new(alloc, target)?),
+        ty: pointer_to(alloc, target)?,
         constant,
     })
 }
 
 // The count of an array: above 0 (6.7.6.2p1).
-fn count_of(number: i128) -> Option<u64> {
+fn count_of(number: i128) -> Option<u64>
+    ensures some { MatchOption result (number <ℤ pos (2 ^ 64) → int_le number (pos 0) ≡ true) (λ n. number ≡ pos n) }
+    ensures above { MatchOption result (Unit {0}) (λ n. 0 < n) }
+{
+    if number <= 0 {
+        return None;
+    }
     match u64::try_from(number) {
-        Ok(0) => None,
         Ok(count) => Some(count),
         Err(_) => None,
     }
+}
+
+// Whether the type is complete (6.2.5p22).
+fn is_complete(state: &State, ty: &Ty) -> bool
+    ensures { result ≡ tags.is_complete (map tag_seen state.now.tags) (type_of ty.now) }
+{
+    state.tags.extent(ty).is_some()
+}
+
+fn array_of(alloc: Global, element: Qual, count: Option<u64>) -> Result<Ty, NoMemory>
+    ensures { IfOk result (λ t. type_of t ≡ array (qualified_of element).constant (qualified_of element).ty count) }
+{
+    Ok(Ty::Array(Shared::new(alloc, element)?, count))
+}
+
+// An array of so many elements (6.7.6.2p1).
+fn counted_array(
+    source: &Source<'_>,
+    state: &State,
+    element: Qual,
+    number: i128,
+    at: u32,
+) -> Result<Qual, TypeFault>
+    ensures { number <ℤ pos (2 ^ 64) → Finds qualified_of (counted_array (map tag_seen state.now.tags) (qualified_of element) number) result }
+{
+    let Some(count) = count_of(number) else {
+        return Err(source.fault(at, Reason::ArrayLength));
+    };
+    let ty = array_of(state.alloc, element, Some(count))?;
+    if !is_complete(state, &ty) {
+        return Err(source.fault(at, Reason::TypeTooLarge));
+    }
+    Ok(unqualified(ty))
 }
 
 // An array of the type, which is complete (6.7.6.2p1); without a count it is incomplete.
@@ -146,22 +239,38 @@ fn array(
     element: Qual,
     count: Option<i128>,
     at: u32,
-) -> Result<Qual, TypeFault> {
-    if state.tags.extent(&element.ty).is_none() {
+) -> Result<Qual, TypeFault>
+    ensures { FitsCount (Derivation.Array count) → Finds qualified_of (array_with (map tag_seen state.now.tags) (qualified_of element) count) result }
+{
+    if !is_complete(state, &element.ty) {
         return Err(source.fault(at, Reason::ArrayLength));
     }
-    let element = Shared::new(state.alloc, element)?;
-    let Some(number) = count else {
-        return Ok(unqualified(Ty::Array(element, None)));
-    };
-    let Some(count) = count_of(number) else {
-        return Err(source.fault(at, Reason::ArrayLength));
-    };
-    let ty = Ty::Array(element, Some(count));
-    if state.tags.extent(&ty).is_none() {
-        return Err(source.fault(at, Reason::TypeTooLarge));
+    match count {
+        None => Ok(unqualified(array_of(state.alloc, element, None)?)),
+        Some(number) => counted_array(source, state, element, number, at),
     }
-    Ok(unqualified(ty))
+}
+
+fn may_be_returned(ty: &Ty) -> bool
+    ensures { (ps : Params) (v : Bool) → function_with (type_of ty.now) ps v ≡ (if result then Some (plain (function (type_of ty.now) ps v)) else None) }
+{
+    !matches!(ty, Ty::Array(_, _) | Ty::Function(_))
+}
+
+fn function_of(
+    alloc: Global,
+    returned: Ty,
+    params: Items<Qual>,
+    variadic: bool,
+) -> Result<Ty, NoMemory>
+    ensures { IfOk result (λ t. type_of t ≡ function (type_of returned) (params_of (map qualified_of params)) variadic) }
+{
+    let f = FuncTy {
+        result: returned,
+        params,
+        variadic,
+    };
+    Ok(Ty::Function(Shared::new(alloc, f)?))
 }
 
 // A function that returns the type (6.7.6.3p1).
@@ -172,17 +281,14 @@ fn function(
     params: Items<Qual>,
     variadic: bool,
     at: u32,
-) -> Result<Qual, TypeFault> {
+) -> Result<Qual, TypeFault>
+    ensures { Finds qualified_of (function_with (qualified_of returned).ty (params_of (map qualified_of params)) variadic) result }
+{
     let Qual { ty, constant: _ } = returned;
-    if matches!(ty, Ty::Array(_, _) | Ty::Function(_)) {
+    if !may_be_returned(&ty) {
         return Err(source.fault(at, Reason::FunctionResult));
     }
-    let f = FuncTy {
-        result: ty,
-        params,
-        variadic,
-    };
-    Ok(unqualified(Ty::Function(Shared::new(alloc, f)?)))
+    Ok(unqualified(function_of(alloc, ty, params, variadic)?))
 }
 
 fn derived_by(
@@ -191,7 +297,9 @@ fn derived_by(
     part: Derivation,
     qual: Qual,
     at: u32,
-) -> Result<Qual, TypeFault> {
+) -> Result<Qual, TypeFault>
+    ensures { FitsCount part → Finds qualified_of (spec.derived_by (map tag_seen state.now.tags) (qualified_of qual) (part_seen part)) result }
+{
     match part {
         Derivation::Pointer {
             constant,
@@ -204,6 +312,35 @@ fn derived_by(
     }
 }
 
+// What the parts make of the type, the last one first.
+fn applied(
+    source: &Source<'_>,
+    state: &State,
+    mut parts: Vec<Derivation>,
+    mut qual: Qual,
+    at: u32,
+) -> Result<Qual, TypeFault>
+    ensures { AllFit parts.items → Finds qualified_of (applied (map tag_seen state.now.tags) (parts_seen parts.items) (qualified_of qual)) result }
+{
+    while let Some(part) = parts.pop() {
+        match derived_by(source, state, part, qual, at) {
+            Ok(next) => qual = next,
+            Err(fault) => return Err(fault),
+        }
+    }
+    Ok(qual)
+}
+
+// The type, where it is within the limits of types (own).
+fn limited(source: &Source<'_>, qual: Qual, at: u32) -> Result<Qual, TypeFault>
+    ensures { Finds qualified_of (spec.limited_type (qualified_of qual)) result }
+{
+    if !is_within(&qual.ty) {
+        return Err(source.fault(at, Reason::TypeTooHigh));
+    }
+    Ok(qual)
+}
+
 /// The type that the parts of a declarator make of the type in front of it. The part next to the name, which is the first of
 /// them, is derived last (6.7.6p4). It is within the limits of types (own).
 pub fn derived(
@@ -212,21 +349,16 @@ pub fn derived(
     parts: Vec<Derivation>,
     base: Qual,
     at: u32,
-) -> Result<Qual, TypeFault> {
-    if parts.is_empty() {
+) -> Result<Qual, TypeFault>
+    ensures { AllFit parts.items → Finds qualified_of (spec.derived (map tag_seen state.now.tags) (parts_seen parts.items) (qualified_of base)) result }
+{
+    if parts.as_slice().is_empty() {
         return Ok(base);
     }
-    let mut parts = parts;
-    let mut qual = base;
-    for _ in 0..parts.len() {
-        if let Some(part) = parts.pop() {
-            qual = derived_by(source, state, part, qual, at)?;
-        }
+    match applied(source, state, parts, base, at) {
+        Ok(qual) => limited(source, qual, at),
+        Err(fault) => Err(fault),
     }
-    if !is_within(&qual.ty) {
-        return Err(source.fault(at, Reason::TypeTooHigh));
-    }
-    Ok(qual)
 }
 
 /// Whether the declarator is a name alone.
@@ -244,23 +376,33 @@ pub fn name_of(d: &Declarator) -> Option<u32> {
     }
 }
 
+fn is_void_type(ty: &Ty) -> bool
+    ensures { result ≡ spec.is_void (type_of ty.now) }
+{
+    matches!(ty, Ty::Void)
+}
+
 /// Whether the parameter is the `void` that stands for no parameters, if it is the only item of its list (6.7.6.3p10).
-pub fn is_void(words: &Words, param: &Declared) -> bool {
+pub fn is_void(words: &Words, param: &Declared) -> bool
+    ensures { (ws : spec.Words) → IsSaid words.now ws → result ≡ is_lone_void ws param.now.name (qualified_of param.now.qual) }
+{
     words.storage == Storage::None
         && !words.function
         && param.name.is_none()
         && !param.qual.constant
-        && matches!(param.qual.ty, Ty::Void)
+        && is_void_type(&param.qual.ty)
 }
 
 // The type of a parameter: an array becomes a pointer to its element, a function one to it (6.7.6.3p7, 6.7.6.3p8).
-fn adjusted(alloc: Global, qual: Qual) -> Result<Qual, TypeFault> {
+fn adjusted(alloc: Global, qual: Qual) -> Result<Qual, TypeFault>
+    ensures { Finds qualified_of (Some (spec.adjusted (qualified_of qual))) result }
+{
     let Qual { ty, constant } = qual;
     match ty {
         Ty::Array(element, _) => Ok(unqualified(Ty::Pointer(element))),
         Ty::Function(f) => {
             let target = unqualified(Ty::Function(f));
-            Ok(unqualified(Ty::Pointer(Shared::new(alloc, target)?)))
+            Ok(unqualified(pointer_to(alloc, target)?))
         }
         ty => Ok(Qual { ty, constant }),
     }

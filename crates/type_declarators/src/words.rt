@@ -1,4 +1,10 @@
 // Declaration specifiers that are keywords (6.7.1 to 6.7.4).
+ghost use Rattle.std.specs.Prelude.{◌≡◌, List, false, is_some};
+ghost use Rattle.std.specs.Option.{option_map};
+ghost use Rattle.c_types.specs.Types.{int, type_of};
+ghost use Rattle.c_lex.specs.declared.token.Word.{Word};
+ghost use Rattle.typing_words.specs.Words.{role, is_no_word, said, type_named, type_table, pointer_by};
+ghost use Rattle.type_declarators.specs.Keywords.{added, all_added, with_type, is_type_role, stored, is_refused, none_held, Says, AreCounted, left_out, are_same, named_by, character_rows, short_rows, int_rows, long_rows, long_long_rows, integer_rows, kind_rows, truth_rows, pointer_from, part_of};
 
 use c_lex::Word;
 use c_types::{IntKind, Ty};
@@ -23,22 +29,24 @@ pub struct Words {
     pub restricted: bool,
     /// `inline` or `_Noreturn`.
     pub function: bool,
-    storages: u8,
-    unknown: Option<Reason>,
-    types: Types,
+    /// How often a storage class stands among them.
+    pub storages: u8,
+    /// The rule of the profile that leaves one of them out.
+    pub unknown: Option<Reason>,
+    pub types: Types,
 }
 
-// How often each type specifier stands among them (6.7.2p2).
+/// How often each type specifier stands among them (6.7.2p2), as far as a byte counts.
 #[derive(Clone, Copy, PartialEq, Eq)]
-struct Types {
-    void: u8,
-    boolean: u8,
-    character: u8,
-    short: u8,
-    int: u8,
-    long: u8,
-    signed: u8,
-    unsigned: u8,
+pub struct Types {
+    pub void: u8,
+    pub boolean: u8,
+    pub character: u8,
+    pub short: u8,
+    pub int: u8,
+    pub long: u8,
+    pub signed: u8,
+    pub unsigned: u8,
 }
 
 const NO_TYPES: Types = Types {
@@ -52,8 +60,34 @@ const NO_TYPES: Types = Types {
     unsigned: 0,
 };
 
+const VOID: Types = Types {
+    void: 1,
+    boolean: 0,
+    character: 0,
+    short: 0,
+    int: 0,
+    long: 0,
+    signed: 0,
+    unsigned: 0,
+};
+
+const BOOLEAN: Types = Types {
+    void: 0,
+    boolean: 1,
+    character: 0,
+    short: 0,
+    int: 0,
+    long: 0,
+    signed: 0,
+    unsigned: 0,
+};
+
 impl Types {
-    fn add(&mut self, word: Word) -> bool {
+    // Counts the keyword, where it is a type specifier.
+    fn add(&mut self, word: Word) -> bool
+        ensures counted { self.new ≡ with_type word self.old }
+        ensures value { result ≡ is_type_role (role word) }
+    {
         match word {
             Word::Void => self.void = self.void.saturating_add(1),
             Word::Boolean => self.boolean = self.boolean.saturating_add(1),
@@ -68,58 +102,181 @@ impl Types {
         true
     }
 
-    fn is_empty(self) -> bool {
-        self == NO_TYPES
+    // Whether they stand there as often.
+    fn is_same(self, other: Types) -> bool
+        ensures { result ≡ are_same self other }
+    {
+        self == other
     }
 
-    // Of `short`, `int` and `long`.
-    fn by_length(self) -> Option<(IntKind, IntKind)> {
-        match (self.short, self.int, self.long) {
-            (0, 0 | 1, 0) => Some((IntKind::Int, IntKind::UInt)),
-            (1, 0 | 1, 0) => Some((IntKind::Short, IntKind::UShort)),
-            (0, 0 | 1, 1) => Some((IntKind::Long, IntKind::ULong)),
-            (0, 0 | 1, 2) => Some((IntKind::LLong, IntKind::ULLong)),
-            _ => None,
+    // Whether just these stand among them, each as often, and neither `void` nor `_Bool`.
+    fn is(self, character: u8, short: u8, int: u8, long: u8, signed: u8, unsigned: u8) -> bool
+        ensures { result ≡ are_same self (record { void = 0; boolean = 0; character = character; short = short; int = int; long = long; signed = signed; unsigned = unsigned }) }
+    {
+        self.is_same(Types {
+            void: 0,
+            boolean: 0,
+            character,
+            short,
+            int,
+            long,
+            signed,
+            unsigned,
+        })
+    }
+
+    // Of `char`.
+    fn characters(self) -> Option<IntKind>
+        ensures { option_map int result ≡ named_by self character_rows }
+    {
+        if self.is(1, 0, 0, 0, 0, 0) {
+            Some(IntKind::Char)
+        } else if self.is(1, 0, 0, 0, 1, 0) {
+            Some(IntKind::SChar)
+        } else if self.is(1, 0, 0, 0, 0, 1) {
+            Some(IntKind::UChar)
+        } else {
+            None
         }
     }
 
-    fn character(self) -> Option<IntKind> {
-        match (self.short, self.int, self.long, self.signed, self.unsigned) {
-            (0, 0, 0, 0, 0) => Some(IntKind::Char),
-            (0, 0, 0, 1, 0) => Some(IntKind::SChar),
-            (0, 0, 0, 0, 1) => Some(IntKind::UChar),
-            _ => None,
+    // Of one `short`.
+    fn shorts(self) -> Option<IntKind>
+        ensures { option_map int result ≡ named_by self short_rows }
+    {
+        if self.is(0, 1, 0, 0, 0, 0) {
+            Some(IntKind::Short)
+        } else if self.is(0, 1, 0, 0, 1, 0) {
+            Some(IntKind::Short)
+        } else if self.is(0, 1, 1, 0, 0, 0) {
+            Some(IntKind::Short)
+        } else if self.is(0, 1, 1, 0, 1, 0) {
+            Some(IntKind::Short)
+        } else if self.is(0, 1, 0, 0, 0, 1) {
+            Some(IntKind::UShort)
+        } else if self.is(0, 1, 1, 0, 0, 1) {
+            Some(IntKind::UShort)
+        } else {
+            None
         }
     }
 
-    fn integer(self) -> Option<IntKind> {
-        let (signed, unsigned) = self.by_length()?;
-        match (self.signed, self.unsigned) {
-            (0 | 1, 0) => Some(signed),
-            (0, 1) => Some(unsigned),
-            _ => None,
+    // Of no length specifier.
+    fn ints(self) -> Option<IntKind>
+        ensures { option_map int result ≡ named_by self int_rows }
+    {
+        if self.is(0, 0, 1, 0, 0, 0) {
+            Some(IntKind::Int)
+        } else if self.is(0, 0, 0, 0, 1, 0) {
+            Some(IntKind::Int)
+        } else if self.is(0, 0, 1, 0, 1, 0) {
+            Some(IntKind::Int)
+        } else if self.is(0, 0, 0, 0, 0, 1) {
+            Some(IntKind::UInt)
+        } else if self.is(0, 0, 1, 0, 0, 1) {
+            Some(IntKind::UInt)
+        } else {
+            None
+        }
+    }
+
+    // Of one `long`.
+    fn longs(self) -> Option<IntKind>
+        ensures { option_map int result ≡ named_by self long_rows }
+    {
+        if self.is(0, 0, 0, 1, 0, 0) {
+            Some(IntKind::Long)
+        } else if self.is(0, 0, 0, 1, 1, 0) {
+            Some(IntKind::Long)
+        } else if self.is(0, 0, 1, 1, 0, 0) {
+            Some(IntKind::Long)
+        } else if self.is(0, 0, 1, 1, 1, 0) {
+            Some(IntKind::Long)
+        } else if self.is(0, 0, 0, 1, 0, 1) {
+            Some(IntKind::ULong)
+        } else if self.is(0, 0, 1, 1, 0, 1) {
+            Some(IntKind::ULong)
+        } else {
+            None
+        }
+    }
+
+    // Of two `long`.
+    fn long_longs(self) -> Option<IntKind>
+        ensures { option_map int result ≡ named_by self long_long_rows }
+    {
+        if self.is(0, 0, 0, 2, 0, 0) {
+            Some(IntKind::LLong)
+        } else if self.is(0, 0, 0, 2, 1, 0) {
+            Some(IntKind::LLong)
+        } else if self.is(0, 0, 1, 2, 0, 0) {
+            Some(IntKind::LLong)
+        } else if self.is(0, 0, 1, 2, 1, 0) {
+            Some(IntKind::LLong)
+        } else if self.is(0, 0, 0, 2, 0, 1) {
+            Some(IntKind::ULLong)
+        } else if self.is(0, 0, 1, 2, 0, 1) {
+            Some(IntKind::ULLong)
+        } else {
+            None
+        }
+    }
+
+    // Of the integers but characters and `_Bool`.
+    fn integers(self) -> Option<IntKind>
+        ensures { option_map int result ≡ named_by self integer_rows }
+    {
+        match self.shorts() {
+            Some(kind) => Some(kind),
+            None => match self.ints() {
+                Some(kind) => Some(kind),
+                None => match self.longs() {
+                    Some(kind) => Some(kind),
+                    None => self.long_longs(),
+                },
+            },
+        }
+    }
+
+    // Of those with characters.
+    fn kinds(self) -> Option<IntKind>
+        ensures { option_map int result ≡ named_by self kind_rows }
+    {
+        match self.characters() {
+            Some(kind) => Some(kind),
+            None => self.integers(),
         }
     }
 
     // The type that they name (6.7.2p2).
-    fn named(self) -> Option<Ty> {
-        if self.is_empty() {
-            return None;
+    fn named(self) -> Option<Ty>
+        ensures { option_map type_of result ≡ named_by self type_table }
+    {
+        if self.is_same(VOID) {
+            return Some(Ty::Void);
         }
-        match (self.void, self.boolean, self.character) {
-            (1, 0, 0) if (Types { void: 0, ..self }).is_empty() => Some(Ty::Void),
-            (0, 1, 0) if (Types { boolean: 0, ..self }).is_empty() => {
-                Some(Ty::Int(IntKind::Bool))
-            }
-            (0, 0, 1) => Some(Ty::Int(self.character()?)),
-            (0, 0, 0) => Some(Ty::Int(self.integer()?)),
-            _ => None,
+        match self.kinds() {
+            Some(kind) => Some(Ty::Int(kind)),
+            None => self.truth(),
+        }
+    }
+
+    // Of `_Bool`.
+    fn truth(self) -> Option<Ty>
+        ensures { option_map type_of result ≡ named_by self truth_rows }
+    {
+        if self.is_same(BOOLEAN) {
+            Some(Ty::Int(IntKind::Bool))
+        } else {
+            None
         }
     }
 }
 
 // The rule of the profile that leaves the keyword out.
-fn left_out(word: Word) -> Reason {
+fn left_out(word: Word) -> Reason
+    ensures { result ≡ left_out word }
+{
     match word {
         Word::Float | Word::Double | Word::Complex | Word::Imaginary => Reason::LeftOutFloating,
         Word::Volatile | Word::Atomic => Reason::LeftOutQualifier,
@@ -128,12 +285,18 @@ fn left_out(word: Word) -> Reason {
 }
 
 impl Words {
-    fn store(&mut self, storage: Storage) {
+    // Notes a storage class.
+    fn store(&mut self, storage: Storage)
+        ensures { self.new ≡ stored storage self.old }
+    {
         self.storage = storage;
         self.storages = self.storages.saturating_add(1);
     }
 
-    fn add(&mut self, word: Word) {
+    // Notes the keyword.
+    fn add(&mut self, word: Word)
+        ensures { self.new ≡ added word self.old }
+    {
         match word {
             Word::Typedef => self.store(Storage::Typedef),
             Word::Extern => self.store(Storage::Extern),
@@ -152,7 +315,9 @@ impl Words {
     }
 
     /// Why no declaration may have them: a keyword that the profile leaves out, or more than one storage class (6.7.1p2).
-    pub fn refusal(&self) -> Option<Reason> {
+    pub fn refusal(&self) -> Option<Reason>
+        ensures { is_some result ≡ is_refused self.now }
+    {
         match self.unknown {
             Some(reason) => Some(reason),
             None if self.storages > 1 => Some(Reason::StorageClasses),
@@ -161,18 +326,24 @@ impl Words {
     }
 
     /// Whether no type specifier stands among them.
-    pub fn name_no_type(&self) -> bool {
-        self.types.is_empty()
+    pub fn name_no_type(&self) -> bool
+        ensures { (words : List Word) → AreCounted self.now.types words → result ≡ is_no_word words }
+    {
+        self.types.is_same(NO_TYPES)
     }
 
     /// The type that they name (6.7.2p2).
-    pub fn named_type(&self) -> Option<Ty> {
+    pub fn named_type(&self) -> Option<Ty>
+        ensures { (words : List Word) → AreCounted self.now.types words → option_map type_of result ≡ type_named words type_table }
+    {
         self.types.named()
     }
 }
 
-/// What the keywords say together.
-pub fn read_words(words: &[Word]) -> Words {
+// The keywords one after the other.
+fn all_words(words: &[Word]) -> Words
+    ensures { result ≡ all_added none_held words.now }
+{
     let mut all = Words {
         storage: Storage::None,
         constant: false,
@@ -188,9 +359,17 @@ pub fn read_words(words: &[Word]) -> Words {
     all
 }
 
-/// Whether the qualifiers of a pointer make it const, and whether they hold `restrict` (6.7.3). Any other is left out of the
-/// profile.
-pub fn pointer_words(words: &[Word]) -> Option<(bool, bool)> {
+/// What the keywords say together.
+pub fn read_words(words: &[Word]) -> Words
+    ensures { Says result (said words.now) }
+{
+    all_words(words)
+}
+
+// Whether they hold `const` and `restrict`, and nothing else.
+fn pointer_qualifiers(words: &[Word]) -> Option<(bool, bool)>
+    ensures { part_of result ≡ pointer_from false false words.now }
+{
     let mut constant = false;
     let mut restricted = false;
     for word in words {
@@ -201,4 +380,12 @@ pub fn pointer_words(words: &[Word]) -> Option<(bool, bool)> {
         }
     }
     Some((constant, restricted))
+}
+
+/// Whether the qualifiers of a pointer make it const, and whether they hold `restrict` (6.7.3). Any other is left out of the
+/// profile.
+pub fn pointer_words(words: &[Word]) -> Option<(bool, bool)>
+    ensures { part_of result ≡ pointer_by (said words.now) }
+{
+    pointer_qualifiers(words)
 }

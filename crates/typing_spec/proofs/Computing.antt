@@ -31,7 +31,7 @@ use Rattle.typing_spec.specs.Initializers as typing_initializers
 use Rattle.typing_env.specs.Names as typing_names
 use Rattle.typing_spec.specs.Statements as typing_statements
 use Rattle.typing_spec.specs.Units as typing_units
-use Rattle.typing_spec.specs.Words as typing_words
+use Rattle.typing_words.specs.Words as typing_words
 
 unfoldable pub computing : Unit {0}
 unfolding hidden roll enumerator.roll-Enumerator tree_base.hidden-the_row-Declarator-2 tree_base.hidden-the_row-Declarator-5

@@ -16,9 +16,9 @@ use Rattle.c_types.specs.Layout.{Known, and_then, padded, no_members, offset_beh
 use Rattle.layout.specs.Names as named
 use Rattle.layout.specs.Names.{Named, farther}
 use Rattle.typing_env.specs.Seen.{SeenMember, SeenTag, member_seen, tag_seen}
-use Rattle.typing_spec.specs.Tags.{HeldIsSeen, HasExtents, HasNames, ty_of, quals_of, qual_of, member_held, tag_held, held}
-use Rattle.typing_spec.specs.Tags.{members_extent, if_any, extent_of_tag, known_by, extents, extent_of_member, offset_in}
-use Rattle.typing_spec.specs.Tags.{brought, member_names, tag_names, names_by, names}
+use Rattle.typing_words.specs.Tags.{HeldIsSeen, HasExtents, HasNames, ty_of, quals_of, qual_of, member_held, tag_held, held}
+use Rattle.typing_words.specs.Tags.{members_extent, if_any, extent_of_tag, known_by, extents, extent_of_member, offset_in}
+use Rattle.typing_words.specs.Tags.{brought, member_names, tag_names, names_by, names}
 
 function_back : (r : CType) (ps : Params) (v : Bool) →
     type_of (ty_of (function r ps v)) ≡ function (type_of (ty_of r)) (params_of (map qualified_of (quals_of ps))) v

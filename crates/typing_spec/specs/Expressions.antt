@@ -64,14 +64,14 @@ use Rattle.type_calls.specs.Calls.{called}
 use Rattle.type_calls.specs.Choices.{chosen, sequenced}
 use Rattle.type_operators.specs.Members.{member_of_value, member_of_pointer}
 use Rattle.typing_env.specs.Seen.{SeenMember}
-use Rattle.typing_spec.specs.Tags.{layouts_of, constants, extent_in}
+use Rattle.typing_words.specs.Tags.{layouts_of, constants, extent_in}
 use Rattle.typing_env.specs.Env.{Env, Typing, ◌>>=◌, ◌>>◌, pure, refuse, known, knowing, found, holds, unevaluated, Use, Meaning}
 use Rattle.typing_env.specs.Env.{an_object, a_function, a_constant, symbol_of, line_of, spelling}
 use Rattle.typing_env.specs.Names.{meaning_of, declare, in_prototype}
-use Rattle.typing_spec.specs.Words.{Words, said, are_qualified, is_no_word, type_named, type_table, typedef_in, plain, with_qualifiers}
-use Rattle.typing_spec.specs.Words.{Derivation, count_of, array_of, function_of, pointer_by, derived, is_lone_void, parameter, kind_of_tag}
-use Rattle.typing_spec.specs.Words.{reference, open_tag, close_tag, named_member, unnamed_member, enumeration_reference, open_enumeration}
-use Rattle.typing_spec.specs.Words.{close_enumeration}
+use Rattle.typing_words.specs.Words.{Words, said, are_qualified, is_no_word, type_named, type_table, typedef_in, plain, with_qualifiers}
+use Rattle.typing_words.specs.Words.{Derivation, count_of, array_of, function_of, pointer_by, derived, is_lone_void, parameter, kind_of_tag}
+use Rattle.typing_words.specs.Words.{reference, open_tag, close_tag, named_member, unnamed_member, enumeration_reference, open_enumeration}
+use Rattle.typing_words.specs.Words.{close_enumeration}
 
 -- 1. Constants and literals (6.4.4, 6.4.5).
 

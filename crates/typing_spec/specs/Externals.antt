@@ -15,11 +15,11 @@ use Rattle.c_types.specs.declared.kind.IntKind.TheVariants.{Char, Int}
 use Rattle.c_types.specs.Types.{CType, Params, none as no_parameter, more as parameter_then, int, pointer, Qualified, Signature}
 use Rattle.c_types.specs.Same.{same}
 use Rattle.typing_env.specs.Seen.{Statement, compound, SeenTag}
-use Rattle.typing_spec.specs.Tags.{is_complete}
+use Rattle.typing_words.specs.Tags.{is_complete}
 use Rattle.typing_env.specs.Env.{Typing, ◌>>=◌, ◌>>◌, pure, known, knowing, found, holds, Object, Routine, Task, no_task, spelling}
 use Rattle.typing_env.specs.Names.{scoped, with_prototype, Given, by_static, by_file_scope, as_extern, declare_object, declare_function}
 use Rattle.typing_env.specs.Names.{define_object, complete_object, give_initial, object_named, changing_function}
-use Rattle.typing_spec.specs.Words.{Storage, no_storage, externs, statics, autos, registers, Words, is_void, is_so}
+use Rattle.typing_words.specs.Words.{Storage, no_storage, externs, statics, autos, registers, Words, is_void, is_so}
 use Rattle.typing_spec.specs.Expressions.{specified, declared, assertion}
 use Rattle.typing_spec.specs.Initializers.{initialized, static_constants}
 use Rattle.typing_spec.specs.Statements.{function_in, is_uninitialized, typedef_name, is_typedef, is_main_name, may_say_function}

@@ -35,10 +35,10 @@ use Rattle.type_constants.specs.Constants.{worth}
 use Rattle.type_conversions.specs.Assigned.{as_if_assigned}
 use Rattle.type_assignments.specs.Assignments.{stored}
 use Rattle.typing_env.specs.Seen.{SeenMember, SeenTag, ordered}
-use Rattle.typing_spec.specs.Tags.{Part, part, layouts_of, extent_in, size_of, is_complete, way_to, members_in}
+use Rattle.typing_words.specs.Tags.{Part, part, layouts_of, extent_in, size_of, is_complete, way_to, members_in}
 use Rattle.typing_env.specs.Env.{Env, Typing, if_found, ◌>>=◌, ◌>>◌, pure, refuse, known, found, holds, Object, line_of, spelling}
 use Rattle.typing_env.specs.Names.{object_named}
-use Rattle.typing_spec.specs.Words.{is_so, count_of}
+use Rattle.typing_words.specs.Words.{is_so, count_of}
 use Rattle.typing_spec.specs.Expressions.{expr, constant, literal_at}
 
 -- 1. Paths.

@@ -6,8 +6,6 @@ pub mod Initializers
 pub mod Refused
 pub mod Sampling
 pub mod Statements
-pub mod Tags
 pub mod Trees
 pub mod Units
-pub mod Words
 pub mod Wholes

@@ -24,13 +24,13 @@ use Rattle.type_conversions.specs.Assigned.{as_if_assigned}
 use Rattle.typing_env.specs.Seen.{Statement, Otherwise, Start, Section, Entries, expressed, compound, chooses, switches, while_loop}
 use Rattle.typing_env.specs.Seen.{do_loop, for_loop, goes_to, continues, breaks, returns, labelled, case_of, by_default, nothing}
 use Rattle.typing_env.specs.Seen.{else_does, no_start, start_value, start_block, section, end, statement, initializes, declares}
-use Rattle.typing_spec.specs.Tags.{layouts_of, is_complete}
+use Rattle.typing_words.specs.Tags.{layouts_of, is_complete}
 use Rattle.typing_env.specs.Env.{Env, Typing, ◌>>=◌, ◌>>◌, pure, refuse, known, knowing, found, holds, an_object, Task, OpenBlock}
 use Rattle.typing_env.specs.Env.{OpenSwitch, symbol_of, spelling}
 use Rattle.typing_env.specs.Names.{scoped, declare, declare_typedef, renamed, as_extern, declare_object, declare_function, with_object}
 use Rattle.typing_env.specs.Names.{new_object, give_initial, define_object, complete_object}
 use Rattle.typing_env.specs.Tasks.{open_block, close_block, innermost, tail, another_object, retyped_task}
-use Rattle.typing_spec.specs.Words.{Storage, no_storage, typedefs, externs, statics, autos, registers, Words, declares_alone, defines_type, is_void}
+use Rattle.typing_words.specs.Words.{Storage, no_storage, typedefs, externs, statics, autos, registers, Words, declares_alone, defines_type, is_void}
 use Rattle.typing_spec.specs.Expressions.{Specified, specified, declared, expr, constant, assertion}
 use Rattle.typing_spec.specs.Initializers.{initialized, automatic, static_constants}
 

@@ -15,7 +15,7 @@ use Rattle.type_operands.specs.Terms.{term, none, more}
 use Rattle.typing_env.specs.Seen.{expressed, compound, chooses, switches, while_loop, do_loop, for_loop, goes_to, continues, breaks, returns}
 use Rattle.typing_env.specs.Seen.{labelled, case_of, by_default, nothing, else_does, no_start, start_value, start_block, section, end}
 use Rattle.typing_env.specs.Seen.{statement, initializes, declares}
-use Rattle.typing_spec.specs.Words.{plain}
+use Rattle.typing_words.specs.Words.{plain}
 use Rattle.typing_spec.specs.Sampling.{returned, body_in, node, number, at, get, get_pointer, parameters, to_int, ints, zeros_at}
 
 -- the trees of expressions of integers (6.3.1, 6.5), returned by a function with the parameters `int a,int b,int*p,int*q`

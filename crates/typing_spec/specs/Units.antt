@@ -23,10 +23,10 @@ use Rattle.typing_env.specs.Seen.{Statement, Otherwise, Start, Section, Entries,
 use Rattle.typing_env.specs.Seen.{do_loop, for_loop, goes_to, continues, breaks, returns, labelled, case_of, by_default, nothing}
 use Rattle.typing_env.specs.Seen.{else_does, no_start, start_value, start_block, section, end, statement, initializes, declares}
 use Rattle.typing_env.specs.Seen.{SeenFunction, SeenStatic, SeenTag, SeenProgram, program_seen, ordered}
-use Rattle.typing_spec.specs.Tags.{is_complete, size_of}
+use Rattle.typing_words.specs.Tags.{is_complete, size_of}
 use Rattle.typing_env.specs.Env.{Env, Use, if_found, Object, Routine, Linked, start_of, spelling}
 use Rattle.typing_env.specs.Names.{object_named, number_of_function}
-use Rattle.typing_spec.specs.Words.{is_so, count_of}
+use Rattle.typing_words.specs.Words.{is_so, count_of}
 use Rattle.typing_spec.specs.Expressions.{literal_at}
 use Rattle.typing_spec.specs.Statements.{place_of, is_main_name}
 use Rattle.typing_spec.specs.Externals.{externals, is_main_type}

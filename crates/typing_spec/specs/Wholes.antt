@@ -14,7 +14,7 @@ use Rattle.c_typed.specs.declared.program.Content.TheVariants as content
 use Rattle.type_operands.specs.Terms.{Term, term, none, more}
 use Rattle.typing_env.specs.Env.{if_found}
 use Rattle.typing_env.specs.Seen.{compound, section, end, statement, expressed, initializes}
-use Rattle.typing_spec.specs.Words.{plain}
+use Rattle.typing_words.specs.Words.{plain}
 use Rattle.typing_spec.specs.Sampling.{returned_by, body_in, given_in, is_broken, node, number, at, get, parameters, to_int, bytes_at}
 
 -- the tree of the expression that the function declared first returns

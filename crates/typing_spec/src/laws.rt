@@ -1,6 +1,6 @@
 //! Laws about typing.
 
-ghost use Rattle.typing_spec.specs.Tags.{HeldIsSeen, HasExtents, HasNames};
+ghost use Rattle.typing_words.specs.Tags.{HeldIsSeen, HasExtents, HasNames};
 ghost use Rattle.typing_spec.specs.Units.{IsOne};
 
 /// Structures and unions as plain data are those that the crates below compute with: with their extents, and with their members'

@@ -15,7 +15,7 @@ use Rattle.c_typed.specs.declared.tree.Slot.TheVariants as slot
 use Rattle.c_ast.specs.declared.declaration.Base.{Base}
 use Rattle.c_ast.specs.declared.declaration.Base.TheBlock.{Tagged', Base-Tagged-2-Some', Enumerated', Base-Enumerated-1-Some'}
 use Rattle.typing_env.specs.Seen.{SeenMember, SeenTag}
-use Rattle.typing_spec.specs.Tags.{is_complete, names, are_distinct, completed}
+use Rattle.typing_words.specs.Tags.{is_complete, names, are_distinct, completed}
 use Rattle.type_limits.specs.Limits.{is_within}
 use Rattle.typing_env.specs.Env.{Typing, if_found, ◌>>=◌, ◌>>◌, pure, refuse, known, knowing, found, holds, an_object, a_typedef}
 use Rattle.typing_env.specs.Env.{Meaning, TagMeaning, a_tag, an_enumeration, symbol_of, spelling}
