@@ -1,4 +1,5 @@
 mod Behind
+mod Creating
 mod Deciding
 mod Given
 mod Giving
