@@ -1,3 +1,4 @@
+mod Answered
 mod Behind
 mod Creating
 mod Deciding
@@ -8,6 +9,7 @@ mod Laying
 mod Leaving
 mod Left
 mod Lives
+mod Onward
 mod Opened
 mod Parts
 mod Picked
