@@ -129,9 +129,9 @@ stage_past m past s d true stage p = (suc (s.cursor + p.1.0), ap (λ (k : Machin
 stage_past m past s d false stage p = (s.cursor, ap (λ (k : Machine). k.top.stage) p ∙ stage)
 
 -- ---- what was noted and decided
-noted_code : (straight : Bool) (done noted : Machine) (u : Place) → NotesWay straight done u noted → noted.code ≡ done.code
-noted_code true done noted u n = ap (λ (k : Machine). k.code) n
-noted_code false done noted u n = ap (λ (k : Machine). k.code) n.rest
+noted_code : (straight : Bool) (done noted : Machine) (u : Place) → NotesWay straight done u noted → noted.code.now ≡ done.code.now
+noted_code true done noted u n = ap (λ (k : Machine). k.code.now) n
+noted_code false done noted u n = ap (λ (k : Machine). k.code.now) n.rest
 
 decides_so : (o : Option ℕ) (code : Code) (noted new : Machine) → noted.code.now ≡ code → DecidesBy code o noted new → Decides o noted new
 decides_so None code noted new is d = d
@@ -189,7 +189,7 @@ module _ (stands : EventStands) (steps : EventSteps) (world : World) (meaning : 
     way = subst (λ (z : Option Stage). NotesIn z done d.place noted) stage_done.1 notes
 
     same_code : noted.code.now ≡ now.code.now
-    same_code = ap (λ c. c.now) (noted_code s.straight done noted d.place way ∙ ap (λ (k : Machine). k.code) changes.rest)
+    same_code = noted_code s.straight done noted d.place way ∙ ap (λ (k : Machine). k.code.now) changes.rest
 
     taken : IsTaken world m s d v new
     taken = record {
