@@ -36,6 +36,7 @@ use Rattle.std.proofs.Common.{
 use Rattle.std.specs.Borrow.{Bor}
 use Rattle.ub_base.specs.declared.clause.Clause.{Clause}
 use Rattle.ub_base.specs.declared.names.Event.{Event}
+use Rattle.addr_map.specs.declared.map.Row.{Row}
 use Rattle.c_typed.specs.declared.tree.Place.{Place}
 use Rattle.mem_spec.specs.Script.{Act, Raised, Script, run}
 use Rattle.prov_memory.specs.Keeps.{RowsStay}
@@ -67,6 +68,7 @@ use Rattle.run_machine.specs.Answering.{Answers, ComesTo}
 use Rattle.run_machine.specs.Ending.{Notes, NotesIn, NotesWay}
 use Rattle.run_machine.specs.Picks.{at_cursor, event_at}
 use Rattle.run_machine.specs.Taking.{
+  AnswersEvent,
   AnswersTaken,
   Decides,
   DecidesBy,
@@ -219,6 +221,7 @@ module _ (stands : EventStands) (steps : EventSteps) (world : World) (meaning : 
     }
 
     comes : ComesTo world meaning None new (step world st (Ev d.place))
+      unfolding takes taken
     comes = (
       after_event world st e d.place v new.items (store_after new),
       steps world meaning m new st e s laid d v takes t.act t.within,
@@ -255,3 +258,42 @@ module _ (stands : EventStands) (steps : EventSteps) (world : World) (meaning : 
   stopped done line (fault.Over cause number) p = absurd p
   stopped done line fault.Unplaced p = absurd p
   stopped done line fault.NoMemory p = tt
+
+-- ---- what the act did, from where the cursor has passed it
+abbrev Did : Machine → Due → Machine → Machine → Result Done_as Fault → Type 0
+Did now d start done p =
+    ((rows : List Row) → CanPerform rows start → AreGiven start (event_at now d.place) d.act → is_body_act d.act ≡ false
+    → Performs rows start done (event_at now d.place) d.act p)
+    × (is_body_act d.act ≡ false → ChangesOnly start done d.place.node d.act)
+    × (is_body_act d.act ≡ false → gives_value d.act ≡ false → done.values ≡ start.values)
+
+did_so : (now : Machine) (d : Due) (start done : Machine) (p q : Result Done_as Fault) → start ≡ past_event now → p ≡ q → Did now d start done p →
+    Did now d (past_event now) done q
+did_so now d start done p q is same did =
+    subst (λ (k : Machine). Did now d k done q) is (subst (λ (r : Result Done_as Fault). Did now d start done r) same did)
+
+module _ (stands : EventStands) (steps : EventSteps) (d : Due) (now start done new : Machine) (p : Result Done_as Fault) (r : Result Pick Halt)
+    (is : start ≡ past_event now) (did : Did now d start done p) where
+  pub taken_done : p ≡ Ok outcome.Done → FollowsEvent now.code.now (event_at now d.place) None d done new r → AnswersEvent d now new r
+  taken_done same f = λ world meaning m st e s laid t.
+      let so = did_so now d start done p (Ok outcome.Done) is same did in
+      performed stands steps world meaning m st e s laid d now t None refl done new
+      (so.0 world.rows (can stands steps world meaning m st e s laid d now t) (given stands steps world meaning m st e s laid d now t) t.act.no_body)
+      (so.1 t.act.no_body) (so.2 t.act.no_body) r f
+
+  pub taken_started : p ≡ Ok outcome.Started → AnswersEvent d now new r
+  taken_started same = λ world meaning m st e s laid t.
+      let so = did_so now d start done p (Ok outcome.Started) is same did in
+      absurd (so.0 world.rows (can stands steps world meaning m st e s laid d now t) (given stands steps world meaning m st e s laid d now t) t.act.no_body)
+
+  pub taken_ended : (n : ℕ) → p ≡ Ok (outcome.End n) → AnswersEvent d now new r
+  taken_ended n same = λ world meaning m st e s laid t.
+      let so = did_so now d start done p (Ok (outcome.End n)) is same did in
+      absurd (so.0 world.rows (can stands steps world meaning m st e s laid d now t) (given stands steps world meaning m st e s laid d now t) t.act.no_body)
+
+  pub taken_stopped : (x : Fault) (line : ℕ) (h : Halt) → p ≡ Err x → h ≡ halt_by (event_at now d.place) line x → AnswersEvent d now done (Err h)
+  taken_stopped x line h same halts = λ world meaning m st e s laid t.
+      let so = did_so now d start done p (Err x) is same did in
+      subst (λ (g : Halt). Answers world meaning (Err g) done (step world st (Ev d.place))) (sym halts)
+      (stopped stands steps world meaning m st e s laid d now t done line x
+      (so.0 world.rows (can stands steps world meaning m st e s laid d now t) (given stands steps world meaning m st e s laid d now t) t.act.no_body))

@@ -1,5 +1,5 @@
 -- Along the canonical way the next event is taken as the definitions' event.
-use Rattle.std.proofs.Common.{◌≡◌, ◌+◌, ◌-◌, ◌^◌, min, ℕ, Bool, true, refl, sym, ap, ◌∙◌, subst, List, [], length, Option, Some, None, Result}
+use Rattle.std.proofs.Common.{◌≡◌, ◌+◌, ◌-◌, ◌^◌, min, ℕ, Bool, true, false, refl, sym, ap, ◌∙◌, subst, List, [], length, Option, Some, None, Result}
 use Rattle.std.proofs.lemmas.Option.{same_Some}
 use Rattle.std.specs.Borrow.{Bor}
 use Rattle.ub_base.specs.declared.names.Item.{Item}
