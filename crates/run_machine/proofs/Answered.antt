@@ -221,7 +221,7 @@ module _ (stands : EventStands) (steps : EventSteps) (world : World) (meaning : 
     }
 
     comes : ComesTo world meaning None new (step world st (Ev d.place))
-      unfolding takes taken
+    unfolding takes taken
     comes = (
       after_event world st e d.place v new.items (store_after new),
       steps world meaning m new st e s laid d v takes t.act t.within,
