@@ -52,6 +52,7 @@ pub fn perform(machine: &mut Machine, act: &Act, event: Event) -> Result<Outcome
     requires named { IsNamed machine.old.code.now.tables act.now }
     ensures exact { (rows : List Row) → CanPerform rows machine.old → AreGiven machine.old event act.now → is_body_act act.now ≡ false → Performs rows machine.old machine.new event act.now result }
     ensures changes { is_body_act act.now ≡ false → ChangesOnly machine.old machine.new event.node act.now }
+    ensures effect { is_body_act act.now ≡ false → gives_value act.now ≡ false → machine.new.values ≡ machine.old.values }
 {
     match *act {
         Act::Store {

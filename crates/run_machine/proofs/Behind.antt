@@ -6,7 +6,6 @@ use Rattle.std.proofs.lemmas.List.{length-reverse}
 use Rattle.std.proofs.lemmas.Option.{same_Some}
 use Rattle.ub_base.specs.declared.names.Event.{Event}
 use Rattle.ub_base.specs.declared.names.Item.{Item}
-use Rattle.addr_map.specs.declared.map.Row.{Row}
 use Rattle.c_typed.specs.declared.tree.Change.{Change}
 use Rattle.c_typed.specs.declared.tree.Place.{Place}
 use Rattle.c_typed.specs.Order.{is_body, is_val}
@@ -66,6 +65,7 @@ use Rattle.run_events.specs.Performs.{ChangesOnly, HoldsUpdate, IsDone, gives_va
 use Rattle.run_machine.specs.Ending.{NotesWay}
 use Rattle.run_machine.specs.Picks.{at_cursor, event_at, top_of, whole_part}
 use Rattle.run_machine.specs.Taking.{Decides, EventStands, EventSteps, HasRooms, StandsOpen, TakesEvent, after_event, store_after}
+use Rattle.run_machine.proofs.Creating.{act_creates_none}
 use Rattle.run_machine.proofs.Deciding.{ChosenThen, NotedThen, Passed, chosen_then, done_then, listed_in, noted_then, passed}
 use Rattle.run_machine.proofs.Giving.{node_within, none_of, values_after}
 use Rattle.run_machine.proofs.Laying.{RoomsLaid, WorksOut, rooms_laid}
@@ -171,9 +171,6 @@ module _ (trees : TreesAreKept) (keeps_at : KeepsAtEvent) (gives : RoomGives) (b
 
   act_done : IsDone world.rows past done (event_at past d.place) d.act v
   act_done = subst (λ (k : Machine). IsDone world.rows k done (event_at k d.place) d.act v) way.is t.taken.does
-
-  rows : done.memory.rows ≡ old.memory.rows
-  rows = t.taken.rows ∙ ap (λ (k : Machine). k.memory.rows) way.is
 
   effect : gives_value d.act ≡ false → (j : ℕ) → slice_get done.values.items j ≡ slice_get old.values.items j
   effect none j = ap (λ z. slice_get z.items j) (t.taken.effect none ∙ ap (λ (k : Machine). k.values) way.is)
@@ -305,9 +302,9 @@ module _ (trees : TreesAreKept) (keeps_at : KeepsAtEvent) (gives : RoomGives) (b
       tagged = act_done.kept.tagged t.stood.stands.memory.tagged;
       bare = act_done.kept.bare t.stood.stands.memory.bare;
       high = act_done.kept.high t.stood.stands.memory.high;
-      rows = subst (λ (rs : List Row). RowsStay rs world.rows) (sym rows) t.stood.stands.memory.rows;
+      rows = subst (λ (k : Machine). RowsStay k.memory.rows world.rows) moves t.taken.rows;
     };
-    tables = tables_on old end there act_done.kept rows t.stood.stands.tables;
+    tables = tables_on old end there act_done.kept t.constants t.stood.stands.tables;
     frames = frames;
     depth = t.stood.stands.depth ∙ sym (depth_same st.top then_frame st.held refl);
   }
@@ -352,7 +349,9 @@ module _ (trees : TreesAreKept) (keeps_at : KeepsAtEvent) (gives : RoomGives) (b
   pub stays_within : limit_passed world.limits (depth_of st.top st.held) st.store ≡ None →
       limit_passed world.limits (depth_of then_frame st.held) (store_after new) ≡ None
   stays_within is =
-      let created = t.taken.created ∙ ap (λ (k : Machine). k.memory.created) way.is in
+      let created : done.memory.created ≡ old.memory.created =
+      act_creates_none world.rows past (event_at past d.place) d.act (store_of old.memory old.streams) (store_of done.memory done.streams) v done.items
+      act_done.did in
       ap (λ (k : Machine). limit_passed world.limits (depth_of then_frame st.held) (store_after k)) moves
       ∙ ap (λ (n : ℕ). limit_passed world.limits n (store_of done.memory old.streams)) (depth_same st.top then_frame st.held refl)
       ∙ ap (λ (n : ℕ). limit_passed world.limits (depth_of st.top st.held) (record (store_of old.memory old.streams) { created = n })) created

@@ -1,4 +1,6 @@
+mod Answered
 mod Behind
+mod Creating
 mod Deciding
 mod Given
 mod Giving
@@ -7,6 +9,7 @@ mod Laying
 mod Leaving
 mod Left
 mod Lives
+mod Onward
 mod Opened
 mod Parts
 mod Picked

@@ -2,11 +2,20 @@
 use Rattle.std.proofs.Common.{◌≡◌, ◌≢◌, ℕ, ◌+◌, ◌<◌, ◌≤◌, Bool, true, false, refl, sym, ap, ◌∙◌, subst, arith, List, [], ◌∷◌, ◌++◌, length, map, Option, Some, None, slice_get}
 use Rattle.std.specs.Borrow.{Bor}
 use Rattle.std.specs.Prelude.{is_some}
+use Rattle.std.specs.List.{All}
+use Rattle.std.proofs.lemmas.List.Elements.{All-head, All-tail}
 use Rattle.ub_base.specs.declared.clause.Kind.TheVariants.{Val, Body}
 use Rattle.addr_map.specs.declared.map.Row.{Row}
 use Rattle.c_types.specs.declared.ty.Ty.{Ty}
 use Rattle.c_types.specs.Types.{CType, int, type_of}
+use Rattle.ub_base.specs.declared.names.ObjName.TheVariants.{Static, Lit}
 use Rattle.c_typed.specs.declared.program.Constant.{Constant}
+use Rattle.c_typed.specs.declared.program.Content.{Content}
+use Rattle.c_typed.specs.declared.program.Content.TheVariants as content
+use Rattle.c_typed.specs.declared.program.Program.{Program}
+use Rattle.c_typed.specs.declared.tree.Target.{Target}
+use Rattle.c_typed.specs.declared.tree.Target.TheVariants as target
+use Rattle.c_typed.specs.Lawful.{ContentIsLawful}
 use Rattle.c_typed.specs.declared.tree.Access.{Access}
 use Rattle.c_typed.specs.declared.tree.Access.TheVariants as access
 use Rattle.c_typed.specs.declared.tree.Place.{Place}
@@ -16,21 +25,23 @@ use Rattle.mem_spec.specs.Acts.{scalar}
 use Rattle.prov_memory.specs.declared.cell.Via.{Via}
 use Rattle.prov_memory.specs.declared.cell.Via.TheVariants as vias
 use Rattle.prov_memory.specs.Cells.{type_numbered}
-use Rattle.prov_memory.specs.Keeps.{GoesOn, IsNumbered, Keeps}
+use Rattle.prov_memory.specs.Keeps.{GoesOn, IsNumbered, Keeps, RowsStay}
 use Rattle.prov_memory.specs.Memory.{Kept}
 use Rattle.prov_memory.specs.Stores.{Sees}
 use Rattle.c_model.specs.Nodes.{content_bytes}
-use Rattle.c_model.specs.Program.{Filling as Filled}
 use Rattle.c_model.specs.Steps.{Begun, Local, Scene, auto_name}
 use Rattle.c_model.specs.Values.{Value}
 use Rattle.c_model.specs.World.{World}
 use Rattle.run_acts.specs.declared.storage.Filling.{Filling}
-use Rattle.run_acts.specs.Contents.{filled_by}
+use Rattle.run_acts.specs.declared.initial.Places.{Places}
+use Rattle.run_acts.specs.Contents.{address_of, content_of, filled_by, CanHold, CanHoldAll, IsPlaced}
 use Rattle.run_acts.specs.Fills.{AreFillings}
 use Rattle.run_acts.specs.Kept.{AreOf}
 use Rattle.run_acts.specs.Stores.{SeesAs}
 use Rattle.run_acts.proofs.Keeping.{fillings_stay}
-use Rattle.run_acts.proofs.Starting.{placed_still}
+use Rattle.run_acts.specs.Starting.{ArePlaced}
+use Rattle.run_acts.proofs.Starting.{can_hold_all, placed_still}
+use Rattle.run_acts.proofs.Statics.{named_still}
 use Rattle.run_code.specs.declared.steps.Listed.{Listed}
 use Rattle.run_code.specs.declared.steps.StoreCode.{StoreCode}
 use Rattle.run_code.specs.declared.whole.Code.{Code}
@@ -74,7 +85,20 @@ numbered_on n k (vias.Scalar id) le is = omega (arith, le, is)
 numbered_on n k vias.Whole le is = tt
 numbered_on n k vias.Bytes le is = tt
 
-module _ (old new : Kept) (keeps : Keeps old new) (rows : new.rows ≡ old.rows) where
+-- what a constant that can be held puts is the same under rows that stay
+target_still : (m : Kept) (places : Places) (to : Target) (offset : ℕ) → IsPlaced m places to → (rows : List Row) → RowsStay m.rows rows →
+    content_bytes rows (address_of to offset) ≡ content_bytes m.rows (address_of to offset)
+target_still m places (target.Static k) offset placed rows stay = named_still m (Static k) offset placed.0 placed.2 rows stay
+target_still m places (target.Literal k) offset placed rows stay = named_still m (Lit k) offset placed.0 placed.2 rows stay
+target_still m places (target.Function k) offset placed rows stay = refl
+
+content_still : (m : Kept) (places : Places) (c : Content) → CanHold m places c → (rows : List Row) → RowsStay m.rows rows →
+    content_bytes rows (content_of c) ≡ content_bytes m.rows (content_of c)
+content_still m places (content.Zeros n) can rows stay = refl
+content_still m places (content.Bytes bs) can rows stay = refl
+content_still m places (content.Address to offset) can rows stay = target_still m places to offset can rows stay
+
+module _ (old new : Kept) (keeps : Keeps old new) where
   scalar_on : (via : Via) (ty : CType) → IsNumbered (length old.types) via → Sees old via (scalar ty) → Sees new via (scalar ty)
   scalar_on (vias.Scalar id) ty le s = record {
     numbered = subst (λ (ts : List Ty). type_numbered (map type_of ts) id.number ≡ Some ty) (sym keeps.types.1)
@@ -103,24 +127,34 @@ module _ (old new : Kept) (keeps : Keeps old new) (rows : new.rows ≡ old.rows)
     vias_on ss vs a.1,
   )
 
-  filled_on : (fs : List Filling) (cs : List Filled) → AreOf old fs → AreFillings old fs cs → AreFillings new fs cs
-  filled_on [] [] of a = a
-  filled_on [] (c ∷ cs) of a = absurd a
-  filled_on (f ∷ fs) [] of a = absurd a
-  filled_on (f ∷ fs) (c ∷ cs) of a = (
+  filled_on : (places : Places) (fs : List Filling) (cs : List Constant) → CanHoldAll old places cs → AreOf old fs → AreFillings old fs (map filled_by cs) →
+      AreFillings new fs (map filled_by cs)
+  filled_on places [] [] can of a = a
+  filled_on places [] (c ∷ cs) can of a = absurd a
+  filled_on places (f ∷ fs) [] can of a = absurd a
+  filled_on places (f ∷ fs) (c ∷ cs) can of a = (
     record {
       at = a.0.at;
-      bytes = seen_stays old new f.bytes.cells keeps of.0.0 of.0.1 ∙ a.0.bytes ∙ ap (λ (rs : List Row). content_bytes rs c.content) (sym rows);
+      bytes = seen_stays old new f.bytes.cells keeps of.0.0 of.0.1 ∙ a.0.bytes ∙ sym (content_still old places c.content can.0 new.rows keeps.rows);
     },
-    filled_on fs cs of.1 a.1,
+    filled_on places fs cs can.1 of.1 a.1,
   )
 
-  bytes_on : (cs : List (Bor (List Constant))) (fs : List (List Filling)) → AreEach (AreBytes old) cs fs → AreEach (AreBytes new) cs fs
-  bytes_on [] [] a = a
-  bytes_on [] (f ∷ fs) a = absurd a
-  bytes_on (c ∷ cs) [] a = absurd a
-  bytes_on (c ∷ cs) (f ∷ fs) a =
-      ((filled_on f (map filled_by c.now) a.0.1 a.0.0, fillings_stay old new f keeps a.0.1), bytes_on cs fs a.1)
+  abbrev AreLawful : Program → Bor (List Constant) → Type 0
+  AreLawful p cs = All (λ c. ContentIsLawful p c.content) cs.now
+
+  bytes_on : (p : Program) (places : Places) → ArePlaced old p places → (cs : List (Bor (List Constant))) (fs : List (List Filling)) →
+      All (AreLawful p) cs → AreEach (AreBytes old) cs fs → AreEach (AreBytes new) cs fs
+  bytes_on p places placed [] [] lawful a = a
+  bytes_on p places placed [] (f ∷ fs) lawful a = absurd a
+  bytes_on p places placed (c ∷ cs) [] lawful a = absurd a
+  bytes_on p places placed (c ∷ cs) (f ∷ fs) lawful a = (
+    (
+      filled_on places f c.now (can_hold_all old p places c.now placed (All-head (AreLawful p) c cs lawful)) a.0.1 a.0.0,
+      fillings_stay old new f keeps a.0.1,
+    ),
+    bytes_on p places placed cs fs (All-tail (AreLawful p) c cs lawful) a.1,
+  )
 
 -- ---- the one machine with this top frame, and the memory, the values and what is shown and noted of full expressions of another
 abbrev pub moved_on : (m n : Machine) (t : Open) → Machine
@@ -134,11 +168,13 @@ moved_on m n t = record m {
   spare = n.spare;
 }
 
-pub tables_on : (m n : Machine) (t : Open) → Keeps m.memory n.memory → n.memory.rows ≡ m.memory.rows → StandsTables m → StandsTables (moved_on m n t)
-tables_on m n t keeps rows s = record {
+pub tables_on : (m n : Machine) (t : Open) → Keeps m.memory n.memory →
+    All (λ cs. All (λ c. ContentIsLawful m.program.now c.content) cs.now) m.code.now.tables.constants.items → StandsTables m →
+    StandsTables (moved_on m n t)
+tables_on m n t keeps lawful s = record {
   places = placed_still m.memory n.memory m.program.now m.places keeps s.places;
-  vias = vias_on m.memory n.memory keeps rows m.code.now.tables.stores.items m.vias.items s.vias;
-  fillings = bytes_on m.memory n.memory keeps rows m.code.now.tables.constants.items m.fillings.items s.fillings;
+  vias = vias_on m.memory n.memory keeps m.code.now.tables.stores.items m.vias.items s.vias;
+  fillings = bytes_on m.memory n.memory keeps m.program.now m.places s.places m.code.now.tables.constants.items m.fillings.items lawful s.fillings;
 }
 
 pub result_none : (k l : Kept) (n : Option ℕ) → result_seen k n None ≡ result_seen l n None

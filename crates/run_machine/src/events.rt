@@ -1,33 +1,55 @@
 // An event of a full expression is taken.
-ghost use Rattle.std.specs.Prelude.{◌≡◌, IfOk, OnOk};
+ghost use Rattle.std.specs.Prelude.{◌≡◌, Some, IfOk, OnOk};
 ghost use Rattle.run_code.specs.Named.{IsDueOf};
 ghost use Rattle.run_machine.specs.Ending.{Notes};
 ghost use Rattle.run_machine.specs.Picks.{event_at, IsOfEvent};
+ghost use Rattle.run_machine.specs.Taking.{passed_stage, past_event, AnswersEvent, DecidesBy, FollowsEvent};
 
+use crate::laws::law_events;
 use crate::pick::Pick;
 use crate::picks::completed;
 use c_typed::Place;
-use run_code::Due;
+use run_code::{Code, Due};
 use run_events::{Outcome, choose, perform};
 use run_state::{Halt, Machine, Stage};
 use ub_base::{Event, NoMemory};
 
 // The cursor passes the event that is taken.
-fn passed(stage: Option<Stage>) -> Option<Stage> {
+fn passed(stage: Option<Stage>) -> Option<Stage>
+    ensures { result ≡ passed_stage stage }
+{
     match stage {
-        Some(stage) if stage.straight => Some(Stage {
+        Some(stage) => Some(advanced(stage)),
+        None => None,
+    }
+}
+
+fn advanced(stage: Stage) -> Stage
+    ensures { Some result ≡ passed_stage (Some stage) }
+{
+    if stage.straight {
+        Stage {
             cursor: stage.cursor.saturating_add(1),
             ..stage
-        }),
-        _ => stage,
+        }
+    } else {
+        stage
     }
+}
+
+fn pass_event(machine: &mut Machine)
+    ensures { machine.new ≡ past_event machine.old }
+{
+    machine.top.stage = passed(machine.top.stage);
 }
 
 // Takes a permitted event of the top frame's full expression.
 pub fn take_event(machine: &mut Machine, due: &Due) -> Result<Pick, Halt>
     requires named { IsDueOf machine.old.code.now.tables due.now }
     ensures event { IfOk result (IsOfEvent (event_at machine.old due.now.place)) }
+    ensures answers { AnswersEvent due.now machine.old machine.new result }
 {
+    law_events();
     let code = machine.code;
     let event = Event {
         frame: machine.top.frame,
@@ -35,19 +57,40 @@ pub fn take_event(machine: &mut Machine, due: &Due) -> Result<Pick, Halt>
         node: due.place.node,
         kind: due.place.kind,
     };
-    machine.top.stage = passed(machine.top.stage);
-    let mut status = None;
+    pass_event(machine);
     match perform(machine, &due.act, event) {
-        Ok(Outcome::Done) => {}
-        Ok(Outcome::Started) => return Ok(Pick::Starts(event)),
-        Ok(Outcome::End(ended)) => status = Some(ended),
-        Err(fault) => return Err(fault.of(event, due.line)),
+        Ok(Outcome::Done) => finish_event(machine, code, due, event, None),
+        Ok(Outcome::Started) => Ok(Pick::Starts(event)),
+        Ok(Outcome::End(status)) => finish_event(machine, code, due, event, Some(status)),
+        Err(fault) => Err(fault.of(event, due.line)),
     }
+}
+
+// The act of an event is done: it is noted, and its choice is made.
+fn finish_event(
+    machine: &mut Machine,
+    code: &Code,
+    due: &Due,
+    event: Event,
+    status: Option<u8>,
+) -> Result<Pick, Halt>
+    requires named { IsDueOf code.now.tables due.now }
+    ensures follows { FollowsEvent code.now event status due.now machine.old machine.new result }
+{
     note(machine, due.place)?;
-    if let Some(choice) = due.choice {
-        choose(machine, code, choice)?;
-    }
+    choose_at(machine, code, due)?;
     Ok(Pick::Event(event, completed(machine, due)?, status))
+}
+
+// The choice of an event, where it has one.
+fn choose_at(machine: &mut Machine, code: &Code, due: &Due) -> Result<(), NoMemory>
+    requires named { IsDueOf code.now.tables due.now }
+    ensures decides { OnOk result (DecidesBy code.now due.now.choice machine.old machine.new) }
+{
+    match due.choice {
+        Some(choice) => choose(machine, code, choice),
+        None => Ok(()),
+    }
 }
 
 // An event of the top frame's full expression is done. On the canonical way the cursor says so.
