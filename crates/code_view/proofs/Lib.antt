@@ -6,3 +6,4 @@ mod Sited
 mod Whole
 mod Formed
 mod Starting
+mod Blocks

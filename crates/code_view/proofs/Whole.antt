@@ -106,11 +106,11 @@ where_some : {A : Type 0} (P : A → Type 0) (o : Option A) (x : A) → o ≡ So
 where_some P o x e h = let k : Where P (Some x) = subst (Where P) e h in k
 
 -- the code of a function, and the block that it is of
-abbrev Found : Program → Numbers → ℕ → FunctionCode → Type 0
+abbrev pub Found : Program → Numbers → ℕ → FunctionCode → Type 0
 Found p numbers n fc =
     (f : Function) × (slice_get p.functions n ≡ Some f) × (b : Block) × (f.body ≡ Some (body.Block b)) × IsStatement numbers (body.Block b) fc.body
 
-found : (p : Program) (numbers : Numbers) (c : Code) → IsNumberedBy numbers p.functions c → (n : ℕ) (fc : FunctionCode)
+pub found : (p : Program) (numbers : Numbers) (c : Code) → IsNumberedBy numbers p.functions c → (n : ℕ) (fc : FunctionCode)
     → slice_get c.functions.items n ≡ Some (Some fc) → Found p numbers n fc
 found p numbers c laid n fc at =
     let f = code_at numbers p.functions c.functions.items n fc laid.1 at in

@@ -1,3 +1,4 @@
 pub mod Numbering
 pub mod Laws
 pub mod Starting
+pub mod Blocks

@@ -4,6 +4,7 @@
 #![tactic(auto)]
 
 ghost use Rattle.code_view.specs.Laws.{RootsStand, BodiesStand, SwitchesStand, TreesFit, TreesAreFormed, LawfulCodeStands};
+ghost use Rattle.code_view.specs.Blocks.{BlocksStandInCode, BlocksAreNumbered};
 ghost use Rattle.code_view.specs.Starting.{LawfulStartStands};
 
 /// The number of a full expression in the code stands for the expression of its typed tree.
@@ -38,4 +39,11 @@ pub fn law_code()
 /// runs start from (5.1.2.2.1).
 pub fn law_start()
     ensures { LawfulStartStands }
+{}
+
+/// Each block of a function that has code has the objects that the definitions create as they enter it: as many, with their sizes, alignments, forms and
+/// qualifiers, and the bytes that they count (6.2.4p6); the numbers of blocks and of objects are below 2^32.
+pub fn law_blocks()
+    ensures stand { BlocksStandInCode }
+    ensures numbered { BlocksAreNumbered }
 {}

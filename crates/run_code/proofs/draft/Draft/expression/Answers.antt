@@ -1,8 +1,9 @@
 use Rattle.std.proofs.Common.{◌≡◌, [], None, length, slice_get, sym, ap, subst, ◌∙◌}
 use Rattle.c_typed.specs.Tree.{tree_of, size}
 use Rattle.std.proofs.lemmas.List.Elements.{All-nil}
-use Rattle.run_code.specs.EventActs.{AreEntries}
+use Rattle.run_code.specs.EventActs.{AreEntries, AreGrown}
 use Rattle.run_code.specs.declared.expressions.Laid.{Laid}
+use Rattle.run_code.specs.declared.tables.Tables.{Tables}
 use Rattle.run_code.specs.Listings.{entries_of}
 use Rattle.run_code.specs.OfTrees.{flat_of, AreOfTerms}
 use Rattle.run_code.specs.Numbered.{AreAdded, AreNodes}
@@ -10,7 +11,7 @@ use Rattle.run_code.specs.declared.nodes.NodeInfo.{NodeInfo}
 use Rattle.run_code.specs.Fitting.{RootFits, NodesFit, AreFit}
 use Rattle.run_code.proofs.Collected.{nodes_added}
 use Rattle.run_code.proofs.FittingLemmas.{always}
-use Rattle.run_code.proofs.Grown.{entries_grown}
+use Rattle.run_code.proofs.Grown.{entries_grown, grown_both}
 use Rattle.run_code.proofs.draft.Draft.expression.Goals as goal
 
 pub add_expression-requires-clause-laid_out : goal.add_expression-requires-clause-laid_out
@@ -57,3 +58,8 @@ returns-clause-fit c = λ p h t.
     let nodes : NodesFit p c.deref.result.now = subst (NodesFit p) (sym c.deref.ensures.value) (c.in_ok-collect.ensures.fit p h none) in
     always c.add_expression.result _ (subst (AreFit p) (sym c.add_expression.ensures.tables)
     (c.in_ok-chosen.ensures.fit p (c.in_ok-entries.ensures.fit p nodes t)))
+
+pub returns-clause-grown : goal.returns-clause-grown
+returns-clause-grown c =
+    always c.add_expression.result _ (subst (λ (t : Tables). AreGrown c.args.self.now.expressions.tables t) (sym c.add_expression.ensures.tables)
+    (grown_both _ _ _ c.in_ok-entries.ensures.grown c.in_ok-chosen.ensures.grown))
