@@ -338,7 +338,7 @@ pub next_entry : (items : List Entry) (i : ℕ) (x : Entry) → i < length items
 next_entry items i x l e = ap rows_in (drop_more items i x l ∙ ap (λ (z : Entry). z ∷ drop (i + 1) items) (sym e))
 
 pub no_entry : (items : List Entry) (i : ℕ) → length items ≤ i → rows_in (drop i items) ≡ []
-no_entry items i end = ap rows_in (drop_all items i end)
+no_entry items i end = ap rows_in (drop_all i items end)
 
 -- ---- a function
 few_blocks : (tags : List Tag) (taken : ℕ) (t : Tables) (at : ℕ) (rows : List BlockRow) (r : BlockRow) (rs : List BlockRow) → rows ≡ r ∷ rs →
@@ -406,7 +406,7 @@ pub all_objects : (tags : List Tag) (old now : Tables) (b : Block) (items : List
     range.first ≡ first → range.first + range.count ≡ length now.objects.items → length now.objects.items < 2 ^ 32 →
     AddsObjects tags (map qualified_of (out-Block b).objects) old now range bytes
 all_objects tags old now b items first i bytes range is low high start g many counted objects at whole few =
-    let none : drop i items ≡ [] = drop_all items i high in
+    let none : drop i items ≡ [] = drop_all i items high in
     let count : length (map qualified_of items) ≡ length items = length-map items qualified_of in
     let from : AreObjectsFrom tags now first (map qualified_of items) =
     objects now (nothing_grown now) (subst (λ qs. AreObjectsFrom tags now (first + i) (map qualified_of qs)) (sym none) tt) in

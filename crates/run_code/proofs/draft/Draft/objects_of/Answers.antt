@@ -25,7 +25,7 @@ loop-qual-init c =
 pub loop-qual-preserved : goal.loop-qual-preserved
 loop-qual-preserved c =
     let tags = c.args.tags.now in
-    let first = c.loop-qual.first in
+    let first = c.in_ok-first.first in
     let items = c.as_slice-qual-items.result.now in
     let i = c.loop-qual.qual-index in
     let x = c.qual-item.result in
@@ -40,8 +40,8 @@ loop-qual-preserved c =
       told.blocks ∙ before.4,
       grown_both _ _ _ before.5 told.grown,
       longer_by_one tags (qualified_of x) old now first i told.added before.6,
-      next_counted tags items i c.loop-qual.created c.in_ok-object.field-0 c.total.result _ x c.loop-qual-test.true c.qual-item.is told.counted
-          c.total.ensures before.7,
+      next_counted tags items i c.loop-qual.created c.in_ok-object.field-0 c.total-created.result _ x c.loop-qual-test.true c.qual-item.is told.counted
+          c.total-created.ensures before.7,
       λ new g rest. before.8 new (grown_both _ _ _ told.grown g)
           (subst (AreObjectsFrom tags new (first + i)) (sym (next_qual items i x c.loop-qual-test.true c.qual-item.is))
           (next_object tags old now new first i (qualified_of x) (map qualified_of (drop (i + 1) items)) told.added before.6 g rest)),
@@ -52,5 +52,5 @@ returns-clause-added c =
     let after = c.loop-qual.invariant in
     let range = c.in_ok-objects.ensures in
     all_objects c.args.tags.now c.args.self.now.expressions.tables c.loop-qual.self.expressions.tables c.args.block.now c.as_slice-qual-items.result.now
-    c.loop-qual.first c.loop-qual.qual-index c.loop-qual.created c.in_ok-objects.objects c.as_slice-qual-items.ensures c.loop-qual.auto.qual-index-end
+    c.in_ok-first.first c.loop-qual.qual-index c.loop-qual.created c.in_ok-objects.objects c.as_slice-qual-items.ensures c.loop-qual.auto.qual-index-end
     (omega (arith, c.loop-qual-test.false)) c.in_ok-first.ensures after.5 after.6 after.7 after.8 range.whole.0 range.whole.1 range.few
