@@ -1,13 +1,19 @@
 // Specifiers, declarators and static assertions, from their parts (6.7, 6.7.2 to 6.7.6, 6.7.8, 6.7.10).
 ghost use Rattle.std.specs.Prelude.{◌≡◌, ◌<◌, ◌^◌, ◌<ℤ◌, ℤ, List, Bool, true, Option, Some, None, IfOk, MatchOption, map, not, ◌||◌, if◌then◌else◌, pos, int_le, reverse};
+ghost use Rattle.c_lex.specs.TokenText.{TokenText};
 ghost use Rattle.c_lex.specs.declared.token.Word.{Word};
 ghost use Rattle.c_types.specs.Types.{type_of, qualified_of, params_of, pointer, array, function, Params};
 ghost use Rattle.typing_env.specs.Seen.{SeenTag, tag_seen};
+ghost use Rattle.typing_env.specs.Env.{Env, symbol_of};
+ghost use Rattle.typing_env.specs.Names.{meaning_of};
 ghost use Rattle.typing_spec.specs.Tags as tags;
-ghost use Rattle.typing_spec.specs.Words.{said, type_named, type_table, plain, plain_option, is_function_type, may_be_restricted, pointer_by, array_with, counted_array, function_with, is_lone_void};
+ghost use Rattle.typing_spec.specs.Words.{said, type_named, type_table, plain, plain_option, typedef_in, is_function_type, may_be_restricted, pointer_by, array_with, counted_array, function_with, is_lone_void};
 ghost use Rattle.typing_spec.specs.Words as spec;
+ghost use Rattle.typing_spec.specs.Expressions as expressions;
+ghost use Rattle.type_scope.specs.Known.{Naming, known_by};
+ghost use Rattle.type_scope.specs.Reads.{Reads};
 ghost use Rattle.type_declarators.specs.Finds.{Finds};
-ghost use Rattle.type_declarators.specs.Keywords.{Says, IsSaid, AreCounted};
+ghost use Rattle.type_declarators.specs.Keywords.{Says, IsSaid, AreCounted, storage_seen};
 ghost use Rattle.type_declarators.specs.Parts.{qualified_so, is_plain, with_keywords, part_seen, parts_seen, applied, FitsCount, AllFit};
 
 use crate::literal::literal_bytes;
@@ -31,8 +37,10 @@ pub struct Declared {
 }
 
 /// Whether the operand is a value.
-pub fn is_value(operand: &Operand) -> bool {
-    operand.form == Form::Value
+pub fn is_value(operand: &Operand) -> bool
+    ensures { result ≡ expressions.is_value operand.now.form }
+{
+    matches!(operand.form, Form::Value)
 }
 
 /// A copy of the type in front of a list of declarators.
@@ -63,7 +71,9 @@ pub fn plain_type(source: &Source<'_>, words: &Words, at: u32) -> Result<Qual, T
 }
 
 /// The type that a typedef name denotes (6.7.8p3).
-pub fn typedef_type(source: &Source<'_>, state: &State, name: u32) -> Result<Qual, TypeFault> {
+pub fn typedef_type(source: &Source<'_>, state: &State, name: u32) -> Result<Qual, TypeFault>
+    ensures { (n : Naming) (env : Env) → let here = known_by n source.now state.now env in Finds qualified_of (typedef_in (meaning_of here (symbol_of here name))) result }
+{
     match state.names.find(source.symbol(name)) {
         Some(Meaning::Typedef(qual)) => copy(state, qual),
         _ => Err(source.fault(name, Reason::TypeSpecifiers)),
@@ -323,20 +333,7 @@ fn applied(
     ensures { AllFit parts.items → Finds qualified_of (applied (map tag_seen state.now.tags) (parts_seen parts.items) (qualified_of qual)) result }
 {
     while let Some(part) = parts.pop() {
-        match derived_by(source, state, part, qual, at) {
-            Ok(next) => qual = next,
-            Err(fault) => return Err(fault),
-        }
-    }
-    Ok(qual)
-}
-
-// The type, where it is within the limits of types (own).
-fn limited(source: &Source<'_>, qual: Qual, at: u32) -> Result<Qual, TypeFault>
-    ensures { Finds qualified_of (spec.limited_type (qualified_of qual)) result }
-{
-    if !is_within(&qual.ty) {
-        return Err(source.fault(at, Reason::TypeTooHigh));
+        qual = derived_by(source, state, part, qual, at)?;
     }
     Ok(qual)
 }
@@ -352,13 +349,14 @@ pub fn derived(
 ) -> Result<Qual, TypeFault>
     ensures { AllFit parts.items → Finds qualified_of (spec.derived (map tag_seen state.now.tags) (parts_seen parts.items) (qualified_of base)) result }
 {
-    if parts.as_slice().is_empty() {
+    if parts.is_empty() {
         return Ok(base);
     }
-    match applied(source, state, parts, base, at) {
-        Ok(qual) => limited(source, qual, at),
-        Err(fault) => Err(fault),
+    let qual = applied(source, state, parts, base, at)?;
+    if !is_within(&qual.ty) {
+        return Err(source.fault(at, Reason::TypeTooHigh));
     }
+    Ok(qual)
 }
 
 /// Whether the declarator is a name alone.
@@ -408,6 +406,49 @@ fn adjusted(alloc: Global, qual: Qual) -> Result<Qual, TypeFault>
     }
 }
 
+// Whether a parameter of this storage class is a `register` one; no other class may stand there (6.7.6.3p2).
+fn is_register(storage: Storage) -> Option<bool>
+    ensures { result ≡ spec.is_register (storage_seen storage) }
+{
+    match storage {
+        Storage::None => Some(false),
+        Storage::Register => Some(true),
+        Storage::Typedef | Storage::Extern | Storage::Static | Storage::Auto => None,
+    }
+}
+
+fn number_of(index: usize) -> u32
+    ensures { index < 2 ^ 32 → result ≡ index }
+{
+    u32::try_from(index).unwrap_or(u32::MAX)
+}
+
+// Declares a parameter where it has a name: an object of the function's body block (6.2.1p7, 6.9.1p9).
+fn declare_parameter(
+    source: &Source<'_>,
+    state: &mut State,
+    name: Option<u32>,
+    index: usize,
+    qual: &Qual,
+    register: bool,
+) -> Result<(), TypeFault>
+    ensures reads { index < 2 ^ 32 → (n : Naming) (env : Env) → Reads (λ u. u) (spec.declare_parameter name index (qualified_of qual.now) register (known_by n source.now state.old env)) result (known_by n source.now state.new env) }
+    ensures rest { state.new ≡ record state.old { names = state.new.names } }
+{
+    let Some(name) = name else {
+        return Ok(());
+    };
+    let meaning = Meaning::Object {
+        slot: Slot::Auto {
+            block: 0,
+            decl: number_of(index),
+        },
+        qual: copied_qual(state.alloc, qual)?,
+        register,
+    };
+    state.declare(source, name, meaning)
+}
+
 /// A parameter, which is declared in its scope where it has a name; the answer is its type. `index` is its number.
 pub fn parameter(
     source: &Source<'_>,
@@ -416,33 +457,23 @@ pub fn parameter(
     param: Declared,
     index: usize,
     at: u32,
-) -> Result<Qual, TypeFault> {
+) -> Result<Qual, TypeFault>
+    ensures reads { index < 2 ^ 32 → (ws : spec.Words) → IsSaid words.now ws → (n : Naming) (env : Env) → Reads qualified_of (spec.parameter index ws param.name (qualified_of param.qual) (known_by n source.now state.old env)) result (known_by n source.now state.new env) }
+    ensures rest { state.new ≡ record state.old { names = state.new.names } }
+{
     let Declared { name, qual } = param;
     let at = name.unwrap_or(at);
-    let register = match words.storage {
-        Storage::None => false,
-        Storage::Register => true,
-        _ => return Err(source.fault(at, Reason::ParameterStorage)),
+    let Some(register) = is_register(words.storage) else {
+        return Err(source.fault(at, Reason::ParameterStorage));
     };
     if words.function {
         return Err(source.fault(at, Reason::FunctionSpecifier));
     }
-    if matches!(qual.ty, Ty::Void) {
+    if is_void_type(&qual.ty) {
         return Err(source.fault(at, Reason::VoidParameter));
     }
     let qual = adjusted(state.alloc, qual)?;
-    if let Some(name) = name {
-        let slot = Slot::Auto {
-            block: 0,
-            decl: u32::try_from(index).unwrap_or(u32::MAX),
-        };
-        let meaning = Meaning::Object {
-            slot,
-            qual: copied_qual(state.alloc, &qual)?,
-            register,
-        };
-        state.declare(source, name, meaning)?;
-    }
+    declare_parameter(source, state, name, index, &qual, register)?;
     Ok(qual)
 }
 

@@ -1,6 +1,13 @@
 // Constants and string literals (6.4.4, 6.4.5).
 ghost use Rattle.std.specs.Prelude.{IfOk};
+ghost use Rattle.c_lex.specs.TokenText.{text_at, line_at};
+ghost use Rattle.c_lit.specs.Integers as integers;
+ghost use Rattle.c_lit.specs.Literals as literals;
 ghost use Rattle.c_typed.specs.Lawful.{HasBytes};
+ghost use Rattle.type_operands.specs.Terms.{expression_of};
+ghost use Rattle.typing_env.specs.Env.{line_in};
+ghost use Rattle.typing_spec.specs.Expressions.{literal_in, character_in};
+ghost use Rattle.type_declarators.specs.Finds.{Finds};
 
 use c_lit::{LitFault, char_value, int_value, string_bytes};
 use c_typed::Node;
@@ -21,7 +28,9 @@ fn literal_fault(source: &Source<'_>, at: u32, fault: LitFault, reason: Reason) 
 }
 
 /// An integer constant (6.4.4.1).
-pub fn number(alloc: Global, source: &Source<'_>, at: u32) -> Result<Operand, TypeFault> {
+pub fn number(alloc: Global, source: &Source<'_>, at: u32) -> Result<Operand, TypeFault>
+    ensures { Finds expression_of (literal_in (line_in source.now.list (line_at source.now at)) (integers.int_value (text_at source.now at))) result }
+{
     match int_value(source.spelling(at)) {
         Ok(lit) => {
             let number = i128::from(lit.value);
@@ -32,7 +41,9 @@ pub fn number(alloc: Global, source: &Source<'_>, at: u32) -> Result<Operand, Ty
 }
 
 /// A character constant, of type `int` (6.4.4.4).
-pub fn character(alloc: Global, source: &Source<'_>, at: u32) -> Result<Operand, TypeFault> {
+pub fn character(alloc: Global, source: &Source<'_>, at: u32) -> Result<Operand, TypeFault>
+    ensures { Finds expression_of (character_in (line_in source.now.list (line_at source.now at)) (literals.char_value (text_at source.now at))) result }
+{
     match char_value(source.spelling(at)) {
         Ok(number) => {
             let number = i128::from(number);

@@ -1,4 +1,8 @@
 // Structures, unions and enumerations (6.7.2.1 to 6.7.2.3).
+ghost use Rattle.std.specs.Prelude.{◌≡◌};
+ghost use Rattle.c_types.specs.Types.{type_of};
+ghost use Rattle.typing_spec.specs.Words as spec;
+
 use crate::declarator::Declared;
 use crate::words::{Storage, Words};
 use c_ast::{Base, Specs};
@@ -10,7 +14,9 @@ use type_scope::{Source, State, TagMeaning, TypeFault};
 use ub_base::{Bytes, Items, NoMemory};
 
 /// Of a structure, or of a union where `union` is true.
-pub fn kind_of(union: bool) -> TagKind {
+pub fn kind_of(union: bool) -> TagKind
+    ensures { result ≡ spec.kind_of_tag union }
+{
     if union {
         TagKind::Union
     } else {
@@ -18,7 +24,9 @@ pub fn kind_of(union: bool) -> TagKind {
     }
 }
 
-fn tagged_type(kind: TagKind, number: u32) -> Ty {
+fn tagged_type(kind: TagKind, number: u32) -> Ty
+    ensures { type_of result ≡ spec.tagged kind number }
+{
     match kind {
         TagKind::Struct => Ty::Struct(number),
         TagKind::Union => Ty::Union(number),
