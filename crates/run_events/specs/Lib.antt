@@ -2,3 +2,4 @@ pub mod Depth
 pub mod Faults
 pub mod Acts
 pub mod Nodes
+pub mod Choices

@@ -1,5 +1,6 @@
 // The operands that nodes choose to evaluate.
-ghost use Rattle.std.specs.Prelude.{◌≡◌, ◌<◌, length};
+ghost use Rattle.std.specs.Prelude.{◌≡◌, ◌∷◌, [], ◌<◌, length, OnOk};
+ghost use Rattle.run_events.specs.Choices.{HasChosen};
 
 use run_code::Code;
 use run_state::Machine;
@@ -20,7 +21,8 @@ pub fn choose(machine: &mut Machine, code: &Code, number: u32) -> Result<(), NoM
 
 /// The choices whose tests are quiet: of each of these nodes, this operand.
 pub fn choose_at_once(machine: &mut Machine, chosen: &[(u32, u32)]) -> Result<(), NoMemory>
-    ensures { machine.new.work ≡ machine.old.work }
+    ensures work { machine.new.work ≡ machine.old.work }
+    ensures chosen { OnOk result (HasChosen machine.old chosen.now machine.new) }
 {
     for (node, operand) in chosen {
         take_operand(machine, *node, *operand)?;
@@ -30,7 +32,8 @@ pub fn choose_at_once(machine: &mut Machine, chosen: &[(u32, u32)]) -> Result<()
 
 // The node of the full expression chooses this operand.
 fn take_operand(machine: &mut Machine, node: u32, operand: u32) -> Result<(), NoMemory>
-    ensures { machine.new.work ≡ machine.old.work }
+    ensures work { machine.new.work ≡ machine.old.work }
+    ensures chosen { OnOk result (HasChosen machine.old ((node, operand) ∷ []) machine.new) }
 {
     match machine.begun.get_mut(machine.below.len()) {
         Some(begun) => begun.taken.set(node, operand),
