@@ -1,3 +1,4 @@
+mod Beginning
 mod Going
 mod Leaving
 mod Left

@@ -28,7 +28,6 @@ use Rattle.c_model.specs.Runs.{
   within,
 }
 use Rattle.run_control.specs.declared.statement.Block.{Block}
-use Rattle.run_control.specs.declared.work.Use.{Use}
 use Rattle.run_control.specs.declared.work.Work.{Work as Kept_work}
 use Rattle.run_control.specs.declared.moves.Move.{Move as Kept_move}
 use Rattle.run_control.specs.declared.moves.Move.TheVariants.{Out, On, Back}
@@ -173,10 +172,7 @@ memory_wanted s m n e is = λ world meaning st h. no_memory world meaning n (ste
 pub by_step : (s t : Step) (m n : Machine) (r : Result (Option ℕ) Halt) → s ≡ t → AnswersStep t m n r → AnswersStep s m n r
 by_step s t m n r is a = subst (λ (x : Step). AnswersStep x m n r) (sym is) a
 
--- of these nothing is said
-pub begin_untold : (s : Step) (k : ℕ) (how : Use) (m n : Machine) (r : Result (Option ℕ) Halt) → s ≡ taking.Begin k how → AnswersStep s m n r
-begin_untold s k how m n r is = by_step s (taking.Begin k how) m n r is (λ world meaning st h. absurd h.can)
-
+-- of this one nothing is said
 pub enter_untold : (s : Step) (b : Bor Block) (m n : Machine) (r : Result (Option ℕ) Halt) → s ≡ taking.Enter b → AnswersStep s m n r
 enter_untold s b m n r is = by_step s (taking.Enter b) m n r is (λ world meaning st h. absurd h.can)
 
@@ -199,7 +195,7 @@ control_answers r o s m below now n is same ready does = λ world meaning st sta
       next = next;
       within = goes.within;
       closed = goes.closed;
-      can = subst (λ (t : Todo). CanTake m.code.now m.jumps m.top st t) (sym (next ∙ stands.frames.0.control.ready)) goes.can;
+      can = subst (λ (t : Todo). CanTake world m.code.now m.jumps m.top st t) (sym (next ∙ stands.frames.0.control.ready)) goes.can;
       items = items;
     })
 

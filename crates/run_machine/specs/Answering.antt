@@ -2,7 +2,7 @@
 use Rattle.std.specs.Prelude.{◌≡◌, ℕ, ◌+◌, ◌<◌, ◌^◌, true, false, List, [], ◌∷◌, length, map, slice_get, is_some, Option, Some, None, Result, Ok, Err}
 use Rattle.std.specs.Borrow.{Bor}
 use Rattle.ub_base.specs.declared.names.Item.{Item}
-use Rattle.c_model.specs.Control.{Todo, Leave, Unwrite, Nothing_to_do, Go_to, Go_out, Go_on, Go_back, ready_work}
+use Rattle.c_model.specs.Control.{Todo, Begin, Leave, Unwrite, Nothing_to_do, Go_to, Go_out, Go_on, Go_back, ready_work}
 use Rattle.c_model.specs.Program.{Decl}
 use Rattle.c_model.specs.OpenBlocks.{Closes, NoEntersBehind}
 use Rattle.c_model.specs.Steps.{Control, Local}
@@ -25,6 +25,7 @@ use Rattle.run_state.specs.declared.halt.Halt.TheVariants as halt
 use Rattle.run_state.specs.declared.machine.Machine.{Machine}
 use Rattle.run_state.specs.declared.machine.Open.{Open}
 use Rattle.run_state.specs.Stands.{Stands}
+use Rattle.run_machine.specs.Beginning.{CanBegin}
 use Rattle.run_machine.specs.declared.pick.Pick.{Pick}
 use Rattle.run_machine.specs.declared.pick.Pick.TheVariants as pick
 
@@ -97,22 +98,23 @@ pub record IsLeft (code : Code) (o : Open) (st : State) (b : ℕ) (ds : List Dec
   pub objects : (c : BlockCode) → slice_get code.tables.blocks.items (o.blocks + b) ≡ Some c → HasObjects o b c ds
 
 -- What is asked of a machine, and of the state that it stands for, for the control step that comes next: nothing for `break`, `continue` and `return`, and
--- where nothing is done. Of steps that enter a block, end a frame, or begin a full expression, nothing is said yet.
-abbrev pub CanTake : Code → Jumps → Open → State → Todo → Type 0
-CanTake code jumps o st (Nothing_to_do ∷ rest) = Unit {0}
-CanTake code jumps o st (Go_out ∷ rest) = Unit {0}
-CanTake code jumps o st (Go_on ∷ rest) = Unit {0}
-CanTake code jumps o st (Go_back ∷ rest) = Unit {0}
-CanTake code jumps o st (Go_to k ∷ rest) = HasLabels code jumps o.function
-CanTake code jumps o st (Unwrite d ∷ rest) = HasOpenBlocks st.top × IsDeclared code o d st.top.scene.blocks
-CanTake code jumps o st (Leave b ds ∷ rest) = IsLeft code o st b ds rest
-CanTake code jumps o st _ = ⊥
+-- where nothing is done. Of steps that enter a block or end a frame nothing is said yet.
+abbrev pub CanTake : World → Code → Jumps → Open → State → Todo → Type 0
+CanTake world code jumps o st (Nothing_to_do ∷ rest) = Unit {0}
+CanTake world code jumps o st (Go_out ∷ rest) = Unit {0}
+CanTake world code jumps o st (Go_on ∷ rest) = Unit {0}
+CanTake world code jumps o st (Go_back ∷ rest) = Unit {0}
+CanTake world code jumps o st (Go_to k ∷ rest) = HasLabels code jumps o.function
+CanTake world code jumps o st (Unwrite d ∷ rest) = HasOpenBlocks st.top × IsDeclared code o d st.top.scene.blocks
+CanTake world code jumps o st (Leave b ds ∷ rest) = IsLeft code o st b ds rest
+CanTake world code jumps o st (Begin e what ∷ rest) = CanBegin world code o st e
+CanTake world code jumps o st _ = ⊥
 
 -- The state is within the limits, no full expression is open in its top frame, and the machine can take its next control step.
 pub record MayGoOn (world : World) (m : Machine) (st : State) : Type 0 where
   pub within : IsWithin world st
   pub closed : st.top.begun ≡ None
-  pub can : CanTake m.code.now m.jumps m.top st (ready_work st.top.todo)
+  pub can : CanTake world m.code.now m.jumps m.top st (ready_work st.top.todo)
 
 -- a control step from a machine that has touched nothing yet
 abbrev pub AnswersControl : (old new : Machine) → Result (Option ℕ) Halt → Type 0
@@ -148,7 +150,7 @@ pub record HasTaken (world : World) (meaning : Option ℕ → Meaning) (s : Step
   pub next : step_of (meaning m.top.function) s ∷ todo_of (meaning m.top.function) m.work.now ≡ ready_work (todo_of (meaning m.top.function) before)
   pub within : IsWithin world st
   pub closed : st.top.begun ≡ None
-  pub can : CanTake m.code.now m.jumps m.top st (step_of (meaning m.top.function) s ∷ todo_of (meaning m.top.function) m.work.now)
+  pub can : CanTake world m.code.now m.jumps m.top st (step_of (meaning m.top.function) s ∷ todo_of (meaning m.top.function) m.work.now)
   pub items : m.items ≡ []
 
 abbrev pub AnswersStep : Step → (old new : Machine) → Result (Option ℕ) Halt → Type 0

@@ -2,3 +2,4 @@ pub mod Picks
 pub mod Moving
 pub mod Answering
 pub mod Leaving
+pub mod Beginning
