@@ -1,4 +1,6 @@
 mod Beginning
+mod Ended
+mod Giving
 mod Going
 mod Leaving
 mod Left
@@ -6,6 +8,7 @@ mod Lives
 mod Opened
 mod Parts
 mod Picked
+mod Settling
 mod Staying
 mod Steering
 mod Still

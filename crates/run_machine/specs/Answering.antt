@@ -5,7 +5,7 @@ use Rattle.ub_base.specs.declared.names.Item.{Item}
 use Rattle.c_model.specs.Control.{Todo, Begin, Leave, Unwrite, Nothing_to_do, Go_to, Go_out, Go_on, Go_back, ready_work}
 use Rattle.c_model.specs.Program.{Decl}
 use Rattle.c_model.specs.OpenBlocks.{Closes, NoEntersBehind}
-use Rattle.c_model.specs.Steps.{Control, Local}
+use Rattle.c_model.specs.Steps.{Begun, Control, Local, MayPick}
 use Rattle.c_model.specs.World.{World}
 use Rattle.c_model.specs.Runs.{Entry, Outcome, Raises, Over, No_row, Ends, Running, State, depth_of, limit_passed, step}
 use Rattle.run_control.specs.declared.statement.Statement.{Statement}
@@ -26,6 +26,7 @@ use Rattle.run_state.specs.declared.machine.Machine.{Machine}
 use Rattle.run_state.specs.declared.machine.Open.{Open}
 use Rattle.run_state.specs.Stands.{Stands}
 use Rattle.run_machine.specs.Beginning.{CanBegin}
+use Rattle.run_machine.specs.Settling.{CanSettle}
 use Rattle.run_machine.specs.declared.pick.Pick.{Pick}
 use Rattle.run_machine.specs.declared.pick.Pick.TheVariants as pick
 
@@ -110,11 +111,16 @@ CanTake world code jumps o st (Leave b ds ∷ rest) = IsLeft code o st b ds rest
 CanTake world code jumps o st (Begin e what ∷ rest) = CanBegin world code o st e
 CanTake world code jumps o st _ = ⊥
 
--- The state is within the limits, no full expression is open in its top frame, and the machine can take its next control step.
+-- .. or a full expression of its top frame is settled
+abbrev pub CanGoOn : World → Machine → State → Option Begun → Type 0
+CanGoOn world m st None = CanTake world m.code.now m.jumps m.top st (ready_work st.top.todo)
+CanGoOn world m st (Some e) = CanSettle world m st e
+
+-- The state is within the limits, the control step may be picked in it, and the machine can take it.
 pub record MayGoOn (world : World) (m : Machine) (st : State) : Type 0 where
   pub within : IsWithin world st
-  pub closed : st.top.begun ≡ None
-  pub can : CanTake world m.code.now m.jumps m.top st (ready_work st.top.todo)
+  pub control : MayPick world st.top st.top.begun Control
+  pub can : CanGoOn world m st st.top.begun
 
 -- a control step from a machine that has touched nothing yet
 abbrev pub AnswersControl : (old new : Machine) → Result (Option ℕ) Halt → Type 0

@@ -3,3 +3,4 @@ pub mod Moving
 pub mod Answering
 pub mod Leaving
 pub mod Beginning
+pub mod Settling

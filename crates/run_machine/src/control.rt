@@ -9,6 +9,9 @@ ghost use Rattle.run_control.specs.View.{Meaning, after, is_nothing, todo_of};
 ghost use Rattle.run_machine.specs.Answering.{AnswersControl, AnswersStep, step_of_move};
 ghost use Rattle.run_machine.specs.Beginning.{HasShown};
 ghost use Rattle.run_machine.specs.Leaving.{GoesStill, LeavesBlock};
+ghost use Rattle.run_machine.specs.Settling.{HasUsed, left_by};
+ghost use Rattle.run_state.specs.Operands.{operand_in};
+ghost use Rattle.prov_memory.specs.declared.value.Value.{Value as Kept_value};
 ghost use Rattle.run_machine.specs.Moving.{GoesOn, IsGone, StepLeaves, TakesStep};
 
 use crate::frames::end_frame;
@@ -286,14 +289,21 @@ fn show_begun<'p>(
 }
 
 // The value of a full expression is used.
-fn settle(machine: &mut Machine, stage: Stage) -> Result<Option<u8>, Halt> {
+fn settle(machine: &mut Machine, stage: Stage) -> Result<Option<u8>, Halt>
+    ensures { machine.old.top.stage ≡ Some stage → AnswersControl machine.old machine.new result }
+{
     let operand = stage.value;
     machine.top.stage = None;
     match machine.top.how {
-        Use::Select(switch) => select(machine, switch.number, operand)?,
-        how => use_value(machine, how, operand)?,
+        Use::Select(switch) => {
+            select(machine, switch.number, operand)?;
+            go_on(machine)
+        }
+        how => {
+            use_value(machine, how, operand)?;
+            go_on(machine)
+        }
     }
-    go_on(machine)
 }
 
 fn use_value<'c>(
@@ -304,12 +314,22 @@ fn use_value<'c>(
     ensures below { OnOk result (machine.new.work.below ≡ machine.old.work.below) }
     ensures now { OnOk result ((truth : Bool) × ((m : Meaning) (z : ℤ) → todo_of m machine.new.work.now ≡ after m truth z how.entry (todo_of m
         machine.old.work.now))) }
+    ensures used { OnOk result (HasUsed machine.old how.entry operand machine.new) }
+{
+    keep_result(machine, how, operand)?;
+    let truth = machine.truth(operand);
+    machine.work.settle(how, truth)
+}
+
+// The value of a `return` statement is the result of the frame.
+fn keep_result(machine: &mut Machine, how: Use, operand: Operand) -> Result<(), NoMemory>
+    ensures rest { OnOk result (machine.new ≡ record machine.old { left = machine.new.left }) }
+    ensures left { OnOk result ((h : Kept_value) → operand_in machine.old operand ≡ Some h → machine.new.left ≡ left_by how.entry h machine.old.left) }
 {
     if let Use::Result = how {
         machine.left = Some(machine.value(operand)?);
     }
-    let truth = machine.truth(operand);
-    machine.work.settle(how, truth)
+    Ok(())
 }
 
 // The case that the value of a `switch` statement's test names comes next.

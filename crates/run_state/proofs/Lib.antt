@@ -1,5 +1,5 @@
 mod Each
 mod Vias
 mod Beginning
-mod Operands
+pub mod Operands
 mod Rooms
