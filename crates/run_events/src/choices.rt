@@ -1,6 +1,7 @@
 // The operands that nodes choose to evaluate.
 ghost use Rattle.std.specs.Prelude.{◌≡◌, ◌∷◌, [], ◌<◌, length, OnOk};
 ghost use Rattle.run_events.specs.Choices.{HasChosen};
+ghost use Rattle.run_events.specs.Ways.{Chooses};
 
 use run_code::Code;
 use run_state::Machine;
@@ -9,6 +10,7 @@ use ub_base::NoMemory;
 /// A node chooses the operand that it evaluates next, by the choice of this number.
 pub fn choose(machine: &mut Machine, code: &Code, number: u32) -> Result<(), NoMemory>
     requires there { number < length code.now.tables.choices.items }
+    ensures chosen { OnOk result (Chooses code.now number machine.old machine.new) }
 {
     let choice = code.choice(number);
     let (way, chosen) = code.way(number, machine.truth(choice.test));

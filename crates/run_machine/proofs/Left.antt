@@ -1,4 +1,4 @@
--- A block is left behind which the frame goes on: its objects die as the definitions say, and it is open no more.
+-- A block is left: its objects die as the definitions say, and it is open no more; the frame goes on, or ends.
 use Rattle.std.proofs.Common.{
   ◌≡◌,
   ℕ,
@@ -75,19 +75,22 @@ use Rattle.run_control.specs.declared.work.Work.{Work}
 use Rattle.run_control.specs.Stacked.{Stacked}
 use Rattle.run_control.specs.View.{Meaning, block_of, is_nothing, todo_of}
 use Rattle.run_code.specs.declared.steps.BlockCode.{BlockCode}
+use Rattle.run_acts.proofs.Keeping.{values_stay}
 use Rattle.run_state.specs.declared.halt.Halt.{Halt}
 use Rattle.run_state.specs.declared.halt.Halt.TheVariants as halt
 use Rattle.run_state.specs.declared.machine.Machine.{Machine}
 use Rattle.run_state.specs.declared.machine.Open.{Open}
 use Rattle.run_state.specs.declared.machine.Stage.{Stage}
 use Rattle.run_state.specs.Stands.{IsAbove, SeesLocals, StandLocals, Stands, StandsBegun, StandsControl, StandsFrame, frames_of}
-use Rattle.run_machine.specs.Answering.{Answers, AnswersStep, HasObjects, HasTaken, as_before}
+use Rattle.run_machine.specs.Answering.{Answers, AnswersStep, ComesTo, HasObjects, HasTaken, as_before}
+use Rattle.run_machine.specs.Ended.{AnswersEnd}
+use Rattle.run_machine.specs.Ending.{IsResultOf}
 use Rattle.run_machine.specs.Leaving.{GoesStill, HaveDied, LeavesBlock, buried_first, deaths, name_at, name_in}
 use Rattle.run_machine.specs.Moving.{GoesOn}
 use Rattle.run_machine.proofs.Leaving.{nothing_more}
 use Rattle.run_machine.proofs.Lives.{stands_live, with_lives, with_objects}
-use Rattle.run_machine.proofs.Staying.{by_step, control_stays}
-use Rattle.run_machine.proofs.Still.{depth_same, frames_aside, tables_aside}
+use Rattle.run_machine.proofs.Staying.{by_step, control_ends, control_stays}
+use Rattle.run_machine.proofs.Still.{depth_same, frames_aside, left_stands, tables_aside}
 use Rattle.run_machine.proofs.Unwriting.{begins_with, block_number, capped, capped_wide, some_same}
 
 -- ---- the definitions: one after the other
@@ -233,13 +236,35 @@ closed_stands world meaning m os is spare before ws st b bs rest trace keeps blo
       depth = live.depth ∙ sym (depth_same st.top (without st.top bs rest) st.held refl);
     }
 
-left_so : (m : Machine) (os : List Held) (is spare : List Item) (b : Bor Block) (c : BlockCode) (ws : List Work) →
+wanted_so : (world : World) (meaning : Option ℕ → Meaning) (n : Machine) (o : Outcome) (e : Halt) → e ≡ halt.NoMemory → Answers world meaning (Err e) n o
+wanted_so world meaning n o e is = subst (λ (h : Halt). Answers world meaning (Err h) n o) (sym is) tt
+
+-- what the leave does by the definitions, and what the machine then stands for
+abbrev state_left : World → State → List Item → Store → List (ℕ × ℕ) → Todo → State
+state_left world st js t bs rest =
+    record { top = without st.top bs rest; held = st.held; store = t; trace = entry_of world st.top Control js ∷ st.trace }
+
+record BlockIsLeft (world : World) (meaning : Option ℕ → Meaning) (m : Machine) (os : List Held) (is spare : List Item) (n : ℕ) (ds : List Decl)
+    (rest : Todo) (st : State) : Type 0 where
+  pub turn : ℕ
+  pub bs : List (ℕ × ℕ)
+  pub js : List Item
+  pub items : js ≡ is
+  pub next : control_next world st.top (todo.Leave n ds ∷ rest) ≡ without st.top bs rest
+  pub ran : run world.rows (control_act world st.top (todo.Leave n ds ∷ rest)) st.store
+      ≡ Done (result_of world st.top) js (store_of (with_objects m.memory os) m.streams)
+  pub limits : (depth : ℕ) → limit_passed world.limits depth (store_of (with_objects m.memory os) m.streams) ≡ limit_passed world.limits depth st.store
+  pub stands : (ws : List Work) → ready_work (todo_of (meaning m.top.function) ws) ≡ ready_work rest →
+      Stands world meaning (record m { memory = with_objects m.memory os; items = is; spare = spare; work = record { below = m.work.below; now = ws } })
+      (state_left world st js (store_of (with_objects m.memory os) m.streams) bs rest)
+
+left_block : (m : Machine) (os : List Held) (is spare : List Item) (b : Bor Block) (c : BlockCode) →
     slice_get m.code.now.tables.blocks.items (min (m.top.blocks + b.now.number) (2 ^ 32 - 1)) ≡ Some c →
     HaveDied m c.first c.objects.count (record m { memory = with_objects m.memory os; items = is; spare = spare }) →
-    ((k : Meaning) → is_nothing (ready_work (todo_of k m.work.now)) ≡ false → ready_work (todo_of k ws) ≡ ready_work (todo_of k m.work.now)) →
-    AnswersStep (taking.Leave b) m
-    (record m { memory = with_objects m.memory os; items = is; spare = spare; work = record { below = m.work.below; now = ws } }) (Ok None)
-left_so m os is spare b c ws block died goes = λ world meaning st h.
+    (world : World) (meaning : Option ℕ → Meaning) (st : State) → HasTaken world meaning (taking.Leave b) m st →
+    BlockIsLeft world meaning m os is spare (block_of (meaning m.top.function) b.now).number
+    ((meaning m.top.function).decls (block_of (meaning m.top.function) b.now).number) (todo_of (meaning m.top.function) m.work.now) st
+left_block m os is spare b c block died world meaning st h =
     let mg = meaning m.top.function in
     let rest = todo_of mg m.work.now in
     let n = (block_of mg b.now).number in
@@ -268,69 +293,157 @@ left_so m os is spare b c ws block died goes = λ world meaning st h.
     let t = store_of (with_objects m.memory os) m.streams in
     let stored : buried_first own count st.store ≡ t = ap (buried_first own count) h.stands.memory.store
     ∙ sym (buried_same x own count (store_of m.memory m.streams) names) ∙ sym (d.store m.streams) in
-    let trace = entry_of world f Control (deaths own count) ∷ st.trace in
-    let after : State = record { top = without f bs rest; held = st.held; store = t; trace = trace } in
-    let next = next_left world f n turn bs ds rest first.2 in (
-      after,
-      control_stays world st (todo.Leave n ds) rest v (deaths own count) t h.closed ready refl
-          (ap (λ (p : Script Value). run world.rows p st.store) (act_left world f n turn bs ds rest first.2)
+    record {
+      turn = turn;
+      bs = bs;
+      js = deaths own count;
+      items = sym (d.items ∙ ap (λ (js : List Item). js ++ deaths x count) h.items ∙ deaths_same x own count names);
+      next = next_left world f n turn bs ds rest first.2;
+      ran = ap (λ (p : Script Value). run world.rows p st.store) (act_left world f n turn bs ds rest first.2)
           ∙ killed world world.rows f.scene turn v st.store 0 (length ds) ds (omega arith)
           ∙ ap (λ (js : List Item). Done v js (buried_first own (length ds) st.store)) (joined own 0 (length ds) (length ds) (omega arith))
           ∙ ap (λ (k : ℕ). Done v (deaths own k) (buried_first own k st.store)) (sym has.count)
-          ∙ ap (λ (u : Store). Done v (deaths own count) u) stored)
-          (ap (λ (k : Bool). if k then End else Stay) (ends_not world (ready_work rest) h.can.goes))
-          (ap (λ (g : Local). limit_passed world.limits (depth_of g st.held) t) next
-          ∙ ap (λ (k : ℕ). limit_passed world.limits k t) (depth_same f (without f bs rest) st.held refl)
-          ∙ ap (limit_passed world.limits (depth_of f st.held)) (sym stored)
-          ∙ limit_same world.limits (depth_of f st.held) own count st.store ∙ h.within)
-          ∙ ap (λ (g : Local). Running (record { top = g; held = st.held; store = t; trace = trace })) next,
-      sym (d.items ∙ ap (λ (js : List Item). js ++ deaths x count) h.items ∙ deaths_same x own count names),
-      closed_stands world meaning m os is spare h.before ws st (n, turn) bs rest trace d.kept first.2 h.closed h.can.function
-          (record { ready = goes mg h.can.goes; behind = λ e. absurd (none_begun f.begun h.closed e) }) h.stands,
+          ∙ ap (λ (u : Store). Done v (deaths own count) u) stored;
+      limits = λ depth. ap (limit_passed world.limits depth) (sym stored) ∙ limit_same world.limits depth own count st.store;
+      stands = λ ws same.
+          closed_stands world meaning m os is spare h.before ws st (n, turn) bs rest (entry_of world f Control (deaths own count) ∷ st.trace) d.kept first.2
+          h.closed h.can.function (record { ready = same; behind = λ e. absurd (none_begun f.begun h.closed e) }) h.stands;
+    }
+
+left_so : (m : Machine) (os : List Held) (is spare : List Item) (b : Bor Block) (c : BlockCode) (ws : List Work) →
+    slice_get m.code.now.tables.blocks.items (min (m.top.blocks + b.now.number) (2 ^ 32 - 1)) ≡ Some c →
+    HaveDied m c.first c.objects.count (record m { memory = with_objects m.memory os; items = is; spare = spare }) →
+    ((k : Meaning) → is_nothing (ready_work (todo_of k m.work.now)) ≡ false → ready_work (todo_of k ws) ≡ ready_work (todo_of k m.work.now)) →
+    (world : World) (meaning : Option ℕ → Meaning) (st : State) → is_nothing (ready_work (todo_of (meaning m.top.function) m.work.now)) ≡ false →
+    HasTaken world meaning (taking.Leave b) m st →
+    Answers world meaning (Ok None)
+    (record m { memory = with_objects m.memory os; items = is; spare = spare; work = record { below = m.work.below; now = ws } }) (step world st Control)
+left_so m os is spare b c ws block died goes world meaning st on h =
+    let mg = meaning m.top.function in
+    let rest = todo_of mg m.work.now in
+    let n = (block_of mg b.now).number in
+    let ds = mg.decls n in
+    let f = st.top in
+    let l = left_block m os is spare b c block died world meaning st h in
+    let t = store_of (with_objects m.memory os) m.streams in
+    let trace = entry_of world f Control l.js ∷ st.trace in (
+      state_left world st l.js t l.bs rest,
+      control_stays world st (todo.Leave n ds) rest (result_of world f) l.js t h.closed (sym (h.next ∙ h.stands.frames.0.control.ready)) refl l.ran
+          (ap (λ (k : Bool). if k then End else Stay) (ends_not world (ready_work rest) on))
+          (ap (λ (g : Local). limit_passed world.limits (depth_of g st.held) t) l.next
+          ∙ ap (λ (k : ℕ). limit_passed world.limits k t) (depth_same f (without f l.bs rest) st.held refl)
+          ∙ l.limits (depth_of f st.held) ∙ h.within)
+          ∙ ap (λ (g : Local). Running (record { top = g; held = st.held; store = t; trace = trace })) l.next,
+      l.items,
+      l.stands ws (goes mg on),
     )
 
+-- .. and the frame ends
+ends_so : (world : World) (t : Todo) → is_nothing t ≡ true → ends_with world t ≡ true
+ends_so world [] e = refl
+ends_so world (w ∷ ws) e = absurd (cc)
+
+result_kept : (old new : Kept) (left : Option Kept_value) → Keeps old new → IsResultOf old left → IsResultOf new left
+result_kept old new None keeps is = tt
+result_kept old new (Some v) keeps is = values_stay old new v keeps is
+
+over_so : (m : Machine) (os : List Held) (is spare : List Item) (b : Bor Block) (c : BlockCode) (n : Machine) (r : Result (Option ℕ) Halt) →
+    slice_get m.code.now.tables.blocks.items (min (m.top.blocks + b.now.number) (2 ^ 32 - 1)) ≡ Some c →
+    HaveDied m c.first c.objects.count (record m { memory = with_objects m.memory os; items = is; spare = spare }) →
+    AnswersEnd (record m { memory = with_objects m.memory os; items = is; spare = spare }) n r → (world : World) (meaning : Option ℕ → Meaning) (st : State) →
+    is_nothing (ready_work (todo_of (meaning m.top.function) m.work.now)) ≡ true → HasTaken world meaning (taking.Leave b) m st →
+    Answers world meaning r n (step world st Control)
+over_so m os is spare b c n (Err e) block died ends world meaning st over h = wanted_so world meaning n (step world st Control) e ends
+over_so m os is spare b c n (Ok status) block died ends world meaning st over h =
+    let mg = meaning m.top.function in
+    let rest = todo_of mg m.work.now in
+    let k = (block_of mg b.now).number in
+    let f = st.top in
+    let l = left_block m os is spare b c block died world meaning st h in
+    let t = store_of (with_objects m.memory os) m.streams in
+    let can = h.ends over in
+    subst (λ (o : Outcome). ComesTo world meaning status n o)
+    (sym (control_ends world st (todo.Leave k (mg.decls k)) rest (result_of world f) l.js t h.closed (sym (h.next ∙ h.stands.frames.0.control.ready)) refl
+    l.ran (ap (λ (x : Bool). if x then End else Stay) (ends_so world (ready_work rest) over))))
+    (ends world meaning (state_left world st l.js t l.bs rest) (entry_of world f Control l.js ∷ st.trace) (l.stands m.work.now refl)
+    (ap (λ (d : ℕ). limit_passed world.limits d t) (depth_same f (without f l.bs rest) st.held refl) ∙ l.limits (depth_of f st.held) ∙ h.within)
+    h.closed (record {
+      result = result_kept m.memory (with_objects m.memory os) m.left died.kept can.result;
+      function = can.function;
+      rooms = can.rooms;
+      room = can.room;
+    }) l.items)
+
+left_whole : (m mid : Machine) (b : Bor Block) → LeavesBlock m b.now.number mid →
+    mid ≡ record m { memory = with_objects m.memory mid.memory.objects; items = mid.items; spare = mid.spare }
+left_whole m mid b left =
+    let d = left.2 in
+    let k : mid.memory ≡ with_objects m.memory mid.memory.objects = ap (λ (j : Kept). record j { objects = mid.memory.objects }) d.objects in
+    d.rest ∙ ap (λ (j : Kept). record m { memory = j; items = mid.items; spare = mid.spare }) k
+
 -- .. of the machine as it was left
-pub left_answers : (m mid : Machine) (b : Bor Block) (below : List (List Work)) (ws : List Work) → LeavesBlock m b.now.number mid →
+left_answers : (m mid : Machine) (b : Bor Block) (below : List (List Work)) (ws : List Work) → LeavesBlock m b.now.number mid →
     below ≡ mid.work.below →
     ((k : Meaning) → is_nothing (ready_work (todo_of k mid.work.now)) ≡ false → ready_work (todo_of k ws) ≡ ready_work (todo_of k mid.work.now)) →
-    AnswersStep (taking.Leave b) m (record mid { work = record { below = below; now = ws } }) (Ok None)
-left_answers m mid b below ws left under goes =
+    (world : World) (meaning : Option ℕ → Meaning) (st : State) → is_nothing (ready_work (todo_of (meaning m.top.function) m.work.now)) ≡ false →
+    HasTaken world meaning (taking.Leave b) m st →
+    Answers world meaning (Ok None) (record mid { work = record { below = below; now = ws } }) (step world st Control)
+left_answers m mid b below ws left under goes world meaning st on h =
     let d = left.2 in
     let os = mid.memory.objects in
-    let k : mid.memory ≡ with_objects m.memory os = ap (λ (j : Kept). record j { objects = os }) d.objects in
-    let whole : mid ≡ record m { memory = with_objects m.memory os; items = mid.items; spare = mid.spare } =
-    d.rest ∙ ap (λ (j : Kept). record m { memory = j; items = mid.items; spare = mid.spare }) k in
+    let o = step world st Control in
+    let whole = left_whole m mid b left in
     let works = ap (λ (n : Machine). n.work) whole in
-    subst (λ (bs : List (List Work)). AnswersStep (taking.Leave b) m (record mid { work = record { below = bs; now = ws } }) (Ok None))
+    subst (λ (bs : List (List Work)). Answers world meaning (Ok None) (record mid { work = record { below = bs; now = ws } }) o)
     (sym (under ∙ ap (λ (w : Stacked). w.below) works))
-    (subst (λ (n : Machine). AnswersStep (taking.Leave b) m (record n { work = record { below = m.work.below; now = ws } }) (Ok None)) (sym whole)
+    (subst (λ (n : Machine). Answers world meaning (Ok None) (record n { work = record { below = m.work.below; now = ws } }) o) (sym whole)
     (left_so m os mid.items mid.spare b left.0 ws left.1 (subst (λ (n : Machine). HaveDied m left.0.first left.0.objects.count n) whole d)
     (subst (λ (w : Stacked). (k : Meaning) → is_nothing (ready_work (todo_of k w.now)) ≡ false → ready_work (todo_of k ws) ≡ ready_work (todo_of k w.now))
-    works goes)))
+    works goes) world meaning st on h))
+
+over_answers : (m mid n : Machine) (b : Bor Block) (r : Result (Option ℕ) Halt) → LeavesBlock m b.now.number mid → AnswersEnd mid n r →
+    (world : World) (meaning : Option ℕ → Meaning) (st : State) → is_nothing (ready_work (todo_of (meaning m.top.function) m.work.now)) ≡ true →
+    HasTaken world meaning (taking.Leave b) m st → Answers world meaning r n (step world st Control)
+over_answers m mid n b r left ends world meaning st over h =
+    let whole = left_whole m mid b left in
+    over_so m mid.memory.objects mid.items mid.spare b left.0 n r left.1
+    (subst (λ (k : Machine). HaveDied m left.0.first left.0.objects.count k) whole left.2) (subst (λ (k : Machine). AnswersEnd k n r) whole ends)
+    world meaning st over h
 
 -- .. as the frame goes on
-wanted_so : (world : World) (meaning : Option ℕ → Meaning) (n : Machine) (o : Outcome) (e : Halt) → e ≡ halt.NoMemory → Answers world meaning (Err e) n o
-wanted_so world meaning n o e is = subst (λ (h : Halt). Answers world meaning (Err h) n o) (sym is) tt
-
 went_on : (m mid n : Machine) (b : Bor Block) (r : Result (Option ℕ) Halt) → LeavesBlock m b.now.number mid →
     ((k : Meaning) → is_nothing (ready_work (todo_of k mid.work.now)) ≡ false → GoesStill mid n r) →
     OnOk r ((k : Meaning) → GoesOn k mid.work n.work) → (k : Meaning) → is_nothing (ready_work (todo_of k mid.work.now)) ≡ false →
-    AnswersStep (taking.Leave b) m n r
-went_on m mid n b (Err e) left still goes k on = λ world meaning st h. wanted_so world meaning n (step world st Control) e (still k on)
-went_on m mid n b (Ok status) left still goes k on =
-    let so = still k on in
-    subst (λ (t : Option ℕ). AnswersStep (taking.Leave b) m n (Ok t)) (sym so.0)
-    (subst (λ (x : Machine). AnswersStep (taking.Leave b) m x (Ok None)) (sym so.1)
-    (left_answers m mid b n.work.below n.work.now left ((goes k).on on).0 (λ j e. ((goes j).on e).1)))
+    (world : World) (meaning : Option ℕ → Meaning) (st : State) → is_nothing (ready_work (todo_of (meaning m.top.function) m.work.now)) ≡ false →
+    HasTaken world meaning (taking.Leave b) m st → Answers world meaning r n (step world st Control)
+went_on m mid n b (Err e) left still goes k on world meaning st so h = wanted_so world meaning n (step world st Control) e (still k on)
+went_on m mid n b (Ok status) left still goes k on world meaning st so h =
+    let stays = still k on in
+    let o = step world st Control in
+    subst (λ (t : Option ℕ). Answers world meaning (Ok t) n o) (sym stays.0)
+    (subst (λ (x : Machine). Answers world meaning (Ok None) x o) (sym stays.1)
+    (left_answers m mid b n.work.below n.work.now left ((goes k).on on).0 (λ j e. ((goes j).on e).1) world meaning st so h))
+
+block_by : (over : Bool) (m mid n : Machine) (b : Bor Block) (r : Result (Option ℕ) Halt) → mid.work ≡ m.work → LeavesBlock m b.now.number mid →
+    ((k : Meaning) → is_nothing (ready_work (todo_of k mid.work.now)) ≡ false → GoesStill mid n r) →
+    OnOk r ((k : Meaning) → GoesOn k mid.work n.work) →
+    ((k : Meaning) → is_nothing (ready_work (todo_of k mid.work.now)) ≡ true → AnswersEnd mid n r) → (world : World) (meaning : Option ℕ → Meaning) (st : State) →
+    is_nothing (ready_work (todo_of (meaning m.top.function) m.work.now)) ≡ over → HasTaken world meaning (taking.Leave b) m st →
+    Answers world meaning r n (step world st Control)
+block_by true m mid n b r same left still goes ends world meaning st over h =
+    let mg = meaning m.top.function in
+    over_answers m mid n b r left (ends mg (subst (λ (w : Stacked). is_nothing (ready_work (todo_of mg w.now)) ≡ true) (sym same) over)) world meaning st over h
+block_by false m mid n b r same left still goes ends world meaning st on h =
+    let mg = meaning m.top.function in
+    went_on m mid n b r left still goes mg (subst (λ (w : Stacked). is_nothing (ready_work (todo_of mg w.now)) ≡ false) (sym same) on) world meaning st on h
 
 pub block_answers : (m mid n : Machine) (b : Bor Block) (s : Step) (r : Result (Option ℕ) Halt) → s ≡ taking.Leave b → mid.work ≡ m.work →
     LeavesBlock m b.now.number mid →
     ((k : Meaning) → is_nothing (ready_work (todo_of k mid.work.now)) ≡ false → GoesStill mid n r) →
-    OnOk r ((k : Meaning) → GoesOn k mid.work n.work) → AnswersStep s m n r
-block_answers m mid n b s r is same left still goes = by_step s (taking.Leave b) m n r is (λ world meaning st h.
-    let mg = meaning m.top.function in
-    went_on m mid n b r left still goes mg
-    (subst (λ (w : Stacked). is_nothing (ready_work (todo_of mg w.now)) ≡ false) (sym same) h.can.goes) world meaning st h)
+    OnOk r ((k : Meaning) → GoesOn k mid.work n.work) →
+    ((k : Meaning) → is_nothing (ready_work (todo_of k mid.work.now)) ≡ true → AnswersEnd mid n r) → AnswersStep s m n r
+block_answers m mid n b s r is same left still goes ends = by_step s (taking.Leave b) m n r is (λ world meaning st h.
+    block_by (is_nothing (ready_work (todo_of (meaning m.top.function) m.work.now))) m mid n b r same left still goes ends world meaning st refl h)
 
 -- where nothing is left to do nothing is said
 not_over : (over none : Bool) → over ≡ true → over ≡ none → none ≡ false → ⊥
@@ -342,3 +455,31 @@ pub over_still : (m n : Machine) (over : Bool) (r : Result (Option ℕ) Halt) �
     ((k : Meaning) → over ≡ is_nothing (ready_work (todo_of k m.work.now))) →
     (k : Meaning) → is_nothing (ready_work (todo_of k m.work.now)) ≡ false → GoesStill m n r
 over_still m n over r is same = λ k on. absurd (not_over over (is_nothing (ready_work (todo_of k m.work.now))) is (same k) on)
+
+-- .. and where something is, no frame ends
+nothing_ends : (over none : Bool) → over ≡ false → over ≡ none → none ≡ true → ⊥
+nothing_ends false false is same none = cc
+nothing_ends false true is same none = cc
+nothing_ends true none is same on = cc
+
+pub on_ends : (m n : Machine) (over : Bool) (r : Result (Option ℕ) Halt) → over ≡ false →
+    ((k : Meaning) → over ≡ is_nothing (ready_work (todo_of k m.work.now))) →
+    (k : Meaning) → is_nothing (ready_work (todo_of k m.work.now)) ≡ true → AnswersEnd m n r
+on_ends m n over r is same = λ k none. absurd (nothing_ends over (is_nothing (ready_work (todo_of k m.work.now))) is (same k) none)
+
+-- with ends of blocks and of `switch` statements taken off it is the same machine
+over_stands : (world : World) (meaning : Option ℕ → Meaning) (m : Machine) (below : List (List Work)) (ws : List Work) (st : State) →
+    below ≡ m.work.below → ready_work (todo_of (meaning m.top.function) ws) ≡ ready_work (todo_of (meaning m.top.function) m.work.now) → st.top.begun ≡ None →
+    Stands world meaning m st → Stands world meaning (record m { work = record { below = below; now = ws } }) st
+over_stands world meaning m below ws st under ready closed s =
+    subst (λ (bs : List (List Work)). Stands world meaning (record m { work = record { below = bs; now = ws } }) st) (sym under)
+    (left_stands world meaning m ws m.items m.spare st st.top.todo st.trace
+    (record { ready = ready ∙ s.frames.0.control.ready; behind = λ e. absurd (none_begun st.top.begun closed e) }) s)
+
+pub ends_over : (m n : Machine) (below : List (List Work)) (ws : List Work) (r : Result (Option ℕ) Halt) → below ≡ m.work.below →
+    ((k : Meaning) → ready_work (todo_of k ws) ≡ ready_work (todo_of k m.work.now)) →
+    AnswersEnd (record m { work = record { below = below; now = ws } }) n r → AnswersEnd m n r
+ends_over m n below ws (Err e) under ready ends = ends
+ends_over m n below ws (Ok status) under ready ends = λ world meaning st trace s within closed can items.
+    ends world meaning st trace (over_stands world meaning m below ws st under (ready (meaning m.top.function)) closed s) within closed
+    (record { result = can.result; function = can.function; rooms = can.rooms; room = can.room }) items

@@ -7,7 +7,7 @@ use Rattle.c_typed.specs.declared.tree.Place.{Place}
 use Rattle.mem_spec.specs.Store.{Store}
 use Rattle.mem_spec.specs.Script.{Act, Done, run}
 use Rattle.c_model.specs.Control.{Todo, Work, ready_work, out_of, on_with, leaves}
-use Rattle.c_model.specs.Moves.{Move, Stay}
+use Rattle.c_model.specs.Moves.{Move, End, Stay}
 use Rattle.c_model.specs.Steps.{Pick as Model_pick, Begun, Local, Scene, Control, control_act, control_move, control_next, does, move, next}
 use Rattle.c_model.specs.Values.{Value, Nothing}
 use Rattle.c_model.specs.World.{World}
@@ -17,6 +17,7 @@ use Rattle.c_model.specs.Runs.{
   Running,
   State,
   acted,
+  back,
   block_passes,
   depth_of,
   enter_passes,
@@ -58,6 +59,7 @@ use Rattle.run_machine.specs.Answering.{
   as_before,
   step_of_move,
 }
+use Rattle.run_machine.specs.Ending.{CanEnd, is_last}
 use Rattle.run_machine.specs.Picks.{Follows, FollowsIn, IsPick, IsStep, top_of}
 use Rattle.run_machine.proofs.Still.{depth_same, items_stand, left_stands}
 
@@ -106,6 +108,18 @@ module _ (world : World) (st : State) (w : Work) (rest : Todo) where
       ∙ ap (acted world st Control) (ap (λ (k : _). run world.rows k st.store) (does_so closed ready) ∙ runs)
       ∙ ap (limited world.limits) (moved_so v is s closed ready stays)
       ∙ ap (λ (l : Option _). within l (Running (after_step is s))) limits
+
+  -- .. and the frame ends
+  pub control_ends : (v : Value) (is : List Item) (s : Store) → st.top.begun ≡ None → ready_work st.top.todo ≡ w ∷ rest →
+      block_passes world.limits st.store (w ∷ rest) ≡ None → run world.rows (control_act world st.top (w ∷ rest)) st.store ≡ Done v is s →
+      control_move world (w ∷ rest) ≡ End →
+      step world st Control ≡ limited world.limits (back world st.held v s (entry_of world st.top Control is ∷ st.trace))
+  control_ends v is s closed ready passes runs ends =
+      ap (λ (l : Option _). within l (acted world st Control (run world.rows (does world st.top st.top.begun Control) st.store)))
+      (passes_none closed ready passes)
+      ∙ ap (acted world st Control) (ap (λ (k : _). run world.rows k st.store) (does_so closed ready) ∙ runs)
+      ∙ ap (λ (k : Move Local). limited world.limits (moved world st Control k v s (entry_of world st.top Control is ∷ st.trace)))
+      (moves_so closed ready ∙ ends)
 
 -- ---- the machine
 -- a step that changes nothing but what is left to do
@@ -183,6 +197,9 @@ before_stands : (world : World) (meaning : Option ℕ → Meaning) (m : Machine)
 before_stands world meaning m below now st same s =
     subst (λ (bs : List (List Kept_work)). Stands world meaning (with_work m bs m.work.now) st) (sym same) s
 
+ends_as : (m : Machine) (below : List (List Kept_work)) (now : List Kept_work) (st : State) → CanEnd m st → CanEnd (with_work m below now) st
+ends_as m below now st c = record { result = c.result; function = c.function; rooms = c.rooms; room = c.room }
+
 pub control_answers : (r : Result (Option ℕ) Halt) (o : Option Step) (s : Step) (m : Machine) (below : List (List Kept_work)) (now : List Kept_work)
     (n : Machine) → o ≡ Some s → below ≡ m.work.below → ((k : Meaning) → readied k o (todo_of k now) ≡ ready_work (todo_of k m.work.now)) →
     AnswersStep s (with_work m below now) n r → AnswersControl m n r
@@ -197,6 +214,7 @@ control_answers r o s m below now n is same ready does = λ world meaning st sta
       closed = goes.closed;
       can = subst (λ (t : Todo). CanTake world m.code.now m.jumps m.top st t) (sym (next ∙ stands.frames.0.control.ready)) goes.can;
       items = items;
+      ends = λ e. ends_as m below now st (goes.ends (sym (ap is_last (next ∙ stands.frames.0.control.ready)) ∙ e));
     })
 
 -- where the definitions have no full expression open, the machine has none
@@ -247,7 +265,14 @@ cleared_stands world meaning m n is st same s =
 
 cleared_goes : (world : World) (m n : Machine) (is : List Item) (st : State) → n ≡ m → MayGoOn world m st → MayGoOn world (record n { items = is }) st
 cleared_goes world m n is st same goes =
-    subst (λ (k : Machine). MayGoOn world (record k { items = is }) st) (sym same) (record { within = goes.within; closed = goes.closed; can = goes.can })
+    subst (λ (k : Machine). MayGoOn world (record k { items = is }) st) (sym same) (record {
+      within = goes.within;
+      closed = goes.closed;
+      can = goes.can;
+      ends = λ e.
+          let c = goes.ends e in
+          record { result = c.result; function = c.function; rooms = c.rooms; room = c.room };
+    })
 
 pub step_told : (m n k : Machine) (next : Option (Bor Due)) (is : List Item) (r : Result Pick Halt) → Follows m n next → is ≡ [] →
     TakesControl (record n { items = is }) k r → AnswersCanonical m k r

@@ -14,7 +14,7 @@ use Rattle.run_control.specs.declared.work.Step.TheVariants as taking
 use Rattle.run_control.specs.declared.moves.Move.{Move}
 use Rattle.run_control.specs.declared.moves.Move.TheVariants.{Out, On, Back}
 use Rattle.run_control.specs.declared.work.Work.{Work}
-use Rattle.run_control.specs.View.{Meaning, is_nothing, step_of, todo_of}
+use Rattle.run_control.specs.View.{Meaning, step_of, todo_of}
 use Rattle.run_code.specs.declared.steps.BlockCode.{BlockCode}
 use Rattle.run_code.specs.declared.steps.FunctionCode.{FunctionCode}
 use Rattle.run_code.specs.declared.whole.Code.{Code}
@@ -28,6 +28,7 @@ use Rattle.run_state.specs.Stands.{Stands}
 use Rattle.run_machine.specs.Beginning.{CanBegin}
 use Rattle.run_machine.specs.declared.pick.Pick.{Pick}
 use Rattle.run_machine.specs.declared.pick.Pick.TheVariants as pick
+use Rattle.run_machine.specs.Ending.{CanEnd, is_last}
 
 -- 1. What a step comes to.
 
@@ -84,7 +85,7 @@ IsDeclared code o d (b ∷ bs) =
     (c : BlockCode) → slice_get code.tables.blocks.items (o.blocks + b.0) ≡ Some c
     → (o.blocks + b.0 < 2 ^ 32) × (d < c.objects.count) × (c.first + d < 2 ^ 32) × (o.locals + (c.first + d) < 2 ^ 64)
 
--- The leave of a block behind which the frame, a function's, goes on: the blocks that are open are those that what is left to do leaves; and the code has as
+-- The leave of a block in a function's frame: the blocks that are open are those that what is left to do leaves; and the code has as
 -- many objects of the block as the definitions, with numbers below 2^32, and places of objects below 2^64.
 pub record HasObjects (o : Open) (b : ℕ) (c : BlockCode) (ds : List Decl) : Type 0 where
   pub block : o.blocks + b < 2 ^ 32
@@ -92,13 +93,12 @@ pub record HasObjects (o : Open) (b : ℕ) (c : BlockCode) (ds : List Decl) : Ty
   pub within : (k : ℕ) → k < c.objects.count → (c.first + k < 2 ^ 32) × (o.locals + (c.first + k) < 2 ^ 64)
 
 pub record IsLeft (code : Code) (o : Open) (st : State) (b : ℕ) (ds : List Decl) (rest : Todo) : Type 0 where
-  pub goes : is_nothing (ready_work rest) ≡ false
   pub function : is_some o.function ≡ true
   pub closes : Closes (ready_work st.top.todo) (map (λ k. k.0) st.top.scene.blocks)
   pub objects : (c : BlockCode) → slice_get code.tables.blocks.items (o.blocks + b) ≡ Some c → HasObjects o b c ds
 
 -- What is asked of a machine, and of the state that it stands for, for the control step that comes next: nothing for `break`, `continue` and `return`, and
--- where nothing is done. Of steps that enter a block or end a frame nothing is said yet.
+-- where nothing is done. Of steps that enter a block nothing is said yet.
 abbrev pub CanTake : World → Code → Jumps → Open → State → Todo → Type 0
 CanTake world code jumps o st (Nothing_to_do ∷ rest) = Unit {0}
 CanTake world code jumps o st (Go_out ∷ rest) = Unit {0}
@@ -110,11 +110,13 @@ CanTake world code jumps o st (Leave b ds ∷ rest) = IsLeft code o st b ds rest
 CanTake world code jumps o st (Begin e what ∷ rest) = CanBegin world code o st e
 CanTake world code jumps o st _ = ⊥
 
--- The state is within the limits, no full expression is open in its top frame, and the machine can take its next control step.
+-- The state is within the limits, no full expression is open in its top frame, and the machine can take its next control step; where the frame ends with
+-- it, the machine can end it.
 pub record MayGoOn (world : World) (m : Machine) (st : State) : Type 0 where
   pub within : IsWithin world st
   pub closed : st.top.begun ≡ None
   pub can : CanTake world m.code.now m.jumps m.top st (ready_work st.top.todo)
+  pub ends : is_last (ready_work st.top.todo) ≡ true → CanEnd m st
 
 -- a control step from a machine that has touched nothing yet
 abbrev pub AnswersControl : (old new : Machine) → Result (Option ℕ) Halt → Type 0
@@ -152,6 +154,7 @@ pub record HasTaken (world : World) (meaning : Option ℕ → Meaning) (s : Step
   pub closed : st.top.begun ≡ None
   pub can : CanTake world m.code.now m.jumps m.top st (step_of (meaning m.top.function) s ∷ todo_of (meaning m.top.function) m.work.now)
   pub items : m.items ≡ []
+  pub ends : is_last (step_of (meaning m.top.function) s ∷ todo_of (meaning m.top.function) m.work.now) ≡ true → CanEnd m st
 
 abbrev pub AnswersStep : Step → (old new : Machine) → Result (Option ℕ) Halt → Type 0
 AnswersStep s old new result =

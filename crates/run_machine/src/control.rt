@@ -1,5 +1,5 @@
 // The control steps (6.8).
-ghost use Rattle.std.specs.Prelude.{◌≡◌, ◌∷◌, ◌+◌, ◌-◌, ◌^◌, false, min, ℤ, Bool, Option, None, Some, slice_get, IfOk, OnOk};
+ghost use Rattle.std.specs.Prelude.{◌≡◌, ◌∷◌, ◌+◌, ◌-◌, ◌^◌, true, false, min, ℤ, Bool, Option, None, Some, slice_get, IfOk, OnOk};
 ghost use Rattle.run_control.specs.Moves.{moved};
 ghost use Rattle.c_model.specs.Control.{Break_here, moved_in, ready_work};
 ghost use Rattle.run_control.specs.declared.links.Place.{Place};
@@ -8,6 +8,7 @@ ghost use Rattle.run_control.specs.Links.{work_at};
 ghost use Rattle.run_control.specs.View.{Meaning, after, is_nothing, todo_of};
 ghost use Rattle.run_machine.specs.Answering.{AnswersControl, AnswersStep, step_of_move};
 ghost use Rattle.run_machine.specs.Beginning.{HasShown};
+ghost use Rattle.run_machine.specs.Ended.{AnswersEnd};
 ghost use Rattle.run_machine.specs.Leaving.{GoesStill, LeavesBlock};
 ghost use Rattle.run_machine.specs.Moving.{GoesOn, IsGone, StepLeaves, TakesStep};
 
@@ -65,6 +66,7 @@ fn take_step<'c>(machine: &mut Machine<'_, 'c>, step: Step<'c>) -> Result<Option
 fn go_on(machine: &mut Machine) -> Result<Option<u8>, Halt>
     ensures goes { OnOk result ((m : Meaning) → GoesOn m machine.old.work machine.new.work) }
     ensures still { (m : Meaning) → is_nothing (ready_work (todo_of m machine.old.work.now)) ≡ false → GoesStill machine.old machine.new result }
+    ensures ends { (m : Meaning) → is_nothing (ready_work (todo_of m machine.old.work.now)) ≡ true → AnswersEnd machine.old machine.new result }
 {
     if machine.work.is_over()? {
         end_frame(machine)

@@ -1,6 +1,7 @@
 // An event of a full expression is taken.
-ghost use Rattle.std.specs.Prelude.{◌≡◌, IfOk};
+ghost use Rattle.std.specs.Prelude.{◌≡◌, IfOk, OnOk};
 ghost use Rattle.run_code.specs.Named.{IsDueOf};
+ghost use Rattle.run_machine.specs.Ending.{Notes};
 ghost use Rattle.run_machine.specs.Picks.{event_at, IsOfEvent};
 
 use crate::pick::Pick;
@@ -51,7 +52,8 @@ pub fn take_event(machine: &mut Machine, due: &Due) -> Result<Pick, Halt>
 
 // An event of the top frame's full expression is done. On the canonical way the cursor says so.
 pub fn note(machine: &mut Machine, place: Place) -> Result<(), NoMemory>
-    ensures { machine.new.work ≡ machine.old.work }
+    ensures work { machine.new.work ≡ machine.old.work }
+    ensures notes { OnOk result (Notes machine.old place machine.new) }
 {
     let Some(stage) = machine.top.stage else {
         return Err(NoMemory);

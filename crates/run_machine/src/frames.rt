@@ -1,11 +1,14 @@
 // Frames end.
-ghost use Rattle.std.specs.Prelude.{◌≡◌, [], true, OnOk};
+ghost use Rattle.std.specs.Prelude.{◌≡◌, [], true, None, OnOk};
 ghost use Rattle.run_control.specs.Stacked.{Closes};
+ghost use Rattle.run_machine.specs.Ended.{AnswersEnd};
+ghost use Rattle.run_machine.specs.Ending.{EndsFrame, HasGiven, LeavesValue, depth_without};
 
 use crate::events::note;
 use c_typed::Place;
 use prov_memory::Value;
 use run_acts::{exit_status, left};
+use run_listing::law_cursor;
 use run_state::{Halt, Machine};
 use ub_base::Kind;
 
@@ -14,6 +17,16 @@ use ub_base::Kind;
 pub fn end_frame(machine: &mut Machine) -> Result<Option<u8>, Halt>
     requires over { machine.old.work.now ≡ [] }
     ensures work { OnOk result (Closes machine.old.work.below true machine.new.work) }
+    ensures answers { AnswersEnd machine.old machine.new result }
+{
+    law_cursor();
+    close_frame(machine)
+}
+
+fn close_frame(machine: &mut Machine) -> Result<Option<u8>, Halt>
+    requires over { machine.old.work.now ≡ [] }
+    ensures work { OnOk result (Closes machine.old.work.below true machine.new.work) }
+    ensures ends { EndsFrame machine.old machine.new result }
 {
     if !machine.work.finish() {
         return Err(Halt::NoMemory);
@@ -37,14 +50,22 @@ pub fn end_frame(machine: &mut Machine) -> Result<Option<u8>, Halt>
 
 // What the top frame leaves.
 fn result_of(machine: &mut Machine) -> Value
-    ensures { machine.new.work ≡ machine.old.work }
+    ensures { HasGiven machine.old result machine.new }
 {
-    let otherwise = match machine.top.function {
+    let otherwise = left_without(machine);
+    machine.left.take().unwrap_or(otherwise)
+}
+
+// What it leaves where it has no result. A function that ends isn't open any more.
+fn left_without(machine: &mut Machine) -> Value
+    ensures rest { machine.new ≡ record machine.old { depth = depth_without machine.old.top.function machine.old.depth } }
+    ensures value { LeavesValue machine.old.program.now machine.old.top.function None result }
+{
+    match machine.top.function {
         Some(function) => {
             machine.depth = machine.depth.saturating_sub(1);
             left(machine.program, function)
         }
         None => Value::Nothing,
-    };
-    machine.left.take().unwrap_or(otherwise)
+    }
 }

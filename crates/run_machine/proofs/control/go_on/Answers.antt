@@ -1,5 +1,5 @@
-use Rattle.std.proofs.Common.{sym, ◌∙◌, refl}
-use Rattle.run_machine.proofs.Left.{over_still}
+use Rattle.std.proofs.Common.{sym, ◌∙◌, refl, None, Ok}
+use Rattle.run_machine.proofs.Left.{ends_over, on_ends, over_still}
 use Rattle.run_machine.proofs.Steering.{frame_ends, goes_further}
 use Rattle.run_machine.proofs.control.go_on.Goals as goal
 
@@ -9,6 +9,9 @@ returns-then-branch c = record {
       c.in_ok-is_over.ensures.over c.in_ok-is_over.ensures.below c.end_frame.ensures.work;
   still = over_still c.args.machine.now c.end_frame.new.machine c.in_ok-is_over.field-0 c.end_frame.result c.if-branch.true
       c.in_ok-is_over.ensures.over;
+  ends = λ m none.
+      ends_over c.args.machine.now c.end_frame.new.machine c.is_over.new.self.below c.is_over.new.self.now c.end_frame.result c.in_ok-is_over.ensures.below
+      c.in_ok-is_over.ensures.now c.end_frame.ensures.answers;
 }
 
 pub returns-else-branch : goal.returns-else-branch
@@ -17,4 +20,5 @@ returns-else-branch c = record {
       goes_further m c.args.machine.now.work c.is_over.new.self (sym (c.in_ok-is_over.ensures.over m) ∙ c.if-branch.false) c.in_ok-is_over.ensures.below
       (c.in_ok-is_over.ensures.now m);
   still = λ m on. (refl, refl);
+  ends = on_ends c.args.machine.now _ c.in_ok-is_over.field-0 (Ok None) c.if-branch.false c.in_ok-is_over.ensures.over;
 }

@@ -18,7 +18,7 @@ returns-in_ok-leave-in-Leave c = record {
   leaves = block_left c.go_on.result c.args.machine.now.jumps.links.items c.args.step c.in-Leave.block c.args.machine.now.work c.leave.new.machine.work
       c.go_on.new.machine.work c.in-Leave.is c.leave.ensures.work c.go_on.ensures.goes;
   answers = block_answers c.args.machine.now c.leave.new.machine c.go_on.new.machine c.in-Leave.block c.args.step c.go_on.result c.in-Leave.is
-      c.leave.ensures.work c.in_ok-leave-in-Leave.ensures.lives c.go_on.ensures.still c.go_on.ensures.goes;
+      c.leave.ensures.work c.in_ok-leave-in-Leave.ensures.lives c.go_on.ensures.still c.go_on.ensures.goes c.go_on.ensures.ends;
 }
 
 pub returns-in-Unwrite-clause-answers : goal.returns-in-Unwrite-clause-answers

@@ -1,0 +1,7 @@
+use Rattle.run_machine.proofs.Returning.{end_answers}
+use Rattle.run_machine.proofs.frames.end_frame.Goals as goal
+
+pub returns-clause-answers : goal.returns-clause-answers
+returns-clause-answers c =
+    end_answers c.law_cursor.ensures.ends c.args.machine.now c.close_frame.new.machine c.close_frame.result c.close_frame.ensures.ends
+    c.close_frame.ensures.work
