@@ -229,7 +229,7 @@ pub top_closed : (world : World) (meaning : Option ℕ → Meaning) (m : Machine
 top_closed world meaning m st s closed =
     none_open world (meaning m.top.function) m (length (reverse m.below.items)) m.top st.top.scene m.top.stage st.top.begun None s.frames.0.begun closed
 
-not_both : {A : Type 0} (o : Option A) (x : A) → o ≡ None → o ≡ Some x → ⊥
+pub not_both : {A : Type 0} (o : Option A) (x : A) → o ≡ None → o ≡ Some x → ⊥
 not_both None x none some = cc
 not_both (Some y) x none some = cc
 
