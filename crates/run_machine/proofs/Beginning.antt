@@ -43,7 +43,6 @@ use Rattle.c_typed.specs.declared.tree.Place.{Place}
 use Rattle.c_typed.specs.declared.tree.Typed.{Typed}
 use Rattle.c_typed.specs.Order.{place, is_due}
 use Rattle.c_typed.specs.Tree as typed
-use Rattle.elaborate.specs.Formed.{is_formed}
 use Rattle.prov_memory.specs.Memory.{Kept}
 use Rattle.prov_memory.specs.declared.value.Value.{Value as Kept_value}
 use Rattle.c_model.specs.Control as todo
@@ -61,6 +60,7 @@ use Rattle.run_control.specs.declared.work.Use.{Use}
 use Rattle.run_control.specs.declared.work.Work.{Work}
 use Rattle.run_control.specs.View.{Meaning, todo_of, use_of}
 use Rattle.run_code.specs.declared.steps.Expression.{Expression}
+use Rattle.run_code.specs.declared.steps.Listed.{Listed}
 use Rattle.run_code.specs.declared.whole.Code.{Code}
 use Rattle.run_code.specs.Chosen.{Views, with_chosen, where_due}
 use Rattle.run_code.specs.InRange.{part_of}
@@ -218,14 +218,15 @@ where_is false o e = absurd (cc)
 
 module _ (world : World) (f : Scene) (code : Code) (number : ℕ) (laid : Expression) (e : Begun) where
   pub taken_first : KeepsAtBegin → (choices : List (Option ℕ)) → slice_get code.expressions.items number ≡ Some laid →
-      ((firsts : List ℕ) → Views world f firsts 0 laid.root.now e.root) → is_formed (tree_of e.root) ≡ true → ((u : Place) → e.given u ≡ None) →
+      ((firsts : List ℕ) → Views world f firsts 0 laid.root.now e.root) → (entries : List Listed) → IsListingOf entries (tree_of e.root) →
+      ((u : Place) → e.given u ≡ None) →
       ((n : ℕ) → taken_in choices n ≡ with_chosen (part_of code.tables.chosen.items laid.chosen) (taken_in []) n) →
       (n : ℕ) → is_due (tree_of e.root) (taken_by world f e) (place n Val) ≡ true → taken_in choices n ≡ taken_by world f e n
-  taken_first keeps choices at views formed none made n due =
+  taken_first keeps choices at views entries listing none made n due =
       let P : Type 0 = taken_in choices n ≡ taken_by world f e n in
       let cs = part_of code.tables.chosen.items laid.chosen in
       let by : IsLaidOut code.tables code.listing.items laid → P = λ l.
-          let kept = keeps world f l.0 l.1 code.tables code.listing.items laid e l.2 (views l.0) formed none in
+          let kept = keeps world f l.0 l.1 code.tables code.listing.items laid e l.2 (views l.0) listing.formed none in
           let start : taken_in [] ≡ (λ k. None) = (λ i k. none_taken k i) in
           made n ∙ ap (λ t. with_chosen cs t n) start ∙ kept.chosen n
           ∙ where_is (is_due (tree_of e.root) (taken_by world f e) (place n Val)) (taken_by world f e n) due in
@@ -262,11 +263,11 @@ pub record HasBegun (m n : Machine) (turn number : ℕ) (how : Use) (laid : Expr
 some_given : {A : Type 0} (P : Type 0) (o : Option A) (x : A) → o ≡ None → o ≡ Some x → P
 some_given P o x none some = absurd (not_both o x none some)
 
-locals_turned : (world : World) (m n : Machine) (turn number : ℕ) (how : Use) (laid : Expression) (f : Scene) (bs : List (ℕ × ℕ)) →
-    StandLocals world m m.top f bs →
+locals_turned : (world : World) (m n : Machine) (before : List Work) (turn number : ℕ) (how : Use) (laid : Expression) (f : Scene) (bs : List (ℕ × ℕ)) →
+    StandLocals world (as_before m before) m.top f bs →
     StandLocals world (begun_in m n (begun_open m.top turn number how laid)) (begun_open m.top turn number how laid) (next_turn f) bs
-locals_turned world m n turn number how laid f [] l = tt
-locals_turned world m n turn number how laid f (b ∷ bs) l = (l.0, locals_turned world m n turn number how laid f bs l.1)
+locals_turned world m n before turn number how laid f [] l = tt
+locals_turned world m n before turn number how laid f (b ∷ bs) l = (l.0, locals_turned world m n before turn number how laid f bs l.1)
 
 module _ (trees : TreesAreKept) (begins : StandsAtBegin) (keeps : KeepsAtBegin) where
   module _ (world : World) (meaning : Option ℕ → Meaning) (m n : Machine) (turn number : ℕ) (how : Use) (laid : Expression) (st : State)
@@ -280,6 +281,9 @@ module _ (trees : TreesAreKept) (begins : StandsAtBegin) (keeps : KeepsAtBegin) 
 
     abbrev gone : Machine
     gone = begun_in m n opened
+
+    kept_before : KeepsRooms (as_before m before) n (length m.below.items)
+    kept_before = record { values = b.keeps.values; shown = b.keeps.shown }
 
     abbrev f : Local
     f = begin st.top (mg.root number) (use_of mg how) (todo_of mg m.work.now)
@@ -319,7 +323,7 @@ module _ (trees : TreesAreKept) (begins : StandsAtBegin) (keeps : KeepsAtBegin) 
       tree = refl;
       tree_root = refl;
       taken = taken_first world f.scene m.code.now number laid e keeps there.0 b.at
-          (λ firsts. can.known number laid firsts b.at (sym rooted)) listed.formed (λ u. refl) there.2;
+          (λ firsts. can.known number laid firsts b.at (sym rooted)) _ listed (λ u. refl) there.2;
       done = begins world f.scene m.code.now.listing.items laid.first laid.end e ordered listed (λ u. refl);
       values = record {
         val = λ k v given. some_given (Holds m.memory n.values.items (m.top.base + k) v) None v refl given;
@@ -335,8 +339,8 @@ module _ (trees : TreesAreKept) (begins : StandsAtBegin) (keeps : KeepsAtBegin) 
           number = frame.number;
           turn = turn_after m.top.turn st.top.scene.turn turn can.turn b.turned frame.turn;
           function = frame.function;
-          arguments = held_roomed world (as_before m before) n (length m.below.items) b.keeps m.top.base st.top.arguments frame.arguments;
-          locals = locals_turned world m n turn number how laid st.top.scene st.top.scene.blocks frame.locals;
+          arguments = held_roomed world (as_before m before) n (length m.below.items) kept_before m.top.base st.top.arguments frame.arguments;
+          locals = locals_turned world m n before turn number how laid st.top.scene st.top.scene.blocks frame.locals;
           result = frame.result;
           control = record { ready = refl; behind = λ is. refl };
           begun = subst (λ (h : ℕ). StandsExpression world mg gone h opened
@@ -360,7 +364,7 @@ module _ (trees : TreesAreKept) (begins : StandsAtBegin) (keeps : KeepsAtBegin) 
                 (record { base = refl; node = refl; function = refl; locals = refl; above = refl; first_block = refl })
                 (record { path = refl; home = refl; blocks = refl }) s.frames.1,
             frames_aside world meaning (with_rooms there n) gone None (reverse m.below.items) m.work.below (map (λ h. (h.0, Some h.1)) st.held)
-                (frames_roomed world there n (length m.below.items) b.keeps meaning None (reverse m.below.items) m.work.below
+                (frames_roomed world there n (length m.below.items) kept_before meaning None (reverse m.below.items) m.work.below
                 (map (λ h. (h.0, Some h.1)) st.held) fits s.frames.2),
           );
           depth = s.depth ∙ sym (depth_same st.top f st.held refl);
