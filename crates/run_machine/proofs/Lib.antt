@@ -1,5 +1,8 @@
+mod Births
+mod Entered
 mod Given
 mod Going
+mod Growing
 mod Leaving
 mod Left
 mod Lives

@@ -3,4 +3,5 @@ pub mod Moving
 pub mod Answering
 pub mod Leaving
 pub mod Ending
+pub mod Entering
 pub mod Ended
