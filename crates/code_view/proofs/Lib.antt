@@ -5,3 +5,4 @@ mod Listed
 mod Sited
 mod Whole
 mod Formed
+mod Starting

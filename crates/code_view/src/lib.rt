@@ -4,6 +4,7 @@
 #![tactic(auto)]
 
 ghost use Rattle.code_view.specs.Laws.{RootsStand, BodiesStand, SwitchesStand, TreesFit, TreesAreFormed, LawfulCodeStands};
+ghost use Rattle.code_view.specs.Starting.{LawfulStartStands};
 
 /// The number of a full expression in the code stands for the expression of its typed tree.
 pub fn law_code_roots()
@@ -31,4 +32,10 @@ pub fn law_code_formed()
 /// statements, the bodies of functions, stores and constants.
 pub fn law_code()
     ensures { LawfulCodeStands }
+{}
+
+/// The machine that run_state prepares of a lawful program, over the code of the terms of its trees, stands for the state that the definitions of
+/// runs start from (5.1.2.2.1).
+pub fn law_start()
+    ensures { LawfulStartStands }
 {}

@@ -1,4 +1,8 @@
 pub mod Depth
 pub mod Faults
 pub mod Acts
+pub mod Performs
 pub mod Nodes
+pub mod Takes
+pub mod Choices
+pub mod Ways

@@ -1,6 +1,20 @@
 // The acts of events.
-ghost use Rattle.std.specs.Prelude.{◌≡◌, ◌<◌, length};
+ghost use Rattle.std.specs.Prelude.{◌≡◌, ◌≢◌, ◌+◌, ◌<◌, ℕ, true, false, not, List, length, slice_get, Some, IfOk};
+ghost use Rattle.addr_map.specs.declared.map.Row.{Row};
+ghost use Rattle.c_model.specs.Nodes.{bool_value};
+ghost use Rattle.c_model.specs.Values as model;
+ghost use Rattle.prov_memory.specs.Made.{IsMade};
+ghost use Rattle.prov_memory.specs.Keeps.{Keeps};
+ghost use Rattle.prov_memory.specs.Memory.{Kept};
+ghost use Rattle.prov_memory.specs.Sound.{IsSound};
+ghost use Rattle.run_acts.specs.Kept.{IsOf};
+ghost use Rattle.run_acts.specs.Views.{value_in, pointer_at};
 ghost use Rattle.run_code.specs.Named.{IsNamed};
+ghost use Rattle.run_code.specs.declared.steps.Act.TheVariants as acts;
+ghost use Rattle.run_code.specs.declared.steps.Operand.TheVariants as operands;
+ghost use Rattle.run_state.specs.Stands.{StandsTables};
+ghost use Rattle.run_events.specs.Acts.{either_truth, filled_from, given_by, stored_by, is_body_act, AreGiven, IsGiven};
+ghost use Rattle.run_events.specs.Performs.{gives_value, is_pointer_act, CanAct, CanPerform, CanPut, ChangesOnly, Does, Effects, Performs, Puts, TouchesMemory, TouchesSpare};
 
 use crate::fault::Fault;
 use crate::frames::{call, initialize};
@@ -8,12 +22,12 @@ use c_typed::{Access, Change, Conversion, EqOp, RelOp, UnOp};
 use c_types::{BinOp, IntKind, Ty};
 use prov_memory::{Value, Via};
 use run_acts::{
-    Pointer, answer, as_function, binary, changed, convert, distance, equal, fill, load, member,
-    moved, part, related, store, unary,
+    Filling, Pointer, answer, as_function, binary, changed, convert, distance, equal, fill, load,
+    member, moved, part, related, store, unary,
 };
 use run_code::{Act, Operand, StoreCode};
 use run_state::Machine;
-use ub_base::{Clause, Event, NoMemory};
+use ub_base::{Clause, Event, Items, NoMemory};
 
 /// What an event came to.
 #[derive(Clone, Copy, Debug, PartialEq, Eq)]
@@ -26,13 +40,18 @@ pub enum Outcome {
     End(u8),
 }
 
-fn number(value: bool) -> Value {
+fn number(value: bool) -> Value
+    ensures seen { (m : Kept) → value_in m result ≡ bool_value value }
+    ensures made { (m : Kept) → IsOf m result }
+{
     Value::Int(i128::from(value))
 }
 
 /// Does the act of an event of the top frame's full expression: it touches what the pick touches, and a value goes to the room of the node.
 pub fn perform(machine: &mut Machine, act: &Act, event: Event) -> Result<Outcome, Fault>
     requires named { IsNamed machine.old.code.now.tables act.now }
+    ensures exact { (rows : List Row) → CanPerform rows machine.old → AreGiven machine.old event act.now → is_body_act act.now ≡ false → Performs rows machine.old machine.new event act.now result }
+    ensures changes { is_body_act act.now ≡ false → ChangesOnly machine.old machine.new event.node act.now }
 {
     match *act {
         Act::Store {
@@ -43,11 +62,7 @@ pub fn perform(machine: &mut Machine, act: &Act, event: Event) -> Result<Outcome
         Act::Fill { object, constants } => fill_list(machine, object, constants),
         Act::Call(number) => call_of(machine, number, event),
         Act::Initialize(number) => initialize(machine, number, event),
-        _ => {
-            let value = value_act(machine, act, event)?;
-            machine.keep(event.node, value);
-            Ok(Outcome::Done)
-        }
+        _ => value_act(machine, act, event),
     }
 }
 
@@ -60,24 +75,24 @@ fn call_of(machine: &mut Machine, number: u32, event: Event) -> Result<Outcome, 
     call(machine, &code.tables.calls[number as usize], event)
 }
 
-// The value that an act gives. What a function keeps on the stack is set to zero as it begins: so each act stands in one of its own,
-// which isn't inlined.
-fn value_act(machine: &mut Machine, act: &Act, event: Event) -> Result<Value, Fault> {
+// An act that gives a value. What a function keeps on the stack is set to zero as it begins: so each act stands in one of its own,
+// which isn't inlined and puts the value into the room itself.
+fn value_act(machine: &mut Machine, act: &Act, event: Event) -> Result<Outcome, Fault>
+    ensures exact { CanAct machine.old → AreGiven machine.old event act.now → gives_value act.now ≡ true → Does machine.old machine.new event act.now result }
+    ensures changes { ChangesOnly machine.old machine.new event.node act.now }
+{
     match *act {
         Act::Load { access, ty, place } => loaded(machine, access, ty, place, event),
-        Act::Same(operand) => same(machine, operand),
-        Act::Binary(op, kind, left, right) => arithmetic(machine, op, kind, left, right),
+        Act::Same(operand) => same(machine, operand, event),
+        Act::Binary(op, kind, left, right) => arithmetic(machine, op, kind, left, right, event),
         Act::Convert(conversion, operand) => converted(machine, conversion, operand, event),
-        Act::Unary(op, operand) => unary_value(machine, op, operand),
+        Act::Unary(op, operand) => unary_value(machine, op, operand, event),
         Act::Logical {
             either,
             first,
             second,
-        } => Ok(number(logical(machine, either, first, second))),
-        Act::Selected { test, yes, no } => {
-            let taken = if machine.truth(test) { yes } else { no };
-            same(machine, taken)
-        }
+        } => logical(machine, either, first, second, event),
+        Act::Selected { test, yes, no } => selected(machine, test, yes, no, event),
         Act::Change {
             change,
             old,
@@ -86,13 +101,13 @@ fn value_act(machine: &mut Machine, act: &Act, event: Event) -> Result<Value, Fa
             operand,
             room,
         } => update(machine, change, old, ty, event, place, operand, room),
-        Act::Answer { discarded } => Ok(answer(machine.take(event.node), discarded)?),
+        Act::Answer { discarded } => answered(machine, discarded, event),
         Act::Part {
             offset,
             access,
             whole,
         } => part_of(machine, offset, access, whole, event),
-        _ => pointer_act(machine, act),
+        _ => pointer_act(machine, act, event),
     }
 }
 
@@ -103,27 +118,44 @@ fn loaded(
     ty: &Ty,
     place: Operand,
     event: Event,
-) -> Result<Value, Fault> {
+) -> Result<Outcome, Fault>
+    ensures exact { CanAct machine.old → AreGiven machine.old event (acts.Load access ty.entry place) → Does machine.old machine.new event (acts.Load access ty.entry place) result }
+    ensures changes { ChangesOnly machine.old machine.new event.node (acts.Load access ty.entry place) }
+{
     let place = machine.pointer(place);
     let t = &mut machine.items;
-    Ok(load(&mut machine.memory, access, ty, event, place, t)?)
+    let value = load(&mut machine.memory, access, ty, event, place, t)?;
+    machine.keep(event.node, value);
+    Ok(Outcome::Done)
 }
 
 #[inline(never)]
-fn same(machine: &Machine, operand: Operand) -> Result<Value, Fault> {
-    Ok(machine.value(operand)?)
+fn same(machine: &mut Machine, operand: Operand, event: Event) -> Result<Outcome, Fault>
+    ensures exact { CanAct machine.old → AreGiven machine.old event (acts.Same operand) → Does machine.old machine.new event (acts.Same operand) result }
+    ensures changes { ChangesOnly machine.old machine.new event.node (acts.Same operand) }
+{
+    let value = machine.value(operand)?;
+    machine.keep(event.node, value);
+    Ok(Outcome::Done)
 }
 
 #[inline(never)]
 fn arithmetic(
-    machine: &Machine,
+    machine: &mut Machine,
     op: BinOp,
     kind: IntKind,
     left: Operand,
     right: Operand,
-) -> Result<Value, Fault> {
-    let (left, right) = (machine.integer(left), machine.integer(right));
-    Ok(Value::Int(binary(op, kind, left, right)?))
+    event: Event,
+) -> Result<Outcome, Fault>
+    ensures exact { CanAct machine.old → AreGiven machine.old event (acts.Binary op kind left right) → Does machine.old machine.new event (acts.Binary op kind left right) result }
+    ensures changes { ChangesOnly machine.old machine.new event.node (acts.Binary op kind left right) }
+{
+    let left = machine.integer(left);
+    let right = machine.integer(right);
+    let number = binary(op, kind, left, right)?;
+    machine.keep(event.node, Value::Int(number));
+    Ok(Outcome::Done)
 }
 
 #[inline(never)]
@@ -132,37 +164,58 @@ fn converted(
     conversion: Conversion,
     operand: Operand,
     event: Event,
-) -> Result<Value, Fault> {
+) -> Result<Outcome, Fault>
+    ensures exact { CanAct machine.old → AreGiven machine.old event (acts.Convert conversion operand) → Does machine.old machine.new event (acts.Convert conversion operand) result }
+    ensures changes { ChangesOnly machine.old machine.new event.node (acts.Convert conversion operand) }
+{
     let operand = machine.value(operand)?;
     let t = &mut machine.items;
-    Ok(convert(&mut machine.memory, conversion, event, &operand, t)?)
+    let value = convert(&mut machine.memory, conversion, event, &operand, t)?;
+    machine.keep(event.node, value);
+    Ok(Outcome::Done)
 }
 
 #[inline(never)]
-fn unary_value(machine: &Machine, op: UnOp, operand: Operand) -> Result<Value, Fault> {
+fn unary_value(
+    machine: &mut Machine,
+    op: UnOp,
+    operand: Operand,
+    event: Event,
+) -> Result<Outcome, Fault>
+    ensures exact { CanAct machine.old → AreGiven machine.old event (acts.Unary op operand) → Does machine.old machine.new event (acts.Unary op operand) result }
+    ensures changes { ChangesOnly machine.old machine.new event.node (acts.Unary op operand) }
+{
     let operand = machine.value(operand)?;
-    Ok(unary(op, &operand)?)
+    let value = unary(op, &operand)?;
+    machine.keep(event.node, value);
+    Ok(Outcome::Done)
 }
 
 // The acts on pointers. Lists and isolated initializers have no value.
-fn pointer_act(machine: &mut Machine, act: &Act) -> Result<Value, Fault> {
+fn pointer_act(machine: &mut Machine, act: &Act, event: Event) -> Result<Outcome, Fault>
+    ensures exact { CanAct machine.old → AreGiven machine.old event act.now → is_pointer_act act.now ≡ true → Does machine.old machine.new event act.now result }
+    ensures changes { ChangesOnly machine.old machine.new event.node act.now }
+{
     match *act {
         Act::Move {
             size,
             subtract,
             pointer,
             index,
-        } => move_by(machine, size, subtract, pointer, index),
-        Act::Member { offset, pointer } => member_of(machine, offset, pointer),
-        Act::Distance { size, left, right } => distance_between(machine, size, left, right),
+        } => move_by(machine, size, subtract, pointer, index, event),
+        Act::Member { offset, pointer } => member_of(machine, offset, pointer, event),
+        Act::Distance { size, left, right } => distance_between(machine, size, left, right, event),
         Act::Related {
             op,
             pointers,
             left,
             right,
-        } => relation(machine, op, pointers, left, right),
-        Act::Equal(op, left, right) => equality(machine, op, left, right),
-        _ => Ok(Value::Nothing),
+        } => relation(machine, op, pointers, left, right, event),
+        Act::Equal(op, left, right) => equality(machine, op, left, right, event),
+        _ => {
+            machine.keep(event.node, Value::Nothing);
+            Ok(Outcome::Done)
+        }
     }
 }
 
@@ -173,20 +226,34 @@ fn move_by(
     subtract: bool,
     pointer: Operand,
     index: Operand,
-) -> Result<Value, Fault> {
+    event: Event,
+) -> Result<Outcome, Fault>
+    ensures exact { CanAct machine.old → AreGiven machine.old event (acts.Move size subtract pointer index) → Does machine.old machine.new event (acts.Move size subtract pointer index) result }
+    ensures changes { ChangesOnly machine.old machine.new event.node (acts.Move size subtract pointer index) }
+{
     let pointer = machine.pointer(pointer);
     let index = machine.integer(index);
     let t = &mut machine.items;
     let moved = moved(&mut machine.memory, pointer, size, subtract, index, t)?;
-    Ok(moved.value())
+    machine.keep(event.node, moved.value());
+    Ok(Outcome::Done)
 }
 
 #[inline(never)]
-fn member_of(machine: &mut Machine, offset: u64, pointer: Operand) -> Result<Value, Fault> {
+fn member_of(
+    machine: &mut Machine,
+    offset: u64,
+    pointer: Operand,
+    event: Event,
+) -> Result<Outcome, Fault>
+    ensures exact { CanAct machine.old → AreGiven machine.old event (acts.Member offset pointer) → Does machine.old machine.new event (acts.Member offset pointer) result }
+    ensures changes { ChangesOnly machine.old machine.new event.node (acts.Member offset pointer) }
+{
     let pointer = machine.pointer(pointer);
     let t = &mut machine.items;
     let member = member(&mut machine.memory, pointer, offset, t)?;
-    Ok(member.value())
+    machine.keep(event.node, member.value());
+    Ok(Outcome::Done)
 }
 
 #[inline(never)]
@@ -195,10 +262,17 @@ fn distance_between(
     size: u64,
     left: Operand,
     right: Operand,
-) -> Result<Value, Fault> {
-    let (left, right) = (machine.pointer(left), machine.pointer(right));
+    event: Event,
+) -> Result<Outcome, Fault>
+    ensures exact { CanAct machine.old → AreGiven machine.old event (acts.Distance size left right) → Does machine.old machine.new event (acts.Distance size left right) result }
+    ensures changes { ChangesOnly machine.old machine.new event.node (acts.Distance size left right) }
+{
+    let left = machine.pointer(left);
+    let right = machine.pointer(right);
     let t = &mut machine.items;
-    Ok(distance(&mut machine.memory, left, right, size, t)?)
+    let value = distance(&mut machine.memory, left, right, size, t)?;
+    machine.keep(event.node, value);
+    Ok(Outcome::Done)
 }
 
 #[inline(never)]
@@ -208,16 +282,35 @@ fn relation(
     pointers: bool,
     left: Operand,
     right: Operand,
-) -> Result<Value, Fault> {
-    let (left, right) = (machine.value(left)?, machine.value(right)?);
+    event: Event,
+) -> Result<Outcome, Fault>
+    ensures exact { CanAct machine.old → AreGiven machine.old event (acts.Related op pointers left right) → Does machine.old machine.new event (acts.Related op pointers left right) result }
+    ensures changes { ChangesOnly machine.old machine.new event.node (acts.Related op pointers left right) }
+{
+    let left = machine.value(left)?;
+    let right = machine.value(right)?;
     let t = &mut machine.items;
-    Ok(related(&mut machine.memory, op, pointers, &left, &right, t)?)
+    let value = related(&mut machine.memory, op, pointers, &left, &right, t)?;
+    machine.keep(event.node, value);
+    Ok(Outcome::Done)
 }
 
 #[inline(never)]
-fn equality(machine: &Machine, op: EqOp, left: Operand, right: Operand) -> Result<Value, Fault> {
-    let (left, right) = (machine.value(left)?, machine.value(right)?);
-    Ok(equal(op, &left, &right))
+fn equality(
+    machine: &mut Machine,
+    op: EqOp,
+    left: Operand,
+    right: Operand,
+    event: Event,
+) -> Result<Outcome, Fault>
+    ensures exact { CanAct machine.old → AreGiven machine.old event (acts.Equal op left right) → Does machine.old machine.new event (acts.Equal op left right) result }
+    ensures changes { ChangesOnly machine.old machine.new event.node (acts.Equal op left right) }
+{
+    let left = machine.value(left)?;
+    let right = machine.value(right)?;
+    let value = equal(op, &left, &right);
+    machine.keep(event.node, value);
+    Ok(Outcome::Done)
 }
 
 // A member of a structure or union that stands nowhere.
@@ -228,14 +321,37 @@ fn part_of(
     access: Access,
     whole: Operand,
     event: Event,
-) -> Result<Value, Fault> {
+) -> Result<Outcome, Fault>
+    ensures exact { CanAct machine.old → AreGiven machine.old event (acts.Part offset access whole) → Does machine.old machine.new event (acts.Part offset access whole) result }
+    ensures changes { ChangesOnly machine.old machine.new event.node (acts.Part offset access whole) }
+{
     let alloc = machine.alloc;
     let whole = machine.value(whole)?;
     let t = &mut machine.items;
-    Ok(part(alloc, &mut machine.memory, access, event, &whole, offset, t)?)
+    let value = part(alloc, &mut machine.memory, access, event, &whole, offset, t)?;
+    machine.keep(event.node, value);
+    Ok(Outcome::Done)
 }
 
-fn logical(machine: &Machine, either: bool, first: Operand, second: Operand) -> bool {
+#[inline(never)]
+fn logical(
+    machine: &mut Machine,
+    either: bool,
+    first: Operand,
+    second: Operand,
+    event: Event,
+) -> Result<Outcome, Fault>
+    ensures exact { CanAct machine.old → AreGiven machine.old event (acts.Logical either first second) → Does machine.old machine.new event (acts.Logical either first second) result }
+    ensures changes { ChangesOnly machine.old machine.new event.node (acts.Logical either first second) }
+{
+    let value = number(logical_truth(machine, either, first, second));
+    machine.keep(event.node, value);
+    Ok(Outcome::Done)
+}
+
+fn logical_truth(machine: &Machine, either: bool, first: Operand, second: Operand) -> bool
+    ensures { IsGiven machine.now first → (model.truth (given_by machine.now first) ≡ not either → IsGiven machine.now second) → result ≡ either_truth either (model.truth (given_by machine.now first)) (model.truth (given_by machine.now second)) }
+{
     if either {
         machine.truth(first) || machine.truth(second)
     } else {
@@ -243,10 +359,54 @@ fn logical(machine: &Machine, either: bool, first: Operand, second: Operand) -> 
     }
 }
 
+// The operand that a `?:` gives (6.5.15p4).
+fn selected(
+    machine: &mut Machine,
+    test: Operand,
+    yes: Operand,
+    no: Operand,
+    event: Event,
+) -> Result<Outcome, Fault>
+    ensures exact { CanAct machine.old → AreGiven machine.old event (acts.Selected test yes no) → Does machine.old machine.new event (acts.Selected test yes no) result }
+    ensures changes { ChangesOnly machine.old machine.new event.node (acts.Selected test yes no) }
+{
+    if machine.truth(test) {
+        same(machine, yes, event)
+    } else {
+        same(machine, no, event)
+    }
+}
+
 pub fn function_value(machine: &Machine, operand: Operand) -> u64 {
     match machine.value(operand) {
         Ok(value) => as_function(&value),
         Err(_) => 0,
+    }
+}
+
+// What the body of a call has left is the call's value.
+#[inline(never)]
+fn answered(machine: &mut Machine, discarded: bool, event: Event) -> Result<Outcome, Fault>
+    ensures exact { CanAct machine.old → AreGiven machine.old event (acts.Answer discarded) → Does machine.old machine.new event (acts.Answer discarded) result }
+    ensures changes { ChangesOnly machine.old machine.new event.node (acts.Answer discarded) }
+{
+    let left = taken(machine, event.node)?;
+    let value = answer(left, discarded)?;
+    machine.keep(event.node, value);
+    Ok(Outcome::Done)
+}
+
+// Takes the value out of a room.
+fn taken(machine: &mut Machine, room: u32) -> Result<Value, NoMemory>
+    ensures rest { machine.new ≡ record machine.old { values = machine.new.values } }
+    ensures room { IfOk result (λ v. slice_get machine.old.values.items (machine.old.top.base + room) ≡ Some v) }
+    ensures others { (j : ℕ) → j ≢ machine.old.top.base + room → slice_get machine.new.values.items j ≡ slice_get machine.old.values.items j }
+    ensures count { length machine.new.values.items ≡ length machine.old.values.items }
+{
+    let at = machine.top.base.saturating_add(room as usize);
+    match machine.values.get_mut(at) {
+        Some(place) => Ok(std::mem::replace(place, Value::Nothing)),
+        None => Err(NoMemory),
     }
 }
 
@@ -261,26 +421,45 @@ fn update(
     place: Operand,
     operand: Operand,
     room: u32,
-) -> Result<Value, Fault> {
+) -> Result<Outcome, Fault>
+    ensures exact { CanAct machine.old → AreGiven machine.old event (acts.Change change old ty.entry place operand room) → Does machine.old machine.new event (acts.Change change old ty.entry place operand room) result }
+    ensures changes { ChangesOnly machine.old machine.new event.node (acts.Change change old ty.entry place operand room) }
+{
     let place = machine.pointer(place);
     let operand = machine.integer(operand);
     let (t, spare) = (&mut machine.items, &mut machine.spare);
     let memory = &mut machine.memory;
-    let (before, after) = changed(memory, change, ty, event, place, operand, t, spare)?;
+    let both = changed(memory, change, ty, event, place, operand, t, spare)?;
+    let (before, after) = both;
     if old {
         machine.keep(room, after);
-        Ok(before)
+        machine.keep(event.node, before);
+        Ok(Outcome::Done)
     } else {
-        Ok(after)
+        machine.keep(event.node, after);
+        Ok(Outcome::Done)
     }
 }
 
 // How the store of this number accesses memory.
-fn target_of<'p>(machine: &Machine<'p, '_>, number: u32) -> Result<(StoreCode<'p>, Via), NoMemory> {
+fn target_of<'p>(machine: &Machine<'p, '_>, number: u32) -> Result<(StoreCode<'p>, Via), NoMemory>
+    ensures store { IfOk result (λ t. slice_get machine.now.code.now.tables.stores.items number ≡ Some t.0) }
+    ensures via { IfOk result (λ t. slice_get machine.now.vias.items number ≡ Some t.1) }
+{
     let at = number as usize;
     match (machine.code.tables.stores.get(at), machine.vias.get(at)) {
         (Some(target), Some(via)) => Ok((*target, *via)),
         _ => Err(NoMemory),
+    }
+}
+
+// The value in the room of this number, from the first one of a full expression on.
+fn in_room(values: &Vec<Value>, first: usize, room: u32) -> Result<&Value, NoMemory>
+    ensures { IfOk result (λ v. slice_get values.now.items (first + room) ≡ Some v.now) }
+{
+    match values.get(first.saturating_add(room as usize)) {
+        Some(value) => Ok(value),
+        None => Err(NoMemory),
     }
 }
 
@@ -290,7 +469,10 @@ fn store_value(
     number: u32,
     place: Operand,
     value: Operand,
-) -> Result<Outcome, Fault> {
+) -> Result<Outcome, Fault>
+    ensures exact { CanAct machine.old → StandsTables machine.old → IsGiven machine.old place → IsGiven machine.old value → Effects machine.old machine.new (stored_by machine.old.memory.rows (slice_get machine.old.code.now.tables.stores.items number) (model.pointer_of (given_by machine.old place)) (given_by machine.old value)) result }
+    ensures rest { TouchesMemory machine.old machine.new }
+{
     let place = machine.pointer(place);
     match value {
         Operand::Done(room) => store_room(machine, number, place, room),
@@ -305,12 +487,13 @@ fn store_room(
     number: u32,
     place: Pointer,
     room: u32,
-) -> Result<Outcome, Fault> {
-    let (target, via) = target_of(machine, number)?;
-    let at = machine.top.base.saturating_add(room as usize);
-    let Some(value) = machine.values.get(at) else {
-        return Err(Fault::NoMemory);
-    };
+) -> Result<Outcome, Fault>
+    ensures exact { CanAct machine.old → StandsTables machine.old → IsMade machine.old.memory place.prov → IsGiven machine.old (operands.Done room) → Effects machine.old machine.new (stored_by machine.old.memory.rows (slice_get machine.old.code.now.tables.stores.items number) (pointer_at place) (given_by machine.old (operands.Done room))) result }
+    ensures rest { TouchesMemory machine.old machine.new }
+{
+    let found = target_of(machine, number)?;
+    let (target, via) = found;
+    let value = in_room(&machine.values, machine.top.base, room)?;
     let (access, initializing) = (target.access, target.initializing);
     let t = &mut machine.items;
     store(
@@ -332,8 +515,12 @@ fn store_quiet(
     number: u32,
     place: Pointer,
     value: Operand,
-) -> Result<Outcome, Fault> {
-    let (target, via) = target_of(machine, number)?;
+) -> Result<Outcome, Fault>
+    ensures exact { CanAct machine.old → StandsTables machine.old → IsMade machine.old.memory place.prov → IsGiven machine.old value → Effects machine.old machine.new (stored_by machine.old.memory.rows (slice_get machine.old.code.now.tables.stores.items number) (pointer_at place) (given_by machine.old value)) result }
+    ensures rest { TouchesMemory machine.old machine.new }
+{
+    let found = target_of(machine, number)?;
+    let (target, via) = found;
     let value = machine.value(value)?;
     let (access, initializing) = (target.access, target.initializing);
     let t = &mut machine.items;
@@ -349,16 +536,21 @@ fn store_quiet(
     Ok(Outcome::Done)
 }
 
-/// A parameter's store: the value goes to the place, by the store of this number. The inner result says which clause it raises.
+/// A parameter's store: the value goes to the place, by the store of this number, and `spare` has its items. The inner result says which clause it
+/// raises.
 pub fn put_at(
     machine: &mut Machine,
     number: u32,
     place: Pointer,
     value: &Value,
 ) -> Result<Result<(), Clause>, NoMemory>
-    ensures { machine.new.work ≡ machine.old.work }
+    ensures exact { (rows : List Row) → CanPut rows machine.old place value.now → Puts rows machine.old machine.new (stored_by rows (slice_get machine.old.code.now.tables.stores.items number) (pointer_at place) (value_in machine.old.memory value.now)) result }
+    ensures kept { IsSound machine.old.memory → StandsTables machine.old → IsOf machine.old.memory value.now → Keeps machine.old.memory machine.new.memory }
+    ensures rest { TouchesSpare machine.old machine.new }
+    ensures work { machine.new.work ≡ machine.old.work }
 {
-    let (target, via) = target_of(machine, number)?;
+    let found = target_of(machine, number)?;
+    let (target, via) = found;
     let (access, initializing) = (target.access, target.initializing);
     let t = &mut machine.spare;
     Ok(store(
@@ -372,14 +564,25 @@ pub fn put_at(
     ))
 }
 
+// The constant bytes of this number.
+fn fillings_of(fillings: &Vec<Items<Filling>>, number: u32) -> Result<&[Filling], NoMemory>
+    ensures { IfOk result (λ fs. slice_get fillings.now.items number ≡ Some fs.now) }
+{
+    match fillings.get(number as usize) {
+        Some(filling) => Ok(filling.as_slice()),
+        None => Err(NoMemory),
+    }
+}
+
 // The effect of a List: its constant bytes go to its object.
 #[inline(never)]
-fn fill_list(machine: &mut Machine, object: Operand, constants: u32) -> Result<Outcome, Fault> {
+fn fill_list(machine: &mut Machine, object: Operand, constants: u32) -> Result<Outcome, Fault>
+    ensures exact { CanAct machine.old → StandsTables machine.old → IsGiven machine.old object → Effects machine.old machine.new (filled_from machine.old.memory.rows (slice_get machine.old.code.now.tables.constants.items constants) (model.pointer_of (given_by machine.old object))) result }
+    ensures rest { TouchesMemory machine.old machine.new }
+{
     let object = machine.pointer(object);
-    let Some(fillings) = machine.fillings.get(constants as usize) else {
-        return Err(Fault::NoMemory);
-    };
+    let fillings = fillings_of(&machine.fillings, constants)?;
     let (t, spare) = (&mut machine.items, &mut machine.spare);
-    fill(&mut machine.memory, fillings.as_slice(), object, t, spare)?;
+    fill(&mut machine.memory, fillings, object, t, spare)?;
     Ok(Outcome::Done)
 }

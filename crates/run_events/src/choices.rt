@@ -1,5 +1,7 @@
 // The operands that nodes choose to evaluate.
-ghost use Rattle.std.specs.Prelude.{◌≡◌, ◌<◌, length};
+ghost use Rattle.std.specs.Prelude.{◌≡◌, ◌∷◌, [], ◌<◌, length, OnOk};
+ghost use Rattle.run_events.specs.Choices.{HasChosen};
+ghost use Rattle.run_events.specs.Ways.{Chooses};
 
 use run_code::Code;
 use run_state::Machine;
@@ -8,6 +10,7 @@ use ub_base::NoMemory;
 /// A node chooses the operand that it evaluates next, by the choice of this number.
 pub fn choose(machine: &mut Machine, code: &Code, number: u32) -> Result<(), NoMemory>
     requires there { number < length code.now.tables.choices.items }
+    ensures chosen { OnOk result (Chooses code.now number machine.old machine.new) }
 {
     let choice = code.choice(number);
     let (way, chosen) = code.way(number, machine.truth(choice.test));
@@ -20,7 +23,8 @@ pub fn choose(machine: &mut Machine, code: &Code, number: u32) -> Result<(), NoM
 
 /// The choices whose tests are quiet: of each of these nodes, this operand.
 pub fn choose_at_once(machine: &mut Machine, chosen: &[(u32, u32)]) -> Result<(), NoMemory>
-    ensures { machine.new.work ≡ machine.old.work }
+    ensures work { machine.new.work ≡ machine.old.work }
+    ensures chosen { OnOk result (HasChosen machine.old chosen.now machine.new) }
 {
     for (node, operand) in chosen {
         take_operand(machine, *node, *operand)?;
@@ -30,7 +34,8 @@ pub fn choose_at_once(machine: &mut Machine, chosen: &[(u32, u32)]) -> Result<()
 
 // The node of the full expression chooses this operand.
 fn take_operand(machine: &mut Machine, node: u32, operand: u32) -> Result<(), NoMemory>
-    ensures { machine.new.work ≡ machine.old.work }
+    ensures work { machine.new.work ≡ machine.old.work }
+    ensures chosen { OnOk result (HasChosen machine.old ((node, operand) ∷ []) machine.new) }
 {
     match machine.begun.get_mut(machine.below.len()) {
         Some(begun) => begun.taken.set(node, operand),

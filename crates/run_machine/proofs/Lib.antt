@@ -1,8 +1,12 @@
+mod Behind
 mod Births
+mod Deciding
 mod Entered
 mod Given
+mod Giving
 mod Going
 mod Growing
+mod Laying
 mod Leaving
 mod Left
 mod Lives
@@ -12,6 +16,7 @@ mod Picked
 mod Results
 mod Returning
 mod Rooms
+mod Standing
 mod Staying
 mod Steering
 mod Still

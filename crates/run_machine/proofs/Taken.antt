@@ -13,7 +13,7 @@ use Rattle.run_machine.specs.Picks.{event_at, IsOfEvent, IsPick}
 use Rattle.run_machine.proofs.Opened.{top_frame}
 
 -- the events of the top frame have its number and its turn
-event_seen : (world : World) (meaning : Option ℕ → Meaning) (m n : Machine) (st : State) (u : Place) → Stands world meaning m st →
+pub event_seen : (world : World) (meaning : Option ℕ → Meaning) (m n : Machine) (st : State) (u : Place) → Stands world meaning m st →
     n.top.frame ≡ m.top.frame → n.top.turn ≡ m.top.turn → event_at n u ≡ event_of world st.top.scene u
 event_seen world meaning m n st u stands frame turn =
     let top = top_frame world meaning m st stands in

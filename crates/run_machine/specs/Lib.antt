@@ -5,3 +5,4 @@ pub mod Leaving
 pub mod Ending
 pub mod Entering
 pub mod Ended
+pub mod Taking

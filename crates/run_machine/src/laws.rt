@@ -1,8 +1,12 @@
 // Laws of the picks of a machine.
 ghost use Rattle.run_machine.specs.Picks.{NoneIsPermitted, UnlistedIsRefused, NextIsPermitted, PermitsDecided, FollowsCanonical};
+ghost use Rattle.run_machine.specs.Taking.{EventStands, EventSteps};
 
+use c_model::law_update_halves;
 use program_view::law_view;
+use run_code::law_choices;
 use run_listing::{law_cursor, law_listed_tree, law_strayed};
+use run_state::law_operands;
 
 /// By each state of the definitions that a machine stands for: in the top frame no event may come next where no full expression has begun, nor one
 /// that isn't listed; the next one along the canonical way may, and any other one where what is done permits it. The event that the machine goes
@@ -18,4 +22,18 @@ pub fn law_picks()
     law_listed_tree();
     law_cursor();
     law_strayed();
+}
+
+/// Behind an event that isn't a body, and that may come next, a machine stands for the state of the definitions that has the event done: its value, what is
+/// chosen by it, and what is done; the frames below stand as they stood (`stands`). Where the act is that of its node, this is the definitions' next
+/// state, within the limits (`steps`).
+pub fn law_events()
+    ensures stands { EventStands }
+    ensures steps { EventSteps }
+{
+    law_view();
+    law_choices();
+    law_operands();
+    law_cursor();
+    law_update_halves();
 }

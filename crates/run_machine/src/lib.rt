@@ -9,7 +9,7 @@ mod pick;
 mod picks;
 
 pub use control::MOST_CREATED;
-pub use laws::law_picks;
+pub use laws::{law_events, law_picks};
 pub use pick::{Completed, Pick};
 pub use picks::{canonical, single};
 pub use run_code::{Code, code_of};

@@ -1,5 +1,6 @@
 mod Each
 mod Vias
 mod Beginning
+mod Given
 mod Operands
 mod Rooms

@@ -11,6 +11,7 @@ use Rattle.c_typed.specs.declared.tree.Access.TheVariants as access
 use Rattle.mem_spec.specs.Agreement.{number_of_kind, read_as_int}
 use Rattle.prov_memory.specs.declared.cell.Via.{Via}
 use Rattle.prov_memory.specs.declared.cell.Via.TheVariants as vias
+use Rattle.prov_memory.specs.declared.value.Value.{Value as Kept_value}
 use Rattle.prov_memory.specs.Cells.{type_numbered}
 use Rattle.prov_memory.specs.Keeps.{RowsStay}
 use Rattle.prov_memory.specs.Memory.{Kept, store_of}
@@ -18,8 +19,12 @@ use Rattle.c_model.specs.Program.{Standing}
 use Rattle.c_model.specs.Values.{Value}
 use Rattle.c_model.specs.World.{World, Limits}
 use Rattle.c_model.specs.Runs.{State, Running, start, created_after, too_many, limit_passed}
+use Rattle.program_view.specs.View.{main_values}
+use Rattle.run_acts.specs.Kept.{IsOf}
 use Rattle.run_acts.specs.Standing.{Stand, program_name}
+use Rattle.run_acts.specs.Viewed.{IsGiven}
 use Rattle.run_acts.specs.declared.initial.Places.{Places}
+use Rattle.run_acts.specs.declared.initial.Started.{Started}
 use Rattle.run_acts.specs.declared.storage.Filling.{Filling}
 use Rattle.run_acts.specs.Contents.{CanHoldAll}
 use Rattle.run_control.specs.declared.statement.Statement.{Statement}
@@ -30,6 +35,8 @@ use Rattle.run_code.specs.declared.whole.Code.{Code}
 use Rattle.run_code.specs.declared.steps.FunctionCode.{FunctionCode}
 use Rattle.run_code.specs.declared.steps.StoreCode.{StoreCode}
 use Rattle.run_code.specs.OfTrees.{ListsTrees}
+use Rattle.run_statements.specs.declared.jumps.Jumps.{Jumps}
+use Rattle.run_statements.specs.Jumping.{HasJumps}
 use Rattle.run_state.specs.declared.machine.Machine.{Machine}
 use Rattle.run_state.specs.declared.machine.Open.{Open}
 use Rattle.run_state.specs.Meaning.{world_with, StandsCode}
@@ -55,7 +62,31 @@ BeginsAsDefined p arguments input m =
     → number [] ≡ 0 → StartIsWithin limits os m → StandsCode (world_with p arguments os rows number limits) p m.code.now meaning
     → ListsTrees m.code.now → HoldsAll m.memory m.values.items 0 vs → StartsAs (world_with p arguments os rows number limits) meaning input vs m)
 
+-- The first rooms hold what `main` is given, in each world of the program whose rows have those of the machine's memory: how many strings there are and a
+-- pointer to the array of pointers to them where it takes arguments, and else nothing (5.1.2.2.1p2).
+abbrev pub HoldsGiven : Program → List (List ℕ) → Machine → Type 0
+HoldsGiven p arguments m = (os : List Standing) (rows : List Row) (number : Path → ℕ) (limits : Limits) → RowsStay m.memory.rows rows
+    → HoldsAll m.memory m.values.items 0 (main_values p (world_with p arguments os rows number limits) arguments)
+
+-- labels are kept of these bodies of the functions in turn, and that of a function that has code is its body there
+pub record KeepsLabels (code : Code) (jumps : Jumps) : Type 0 where
+  pub bodies : List (Option (Bor Statement))
+  pub labels : HasJumps jumps bodies
+  pub each : (n : ℕ) (c : FunctionCode) → slice_get code.functions.items n ≡ Some (Some c)
+      → (b : Bor Statement) × (slice_get bodies n ≡ Some (Some b)) × (b.now ≡ c.body)
+
 -- Of the parts that a machine is made of before its first pick.
+
+-- the body of a function, where it has code
+abbrev pub IsBodyOf : Option FunctionCode → Option (Bor Statement) → Type 0
+IsBodyOf None None = Unit {0}
+IsBodyOf (Some c) (Some b) = b.now ≡ c.body
+IsBodyOf _ _ = ⊥
+
+-- the rooms are those of what `main` is given, so many strings, where it takes arguments
+abbrev pub IsGivenIn : Kept → Program → (count : ℕ) → List Kept_value → Type 0
+IsGivenIn m p count values =
+    (s : Started) × (values ≡ s.count ∷ s.vector ∷ []) × IsOf m s.count × IsOf m s.vector × IsGiven m p count s
 
 -- the frame of `main`
 pub record IsFirst (p : Program) (o : Open) : Type 0 where

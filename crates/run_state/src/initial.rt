@@ -10,7 +10,7 @@ ghost use Rattle.prov_memory.specs.Sound.{IsSound};
 ghost use Rattle.prov_memory.specs.Tags.{AreTagged};
 ghost use Rattle.run_acts.specs.Standing.{StartStands, program_name};
 ghost use Rattle.run_acts.specs.Starting.{ArePlaced};
-ghost use Rattle.run_state.specs.Begins.{AreBytesWhere, BeginsAsDefined, IsFirst, IsNamed, IsNamedVia, StartsMain};
+ghost use Rattle.run_state.specs.Begins.{AreBytesWhere, BeginsAsDefined, HoldsGiven, IsBodyOf, IsFirst, IsGivenIn, IsNamed, IsNamedVia, KeepsLabels, StartsMain};
 ghost use Rattle.run_state.specs.Stands.{AreEach};
 
 use crate::halt::Halt;
@@ -19,7 +19,7 @@ use c_typed::{Access, Program};
 use prov_memory::{Memory, Streams, Touched, TypeId, Value, Via};
 use run_acts::{Filling, Places, Started, fillings, start};
 use run_code::{Code, FunctionCode, StoreCode};
-use run_control::{Control, Use};
+use run_control::{Control, Statement, Use};
 use run_statements::Jumps;
 use std::alloc::Global;
 use ub_base::{Bytes, Frame, Items, NoMemory};
@@ -74,14 +74,23 @@ fn main_of<'c>(program: &Program, code: &'c Code<'_>) -> Result<&'c FunctionCode
     }
 }
 
+// The body of a function, where it has code.
+fn body_of<'c>(function: &'c Option<FunctionCode>) -> Option<&'c Statement>
+    ensures { IsBodyOf function.now result }
+{
+    match function {
+        Some(function) => Some(&function.body),
+        None => None,
+    }
+}
+
 // Where the jumps of the program go.
-fn jumps_of<'c>(alloc: Global, code: &'c Code<'_>) -> Result<Jumps<'c>, NoMemory> {
+fn jumps_of<'c>(alloc: Global, code: &'c Code<'_>) -> Result<Jumps<'c>, NoMemory>
+    ensures { IfOk result (KeepsLabels code.now) }
+{
     let mut jumps = Jumps::new(alloc);
     for function in &code.functions {
-        match function {
-            Some(function) => jumps.add(alloc, Some(&function.body))?,
-            None => jumps.add(alloc, None)?,
-        }
+        jumps.add(alloc, body_of(function))?;
     }
     Ok(jumps)
 }
@@ -101,6 +110,7 @@ fn first_frame<'c>(
 ) -> Result<First<'c>, NoMemory>
     ensures top { IfOk result (λ first. IsFirst program.now first.top) }
     ensures work { IfOk result (λ first. StartsMain code.now program.now first.work) }
+    ensures labels { IfOk result (λ first. KeepsLabels code.now first.jumps) }
 {
     let main = main_of(program, code)?;
     let jumps = jumps_of(alloc, code)?;
@@ -130,6 +140,16 @@ struct Placed {
     values: Vec<Value>,
 }
 
+// What `main` is given stands in the first rooms.
+fn given_values(alloc: Global, count: Value, vector: Value) -> Result<Vec<Value>, NoMemory>
+    ensures { IfOk result (λ values. values.items ≡ count ∷ vector ∷ []) }
+{
+    let mut values = Vec::new(alloc);
+    values.push(count)?;
+    values.push(vector)?;
+    Ok(values)
+}
+
 fn placed_objects(
     alloc: Global,
     program: &Program,
@@ -140,6 +160,8 @@ fn placed_objects(
     ensures placed { IfOk result (λ first. IsSound memory → IsLawful program.now → ArePlaced first.memory program.now first.places) }
     ensures stands { IfOk result (λ first. IsSound memory → IsLawful program.now → length args.now + 1 < 2 ^ 32
         → StartStands memory first.memory program.now (program_name ∷ map string_bytes args.now)) }
+    ensures given { IfOk result (λ first. IsSound memory → IsLawful program.now
+        → IsGivenIn first.memory program.now (length args.now + 1) first.values.items) }
 {
     let mut memory = memory;
     let started = start(alloc, program, args, &mut memory)?;
@@ -148,9 +170,7 @@ fn placed_objects(
         count,
         vector,
     } = started;
-    let mut values = Vec::new(alloc);
-    values.push(count).map_err(NoMemory::from)?;
-    values.push(vector).map_err(NoMemory::from)?;
+    let values = given_values(alloc, count, vector)?;
     Ok(Placed {
         memory,
         places,
@@ -183,6 +203,12 @@ pub fn prepare<'p, 'c>(
 ) -> Result<Machine<'p, 'c>, Halt>
     ensures stands { IfOk result (λ machine. IsLawful program.now → length args.now + 1 < 2 ^ 32 → memory ≡ empty memory.rows memory.mode
         → Above 16777216 memory.rows → BeginsAsDefined program.now (map string_bytes args.now) input machine) }
+    // The first rooms hold what `main` is given (5.1.2.2.1p2).
+    ensures given { IfOk result (λ machine. IsLawful program.now → memory ≡ empty memory.rows memory.mode
+        → HoldsGiven program.now (map string_bytes args.now) machine) }
+    // Of each function that has code the labels of its body are kept (6.8.6.1).
+    ensures labels { IfOk result (λ machine. KeepsLabels machine.code.now machine.jumps) }
+    ensures code { IfOk result (λ machine. machine.code ≡ code.entry) }
 {
     let mut first = placed_objects(alloc, program, args, memory)?;
     let vias = vias_of(alloc, code, &mut first.memory)?;
@@ -221,6 +247,7 @@ fn assembled<'p, 'c>(
     ensures work { result.work ≡ frame.entry.work }
     ensures depth { result.depth ≡ 1 }
     ensures values { result.values ≡ first.values }
+    ensures jumps { result.jumps ≡ frame.entry.jumps }
     ensures left { result.left ≡ None }
 {
     let Placed {

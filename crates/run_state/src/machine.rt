@@ -231,7 +231,8 @@ impl<'p, 'c> Machine<'p, 'c> {
 
     // Makes room for so many values.
     pub fn grow(&mut self, size: usize) -> Result<(), NoMemory>
-        ensures { self.new ≡ record self.old { values = self.new.values } }
+        ensures rest { self.new ≡ record self.old { values = self.new.values } }
+        ensures kept { (j : ℕ) (h : Kept_value) → slice_get self.old.values.items j ≡ Some h → slice_get self.new.values.items j ≡ Some h }
     {
         for _ in self.values.len()..size {
             self.values.push(Value::Nothing)?;

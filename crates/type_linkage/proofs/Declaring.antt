@@ -1,5 +1,5 @@
 -- Declarations with linkage, by the steps of the definition.
-use Rattle.std.proofs.Common.{◌≡◌, ℕ, suc, Bool, true, false, List, [], ◌∷◌, ◌++◌, length, refl, sym, ap, ◌∙◌}
+use Rattle.std.proofs.Common.{◌≡◌, ℕ, Bool, true, false, List, length, map, refl, sym, ap, ◌∙◌}
 use Rattle.std.specs.Prelude.{if◌then◌else◌, Option, Some, None}
 use Rattle.c_types.specs.Types.{Qualified, Signature}
 use Rattle.c_types.specs.declared.library.LibFunc.{LibFunc}
@@ -8,21 +8,23 @@ use Rattle.c_typed.specs.declared.tree.Target.TheVariants as target
 use Rattle.typing_env.specs.Env.{Env, Linked, and_then, an_object, a_function, symbol_of, spelling}
 use Rattle.typing_env.specs.Names.{Given, Redeclared, redeclared, redeclared_at, may_stand, declare_object, entity_of_object, name_of_object, new_object}
 use Rattle.typing_env.specs.Names.{with_link, with_object, with_further, file_type, bound, declare_function, entity_of_function, number_of_function}
-use Rattle.typing_env.specs.Names.{library_of, fits_library, type_of_signature, with_function, new_function, changing_function, further_type, linkage_seen}
+use Rattle.typing_env.specs.Names.{library_of, fits_library, with_function, new_function, changing_function, further_type, linkage_seen}
 use Rattle.typing_env.specs.Names.{is_internal}
 use Rattle.c_lex.specs.TokenText.{TokenText, text_at}
-use Rattle.std.specs.Prelude.{◌+◌, slice_get, vec_len, is_some, ◌==◌}
+use Rattle.std.specs.Prelude.{slice_get, vec_len, is_some, ◌==◌}
 use Rattle.std.specs.Option.{option_map}
-use Rattle.std.proofs.lemmas.List.{length-append}
+use Rattle.std.proofs.lemmas.List.{length-map}
+use Rattle.std.proofs.lemmas.Option.{none-some}
 use Rattle.type_name_space.specs.Scopes.{visible}
-use Rattle.typing_env.specs.Env.{Routine, symbol_in}
-use Rattle.typing_env.specs.Names as names
-use Rattle.typing_env.specs.Names.{meaning_in, meaning_of, linked_symbol, type_seen, changing_object, changed_function}
+use Rattle.typing_env.specs.Env.{Object, Meaning, symbol_in}
+use Rattle.typing_env.specs.Names.{meaning_in, type_seen, changing_object, first_of, define_object, declare, meaning_here}
+use Rattle.typing_env.specs.Names.{with_declared}
 use Rattle.type_scope.specs.declared.state.State.{State}
-use Rattle.type_scope.specs.Known.{Naming, known_by, meaning_seen, linked_seen, with_tables, IsKnown}
-use Rattle.type_scope.proofs.Seen.{symbol_is, meaning_is}
-use Rattle.type_linkage.proofs.Linking.{entity_is, prior_is, some_seen, is_known, is_refused, is_kept}
-use Rattle.type_linkage.specs.Linkage.{function_qualified, IsOneToOne, entity_in, prior_in, HasFunctions, IsDeclared}
+use Rattle.type_scope.specs.Known.{Naming, known_by, meaning_seen, linked_seen, routine_seen, with_tables, IsKnown}
+use Rattle.type_scope.proofs.Seen.{symbol_is, meaning_is, declare_is}
+use Rattle.type_linkage.proofs.Linking.{entity_is, prior_is, some_seen, is_known}
+use Rattle.type_scope.specs.Objects.{IsOneToOne}
+use Rattle.type_linkage.specs.Linkage.{function_qualified, entity_in, prior_in, static_declared}
 
 stand_by : {A : Type 0} (t : Bool) (r : A) (env : Env)
     → and_then (if t then Some (tt {0}, env) else None) (λ _. λ (e : Env). Some (r, e)) ≡ (if t then Some (r, env) else None)
@@ -219,69 +221,104 @@ object_more n t s s1 s2 env at number symbol q seen given internal entity l know
       is_known n t s2 x e refl,
     )
 
-one_more : (r : Routine) (rs : List Routine) → length (rs ++ r ∷ []) ≡ length rs + 1
-one_more r rs = length-append rs (r ∷ [])
-
-as_many : (number : ℕ) (f : Routine → Routine) (n : ℕ) (rs : List Routine) → length (changed_function number f n rs) ≡ length rs
-as_many number f n [] = refl
-as_many number f n (r ∷ rs) = ap suc (as_many number f (n + 1) rs)
+-- as many functions are known as have rows
+counted : (s : State) → length (map routine_seen (s.functions).items) ≡ vec_len s.functions
+counted s = length-map (s.functions).items routine_seen ∙ sym (s.functions).ok.0
 
 pub spelled_is : (n : Naming) (t : TokenText) (s : State) (env : Env) (at : ℕ) → spelling (known_by n t s env) at ≡ text_at t at
 unfolding spelling
 spelled_is n t s env at = refl
 
 pub function_made : (n : Naming) (t : TokenText) (s s1 s2 : State) (env : Env) (at number symbol : ℕ) (f : Signature) (q seen : Qualified) (given : Given)
-    (internal : Bool) (entity : Option Linked) (library : Option LibFunc) → IsKnown n t s env → HasFunctions s env
-    → q ≡ function_qualified f → number ≡ vec_len s.functions
+    (internal : Bool) (entity : Option Linked) (library : Option LibFunc) → q ≡ function_qualified f → number ≡ vec_len s.functions
     → redeclared at q given (known_by n t s env)
     ≡ Some (record { symbol = symbol; internal = internal; entity = entity; seen = seen }, known_by n t s env)
     → library_of internal (text_at t at) ≡ library → fits_library f library ≡ true → entity ≡ None
-    → ((e : Env) → known_by n t s1 e ≡ with_link symbol internal (target.Function (vec_len s.functions)) q (known_by n t s e))
+    → ((e : Env) → known_by n t s1 e ≡ with_link symbol internal (target.Function number) q (with_function (new_function f library) (known_by n t s e)))
     → ((e : Env) → known_by n t s2 e ≡ bound symbol (a_function number seen.ty) (known_by n t s1 e))
-    → vec_len s2.functions ≡ vec_len s.functions + 1
-    → (x : Env) × (declare_function at f given env ≡ Some (number, x)) × IsDeclared n t s2 x
-function_made n t s s1 s2 env at number symbol f q seen given internal entity library known count qual next found which fits none linked named more =
+    → declare_function at f given (known_by n t s env) ≡ Some (number, known_by n t s2 env)
+function_made n t s s1 s2 env at number symbol f q seen given internal entity library qual next found which fits none linked named =
     let r = new_function f library in
     let k = known_by n t s env in
-    let x = known_by n t s2 (with_function r env) in (
-      x,
-      ap (declare_function at f given) known
-          ∙ function_new at f given k (record { symbol = symbol; internal = internal; entity = entity; seen = seen }) library
-          (ap (λ p. redeclared at p given k) (sym qual) ∙ found) (ap (library_of internal) (spelled_is n t s env at) ∙ which) fits none
-          ∙ ap (λ m. Some (m, bound symbol (a_function m seen.ty) (with_function r (with_link symbol internal (target.Function m) (function_qualified f) k))))
-          (count ∙ sym next)
-          ∙ ap (λ e. Some (number, bound symbol (a_function number seen.ty) e))
-          (ap (λ p. with_function r (with_link symbol internal (target.Function number) p k)) (sym qual)
-          ∙ ap (λ m. with_function r (with_link symbol internal (target.Function m) q k)) next
-          ∙ sym (linked (with_function r env)))
-          ∙ ap (λ e. Some (number, e)) (sym (named (with_function r env))),
-      (is_known n t s2 x (with_function r env) refl, one_more r env.functions ∙ ap (λ m. m + 1) count ∙ sym more),
-    )
+    function_new at f given k (record { symbol = symbol; internal = internal; entity = entity; seen = seen }) library
+    (ap (λ p. redeclared at p given k) (sym qual) ∙ found) (ap (library_of internal) (spelled_is n t s env at) ∙ which) fits none
+    ∙ ap (λ m. Some (m, bound symbol (a_function m seen.ty) (with_function r (with_link symbol internal (target.Function m) (function_qualified f) k))))
+    (counted s ∙ sym next)
+    ∙ ap (λ e. Some (number, bound symbol (a_function number seen.ty) e))
+    (ap (λ p. with_function r (with_link symbol internal (target.Function number) p k)) (sym qual) ∙ sym (linked env))
+    ∙ ap (λ e. Some (number, e)) (sym (named env))
 
 pub function_more : (n : Naming) (t : TokenText) (s s1 s2 : State) (env : Env) (at number symbol : ℕ) (f : Signature) (q seen : Qualified) (given : Given)
-    (internal : Bool) (entity : Option Linked) (l : Linked) (library : Option LibFunc) → IsKnown n t s env → HasFunctions s env
-    → q ≡ function_qualified f
+    (internal : Bool) (entity : Option Linked) (l : Linked) (library : Option LibFunc) → q ≡ function_qualified f
     → redeclared at q given (known_by n t s env)
     ≡ Some (record { symbol = symbol; internal = internal; entity = entity; seen = seen }, known_by n t s env)
     → library_of internal (text_at t at) ≡ library → fits_library f library ≡ true
     → entity ≡ Some l → number_of_function l.target ≡ Some number
-    → ((e : Env) → known_by n t s1 e ≡ with_further symbol q (known_by n t s e))
+    → ((e : Env) → known_by n t s1 e ≡ changing_function number (further_type f) (with_further symbol q (known_by n t s e)))
     → ((e : Env) → known_by n t s2 e ≡ bound symbol (a_function number seen.ty) (known_by n t s1 e))
-    → vec_len s2.functions ≡ vec_len s.functions
-    → (x : Env) × (declare_function at f given env ≡ Some (number, x)) × IsDeclared n t s2 x
-function_more n t s s1 s2 env at number symbol f q seen given internal entity l library known count qual found which fits some where_it more named same =
-    let e = changing_function number (further_type f) env in
+    → declare_function at f given (known_by n t s env) ≡ Some (number, known_by n t s2 env)
+function_more n t s s1 s2 env at number symbol f q seen given internal entity l library qual found which fits some where_it more named =
     let k = known_by n t s env in
-    let x = known_by n t s2 e in (
-      x,
-      ap (declare_function at f given) known
-          ∙ function_again at f given k (record { symbol = symbol; internal = internal; entity = entity; seen = seen }) library l number
-          (ap (λ p. redeclared at p given k) (sym qual) ∙ found) (ap (library_of internal) (spelled_is n t s env at) ∙ which) fits some where_it
-          ∙ ap (λ y. Some (number, bound symbol (a_function number seen.ty) y))
-          (ap (λ p. changing_function number (further_type f) (with_further symbol p k)) (sym qual) ∙ sym (more e))
-          ∙ ap (λ y. Some (number, y)) (sym (named e)),
-      (is_known n t s2 x e refl, as_many number (further_type f) 0 env.functions ∙ count ∙ sym same),
-    )
+    function_again at f given k (record { symbol = symbol; internal = internal; entity = entity; seen = seen }) library l number
+    (ap (λ p. redeclared at p given k) (sym qual) ∙ found) (ap (library_of internal) (spelled_is n t s env at) ∙ which) fits some where_it
+    ∙ ap (λ y. Some (number, bound symbol (a_function number seen.ty) y))
+    (ap (λ p. changing_function number (further_type f) (with_further symbol p k)) (sym qual) ∙ sym (more env))
+    ∙ ap (λ y. Some (number, y)) (sym (named env))
+
+-- an object of block scope with static storage
+
+declared_static : (at : ℕ) (q : Qualified) (env : Env)
+    → static_declared at q env
+    ≡ declare at (an_object (slot.Static at) q false)
+    (changing_object at (λ o. record o { defined = first_of o.defined at }) (with_object (new_object at q) env))
+unfolding static_declared define_object
+declared_static at q env = refl
+
+objects_known : (n : Naming) (t : TokenText) (s : State) (env : Env) (os : List Object) → IsKnown n t s env
+    → record env { objects = os } ≡ known_by n t s (record env { objects = os })
+objects_known n t s env os known = ap (λ (e : Env). record e { objects = os }) known
+
+-- what is known of objects where it is declared
+abbrev pub static_known : ℕ → Qualified → Env → Env
+static_known at q env = changing_object at (λ o. record o { defined = first_of o.defined at }) (with_object (new_object at q) env)
+
+static_by : (n : Naming) (t : TokenText) (s : State) (env : Env) (at : ℕ) (q : Qualified) → IsKnown n t s env
+    → static_declared at q env ≡ declare at (an_object (slot.Static at) q false) (known_by n t s (static_known at q env))
+static_by n t s env at q known =
+    declared_static at q env
+    ∙ ap (declare at (an_object (slot.Static at) q false)) (objects_known n t s env ((static_known at q env).objects) known)
+
+-- .. whose identifier is declared as the definition declares it
+pub static_is : (n : Naming) (t : TokenText) (s s1 s2 : State) (env : Env) (at number : ℕ) (q p : Qualified)
+    → IsKnown n t s env → ((e : Env) → known_by n t s1 e ≡ known_by n t s e) → n number ≡ at → p ≡ q
+    → ((e : Env) → declare at (an_object (slot.Static (n number)) p false) (known_by n t s1 e) ≡ Some (tt, known_by n t s2 e))
+    → static_declared at q env ≡ Some (tt, known_by n t s2 (static_known at q env))
+static_is n t s s1 s2 env at number q p known same named type reads =
+    let e = static_known at q env in
+    static_by n t s env at q known
+    ∙ ap (λ m. declare at (an_object (slot.Static m) q false) (known_by n t s e)) (sym named)
+    ∙ ap (λ z. declare at (an_object (slot.Static (n number)) z false) (known_by n t s e)) (sym type)
+    ∙ ap (declare at (an_object (slot.Static (n number)) p false)) (sym (same e))
+    ∙ reads e
+
+none_same : {A : Type 0} (b : Bool) (x y : A) → (if b then None else Some x) ≡ None → (if b then None else Some y) ≡ None
+none_same true x y e = refl
+none_same false x y e = absurd (none-some x (sym e))
+
+-- whatever it would stand for
+refused_same : (at : ℕ) (m o : Meaning) (env : Env) → declare at m env ≡ None → declare at o env ≡ None
+refused_same at m o env e =
+    declare_is at o env
+    ∙ none_same (is_some (meaning_here env (symbol_of env at))) (tt, with_declared (symbol_of env at) m env)
+    (tt, with_declared (symbol_of env at) o env) (sym (declare_is at m env) ∙ e)
+
+pub static_refused : (n : Naming) (t : TokenText) (s s1 : State) (env : Env) (at : ℕ) (q : Qualified) (m : Meaning)
+    → IsKnown n t s env → ((e : Env) → known_by n t s1 e ≡ known_by n t s e)
+    → ((e : Env) → declare at m (known_by n t s1 e) ≡ None) → static_declared at q env ≡ None
+static_refused n t s s1 env at q m known same reads =
+    let e = static_known at q env in
+    static_by n t s env at q known
+    ∙ refused_same at m (an_object (slot.Static at) q false) (known_by n t s e) (ap (declare at m) (sym (same e)) ∙ reads e)
 
 -- a library's function of another type
 pub unfit_is : (n : Naming) → IsOneToOne n → (t : TokenText) (s : State) (env : Env) (at symbol : ℕ) (f : Signature) (given : Given)

@@ -1,5 +1,5 @@
 -- Declarations with linkage: what is known by a state before and after them.
-use Rattle.std.proofs.Common.{◌≡◌, ◌≢◌, ℕ, Bool, true, false, List, [], ◌∷◌, ◌++◌, map, refl, sym, ap, ◌∙◌, true≢false}
+use Rattle.std.proofs.Common.{◌≡◌, ℕ, Bool, true, false, List, [], ◌∷◌, ◌++◌, map, refl, sym, ap, ◌∙◌, true≢false}
 use Rattle.std.specs.Prelude.{◌==◌, not, ◌&&◌, ◌||◌, is_some, if◌then◌else◌, Option, Some, None}
 use Rattle.std.specs.Option.{option_map}
 use Rattle.std.proofs.lemmas.List.{map-append}
@@ -23,7 +23,8 @@ use Rattle.type_scope.specs.declared.state.State.{State}
 use Rattle.type_scope.specs.Known.{Naming, known_by, meaning_seen, target_seen, linked_seen, with_meaning, with_scopes, with_tables, IsKnown}
 use Rattle.type_scope.specs.InScope.{with_name}
 use Rattle.type_scope.proofs.Seen.{any_seen, changed_seen, meaning_is, here_is, name_is, change_is}
-use Rattle.type_linkage.specs.Linkage.{IsOneToOne, held_target, target_held, if_held, entity_in, prior_in, one_more_type}
+use Rattle.type_scope.specs.Objects.{IsOneToOne}
+use Rattle.type_linkage.specs.Linkage.{target_held, if_held, entity_in, prior_in, one_more_type}
 
 -- 1. What an identifier stands for.
 

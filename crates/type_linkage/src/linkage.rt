@@ -1,18 +1,20 @@
 // Declarations of objects and functions whose identifiers have linkage, and what they redeclare (6.2.2, 6.7p3, 6.9.2).
-ghost use Rattle.std.specs.Prelude.{◌≡◌, ◌+◌, ◌||◌, false, true, not, map, vec_len, slice_get, Some, IfOk, OnOk, is_some};
+ghost use Rattle.std.specs.Prelude.{◌≡◌, ◌≢◌, ℕ, None, ◌||◌, false, true, not, map, vec_len, slice_get, Some, IfOk, OnOk, is_some};
 ghost use Rattle.std.specs.Option.{option_map, option_copied};
 ghost use Rattle.c_lex.specs.TokenText.{TokenText, text_at};
-ghost use Rattle.c_types.specs.Types.{type_of, qualified_of, signature_of, composite_qualified};
+ghost use Rattle.c_types.specs.Types.{type_of, qualified_of, signature_of, composite_qualified, composite_signature};
 ghost use Rattle.c_types.specs.Same.{same_qualifier};
+ghost use Rattle.c_types.specs.declared.ty.FuncTy.{FuncTy};
 ghost use Rattle.c_typed.specs.declared.tree.Slot.TheVariants as slot;
 ghost use Rattle.c_typed.specs.declared.tree.Target.TheVariants as target;
 ghost use Rattle.type_name_space.specs.Scopes.{visible, at_depth};
-ghost use Rattle.typing_env.specs.Env.{Env, an_object, a_function, symbol_in};
+ghost use Rattle.typing_env.specs.Env.{Env, Object, an_object, a_function, symbol_in};
 ghost use Rattle.typing_env.specs.Names as names;
 ghost use Rattle.typing_env.specs.Names.{meaning_in};
-ghost use Rattle.type_scope.specs.Known.{Naming, known_by, meaning_seen, linked_seen, target_seen, IsKnown};
+ghost use Rattle.type_scope.specs.Known.{Naming, known_by, meaning_seen, linked_seen, target_seen, routine_by, routine_seen, IsKnown};
 ghost use Rattle.type_scope.specs.Reads.{Reads, Follows};
-ghost use Rattle.type_linkage.specs.Linkage.{given_of, held_target, target_held, if_held, entity_in, prior_in, IsOneToOne, IsNamed, HasFunctions, IsDeclared, redeclared_seen, function_qualified, one_more_type};
+ghost use Rattle.type_scope.specs.Objects.{IsOneToOne, IsRowOf, HasPlaces, HasObjects, row_in};
+ghost use Rattle.type_linkage.specs.Linkage.{given_of, held_target, target_held, if_held, entity_in, prior_in, IsNamedOk, IsNamed, redeclared_seen, function_qualified, signature_in, one_more_type, static_declared};
 
 use crate::library::{library_function, library_type};
 use c_typed::{Slot, Target};
@@ -107,14 +109,31 @@ pub fn copied_function(alloc: Global, ty: &FuncTy) -> Result<FuncTy, NoMemory>
     })
 }
 
+// The function type as a type.
+fn function_type(alloc: Global, ty: &FuncTy) -> Result<Ty, NoMemory>
+    ensures { IfOk result (λ t. type_of t ≡ names.type_of_signature (signature_of ty.now)) }
+{
+    Ok(Ty::Function(Shared::new(alloc, copied_function(alloc, ty)?)?))
+}
+
 // The type as that of an identifier.
 fn function_qual(alloc: Global, ty: &FuncTy) -> Result<Qual, NoMemory>
     ensures { IfOk result (λ q. qualified_of q ≡ function_qualified (signature_of ty.now)) }
 {
     Ok(Qual {
-        ty: Ty::Function(Shared::new(alloc, copied_function(alloc, ty)?)?),
+        ty: function_type(alloc, ty)?,
         constant: false,
     })
+}
+
+// The function type that a type is, if it is one.
+fn as_function(ty: &Ty) -> Option<&FuncTy>
+    ensures { option_map signature_of (option_copied result) ≡ signature_in (type_of ty.now) }
+{
+    match ty {
+        Ty::Function(function) => Some(function.get()),
+        _ => None,
+    }
 }
 
 // 2. Linkage.
@@ -425,16 +444,28 @@ fn object_in(target: Target) -> Option<u32>
     }
 }
 
-fn set_object_type(state: &mut State, number: u32, qual: Qual)
-    ensures { state.new ≡ record state.old { objects = state.new.objects } }
+fn put_object_type(state: &mut State, number: u32, qual: Qual)
+    ensures rest { state.new ≡ record state.old { objects = state.new.objects } }
+    ensures row { (o : Object) → IsRowOf o (row_in state.old number) → IsRowOf (record o { qual = qualified_of qual }) (row_in state.new number) }
+    ensures others { (m : ℕ) → m ≢ number → row_in state.new m ≡ row_in state.old m }
+    ensures places { HasPlaces state.old → HasPlaces state.new }
 {
-    if (number as usize) < state.objects.len() {
-        state.objects[number as usize].qual = qual;
+    if let Some(row) = state.objects.get_mut(number as usize) {
+        row.qual = qual;
     }
+}
+
+// Gives the object this type.
+fn set_object_type(state: &mut State, number: u32, qual: Qual)
+    ensures rest { state.new ≡ record state.old { objects = state.new.objects } }
+    ensures rows { (n : Naming) → IsOneToOne n → (env : Env) → HasObjects n state.old env → HasObjects n state.new (names.changing_object (n number) (λ o. record o { qual = qualified_of qual }) env) }
+{
+    put_object_type(state, number, qual);
 }
 
 fn new_object(state: &mut State, symbol: u32, qual: &Qual, internal: bool) -> Result<u32, NoMemory>
     ensures known { IfOk result (λ number. (n : Naming) (t : TokenText) (env : Env) → known_by n t state.new env ≡ names.with_link symbol internal (target_seen n (target.Static number)) (qualified_of qual.now) (known_by n t state.old env)) }
+    ensures rows { IfOk result (λ number. (n : Naming) → IsOneToOne n → (env : Env) (at : ℕ) → HasObjects n state.old env → names.object_named at env.objects ≡ None → n number ≡ at → HasObjects n state.new (names.with_object (names.new_object at (qualified_of qual.now)) env)) }
 {
     let alloc = state.alloc;
     let number = state.add_object(ObjectRow::new(alloc, copied_qual(alloc, qual)?, internal))?;
@@ -451,6 +482,7 @@ fn further_object(
     seen: &Qual,
 ) -> Result<(), NoMemory>
     ensures known { OnOk result ((n : Naming) (t : TokenText) (env : Env) → known_by n t state.new env ≡ names.with_further symbol (qualified_of qual.now) (known_by n t state.old env)) }
+    ensures rows { OnOk result ((n : Naming) → IsOneToOne n → (env : Env) → env.depth ≡ state.old.names.depth → HasObjects n state.old env → HasObjects n state.new (names.file_type (n number) (qualified_of seen.now) env)) }
 {
     note_type(state, symbol, qual)?;
     if state.names.is_file() {
@@ -461,7 +493,8 @@ fn further_object(
 }
 
 fn bind_object(state: &mut State, symbol: u32, number: u32, seen: Qual) -> Result<(), NoMemory>
-    ensures { OnOk result ((n : Naming) (t : TokenText) (env : Env) → known_by n t state.new env ≡ names.bound symbol (an_object (slot.Static (n number)) (qualified_of seen) false) (known_by n t state.old env)) }
+    ensures known { OnOk result ((n : Naming) (t : TokenText) (env : Env) → known_by n t state.new env ≡ names.bound symbol (an_object (slot.Static (n number)) (qualified_of seen) false) (known_by n t state.old env)) }
+    ensures rest { state.new ≡ record state.old { names = state.new.names } }
 {
     let meaning = Meaning::Object {
         slot: Slot::Static(number),
@@ -479,7 +512,8 @@ fn object_number(
     qual: &Qual,
     linkage: Linkage,
 ) -> Result<u32, TypeFault>
-    ensures { (n : Naming) → IsOneToOne n → IsNamed n source.now at state.old result → (env : Env) → IsKnown n source.now state.old env → Follows n (IsKnown n source.now state.new) (names.declare_object at (qualified_of qual.now) (given_of linkage) env) result }
+    ensures reads { (n : Naming) → IsOneToOne n → IsNamed n source.now at state.old result → (env : Env) → IsKnown n source.now state.old env → Follows n (IsKnown n source.now state.new) (names.declare_object at (qualified_of qual.now) (given_of linkage) env) result }
+    ensures rows { (n : Naming) → IsOneToOne n → IsNamed n source.now at state.old result → (env : Env) → IsKnown n source.now state.old env → HasObjects n state.old env → names.object_named at env.objects ≡ None → Follows n (HasObjects n state.new) (names.declare_object at (qualified_of qual.now) (given_of linkage) env) result }
 {
     let found = match redeclared(state, source, at, qual, linkage) {
         Ok(found) => found,
@@ -511,7 +545,8 @@ pub fn declare_object(
     qual: Qual,
     linkage: Linkage,
 ) -> Result<u32, TypeFault>
-    ensures { (n : Naming) → IsOneToOne n → IsNamed n source.now at state.old result → (env : Env) → IsKnown n source.now state.old env → Follows n (IsKnown n source.now state.new) (names.declare_object at (qualified_of qual) (given_of linkage) env) result }
+    ensures reads { (n : Naming) → IsOneToOne n → IsNamed n source.now at state.old result → (env : Env) → IsKnown n source.now state.old env → Follows n (IsKnown n source.now state.new) (names.declare_object at (qualified_of qual) (given_of linkage) env) result }
+    ensures rows { (n : Naming) → IsOneToOne n → IsNamed n source.now at state.old result → (env : Env) → IsKnown n source.now state.old env → HasObjects n state.old env → names.object_named at env.objects ≡ None → Follows n (HasObjects n state.new) (names.declare_object at (qualified_of qual) (given_of linkage) env) result }
 {
     object_number(state, source, at, &qual, linkage)
 }
@@ -547,7 +582,8 @@ pub fn complete_object(
     number: u32,
     qual: &Qual,
 ) -> Result<(), NoMemory>
-    ensures { OnOk result ((n : Naming) → IsOneToOne n → (t : TokenText) (env : Env) → known_by n t state.new env ≡ names.renamed symbol (an_object (slot.Static (n number)) (qualified_of qual.now) false) (names.with_further_of (target.Static (n number)) symbol (qualified_of qual.now) (known_by n t state.old env))) }
+    ensures known { OnOk result ((n : Naming) → IsOneToOne n → (t : TokenText) (env : Env) → known_by n t state.new env ≡ names.renamed symbol (an_object (slot.Static (n number)) (qualified_of qual.now) false) (names.with_further_of (target.Static (n number)) symbol (qualified_of qual.now) (known_by n t state.old env))) }
+    ensures rows { OnOk result ((n : Naming) → IsOneToOne n → (env : Env) → HasObjects n state.old env → HasObjects n state.new (names.changing_object (n number) (λ o. record o { qual = qualified_of qual.now }) env)) }
 {
     let alloc = state.alloc;
     set_object_type(state, number, copied_qual(alloc, qual)?);
@@ -567,7 +603,10 @@ pub fn declare_local_static(
     source: &Source<'_>,
     at: u32,
     qual: Qual,
-) -> Result<u32, TypeFault> {
+) -> Result<u32, TypeFault>
+    ensures reads { (n : Naming) → IsNamedOk n at result → (env : Env) → IsKnown n source.now state.old env → Follows (λ number. tt) (IsKnown n source.now state.new) (static_declared at (qualified_of qual) env) result }
+    ensures rows { (n : Naming) → IsOneToOne n → IsNamedOk n at result → (env : Env) → IsKnown n source.now state.old env → HasObjects n state.old env → names.object_named at env.objects ≡ None → Follows (λ number. tt) (HasObjects n state.new) (static_declared at (qualified_of qual) env) result }
+{
     let alloc = state.alloc;
     let copy = copied_qual(alloc, &qual)?;
     let number = state.add_object(ObjectRow::new(alloc, qual, true))?;
@@ -577,8 +616,10 @@ pub fn declare_local_static(
         qual: copy,
         register: false,
     };
-    state.declare(source, at, meaning)?;
-    Ok(number)
+    match state.declare(source, at, meaning) {
+        Ok(()) => Ok(number),
+        Err(fault) => Err(fault),
+    }
 }
 
 // 5. Functions.
@@ -617,11 +658,43 @@ fn fits_library(alloc: Global, ty: &FuncTy, library: Option<LibFunc>) -> Result<
     }
 }
 
-fn first_definition(library: Option<LibFunc>) -> Definition {
+// Where a function that is declared first is defined: in the library, or nowhere so far.
+fn first_definition(library: Option<LibFunc>) -> Definition
+    ensures { (ty : FuncTy) → routine_by ty result ≡ names.new_function (signature_of ty) library }
+{
     match library {
         Some(library) => Definition::Library(library),
         None => Definition::Nowhere,
     }
+}
+
+fn new_row(
+    alloc: Global,
+    ty: &FuncTy,
+    internal: bool,
+    library: Option<LibFunc>,
+) -> Result<FunctionRow, NoMemory>
+    ensures { IfOk result (λ row. routine_seen row ≡ names.new_function (signature_of ty.now) library) }
+{
+    let copy = copied_function(alloc, ty)?;
+    let definition = first_definition(library);
+    Ok(FunctionRow {
+        ty: copy,
+        internal,
+        definition,
+        used: None,
+    })
+}
+
+fn add_function(state: &mut State, row: FunctionRow) -> Result<u32, NoMemory>
+    ensures number { IfOk result (λ number. number ≡ vec_len state.old.functions) }
+    ensures known { OnOk result ((n : Naming) (t : TokenText) (env : Env) → known_by n t state.new env ≡ names.with_function (routine_seen row) (known_by n t state.old env)) }
+{
+    let Ok(number) = u32::try_from(state.functions.len()) else {
+        return Err(NoMemory);
+    };
+    state.functions.push(row)?;
+    Ok(number)
 }
 
 fn new_function(
@@ -633,47 +706,44 @@ fn new_function(
     library: Option<LibFunc>,
 ) -> Result<u32, NoMemory>
     ensures number { IfOk result (λ number. number ≡ vec_len state.old.functions) }
-    ensures more { OnOk result (vec_len state.new.functions ≡ vec_len state.old.functions + 1) }
-    ensures known { OnOk result ((n : Naming) (t : TokenText) (env : Env) → known_by n t state.new env ≡ names.with_link symbol internal (target.Function (vec_len state.old.functions)) (qualified_of qual.now) (known_by n t state.old env)) }
+    ensures known { IfOk result (λ number. (n : Naming) (t : TokenText) (env : Env) → known_by n t state.new env ≡ names.with_link symbol internal (target.Function number) (qualified_of qual.now) (names.with_function (names.new_function (signature_of ty.now) library) (known_by n t state.old env))) }
 {
-    let alloc = state.alloc;
-    let Ok(number) = u32::try_from(state.functions.len()) else {
-        return Err(NoMemory);
-    };
-    let row = FunctionRow {
-        ty: copied_function(alloc, ty)?,
-        internal,
-        definition: first_definition(library),
-        used: None,
-    };
-    state.functions.push(row)?;
+    let row = new_row(state.alloc, ty, internal, library)?;
+    let number = add_function(state, row)?;
     link(state, symbol, Target::Function(number), internal, qual)?;
     Ok(number)
 }
 
 // The composite of the function types.
-fn joined_functions(alloc: Global, old: &FuncTy, new: &FuncTy) -> Result<FuncTy, NoMemory> {
-    let first = function_qual(alloc, old)?;
-    let second = function_qual(alloc, new)?;
-    match composite(alloc, &first.ty, &second.ty)? {
-        Ty::Function(joined) => copied_function(alloc, joined.get()),
-        _ => copied_function(alloc, old),
+fn joined_functions(alloc: Global, old: &FuncTy, new: &FuncTy) -> Result<FuncTy, NoMemory>
+    ensures { IfOk result (λ f. signature_of f ≡ composite_signature (signature_of old.now) (signature_of new.now)) }
+{
+    let first = function_type(alloc, old)?;
+    let second = function_type(alloc, new)?;
+    let joined = composite(alloc, &first, &second)?;
+    match as_function(&joined) {
+        Some(joined) => copied_function(alloc, joined),
+        None => copied_function(alloc, old),
     }
 }
 
 // Gives the function the composite of its type so far and this one.
-fn join_function(state: &mut State, number: u32, ty: &FuncTy) -> Result<(), NoMemory>
-    ensures rest { state.new ≡ record state.old { functions = state.new.functions } }
-    ensures same { vec_len state.new.functions ≡ vec_len state.old.functions }
+fn join_row(alloc: Global, row: &mut FunctionRow, ty: &FuncTy) -> Result<(), NoMemory>
+    ensures { OnOk result (routine_seen row.new ≡ names.further_type (signature_of ty.now) (routine_seen row.old)) }
 {
-    let joined = match state.functions.get(number as usize) {
-        Some(row) => joined_functions(state.alloc, &row.ty, ty)?,
-        None => return Ok(()),
-    };
-    if (number as usize) < state.functions.len() {
-        state.functions[number as usize].ty = joined;
-    }
+    let joined = joined_functions(alloc, &row.ty, ty)?;
+    row.ty = joined;
     Ok(())
+}
+
+fn join_function(state: &mut State, number: u32, ty: &FuncTy) -> Result<(), NoMemory>
+    ensures { OnOk result ((n : Naming) (t : TokenText) (env : Env) → known_by n t state.new env ≡ names.changing_function number (names.further_type (signature_of ty.now)) (known_by n t state.old env)) }
+{
+    let alloc = state.alloc;
+    match state.functions.get_mut(number as usize) {
+        Some(row) => join_row(alloc, row, ty),
+        None => Ok(()),
+    }
 }
 
 // A further declaration of the function.
@@ -684,16 +754,14 @@ fn further_function(
     ty: &FuncTy,
     qual: &Qual,
 ) -> Result<(), NoMemory>
-    ensures same { vec_len state.new.functions ≡ vec_len state.old.functions }
-    ensures known { OnOk result ((n : Naming) (t : TokenText) (env : Env) → known_by n t state.new env ≡ names.with_further symbol (qualified_of qual.now) (known_by n t state.old env)) }
+    ensures { OnOk result ((n : Naming) (t : TokenText) (env : Env) → known_by n t state.new env ≡ names.changing_function number (names.further_type (signature_of ty.now)) (names.with_further symbol (qualified_of qual.now) (known_by n t state.old env))) }
 {
     note_type(state, symbol, qual)?;
     join_function(state, number, ty)
 }
 
 fn bind_function(state: &mut State, symbol: u32, number: u32, seen: Qual) -> Result<(), NoMemory>
-    ensures known { OnOk result ((n : Naming) (t : TokenText) (env : Env) → known_by n t state.new env ≡ names.bound symbol (a_function number (qualified_of seen).ty) (known_by n t state.old env)) }
-    ensures same { state.new.functions ≡ state.old.functions }
+    ensures { OnOk result ((n : Naming) (t : TokenText) (env : Env) → known_by n t state.new env ≡ names.bound symbol (a_function number (qualified_of seen).ty) (known_by n t state.old env)) }
 {
     let meaning = Meaning::Function {
         number,
@@ -711,7 +779,7 @@ fn function_number(
     linkage: Linkage,
     library: Option<LibFunc>,
 ) -> Result<u32, TypeFault>
-    ensures { (n : Naming) → IsOneToOne n → (env : Env) → IsKnown n source.now state.old env → HasFunctions state.old env → library ≡ names.library_of (names.is_internal (given_of linkage) (option_map (linked_seen n) (prior_in state.old (symbol_in source.now (slice_get source.now.list at))))) (text_at source.now at) → names.fits_library (signature_of ty.now) library ≡ true → Follows (λ number. number) (IsDeclared n source.now state.new) (names.declare_function at (signature_of ty.now) (given_of linkage) env) result }
+    ensures { (n : Naming) → IsOneToOne n → (env : Env) → library ≡ names.library_of (names.is_internal (given_of linkage) (option_map (linked_seen n) (prior_in state.old (symbol_in source.now (slice_get source.now.list at))))) (text_at source.now at) → names.fits_library (signature_of ty.now) library ≡ true → Reads (λ number. number) (names.declare_function at (signature_of ty.now) (given_of linkage) (known_by n source.now state.old env)) result (known_by n source.now state.new env) }
 {
     let qual = function_qual(state.alloc, ty)?;
     let found = match redeclared(state, source, at, &qual, linkage) {
@@ -744,7 +812,7 @@ pub fn declare_function(
     ty: FuncTy,
     linkage: Linkage,
 ) -> Result<u32, TypeFault>
-    ensures { (n : Naming) → IsOneToOne n → (env : Env) → IsKnown n source.now state.old env → HasFunctions state.old env → Follows (λ number. number) (IsDeclared n source.now state.new) (names.declare_function at (signature_of ty) (given_of linkage) env) result }
+    ensures { (n : Naming) → IsOneToOne n → (env : Env) → Reads (λ number. number) (names.declare_function at (signature_of ty) (given_of linkage) (known_by n source.now state.old env)) result (known_by n source.now state.new env) }
 {
     let internal = is_internal(linkage, prior(state, source.symbol(at)));
     let library = library_of(source.spelling(at), internal);

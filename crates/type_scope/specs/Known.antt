@@ -1,16 +1,21 @@
 -- What is known where a unit is read up to a place, as the definition of typing has it.
-use Rattle.std.specs.Prelude.{◌≡◌, ℕ, map}
+use Rattle.std.specs.Prelude.{◌≡◌, ℕ, Bool, true, false, map, Option, Some, None}
 use Rattle.c_lex.specs.TokenText.{TokenText}
-use Rattle.c_types.specs.Types.{type_of, qualified_of}
+use Rattle.c_types.specs.Types.{Signature, type_of, qualified_of, signature_of}
+use Rattle.c_types.specs.declared.library.LibFunc.{LibFunc}
+use Rattle.c_types.specs.declared.ty.FuncTy.{FuncTy}
 use Rattle.c_typed.specs.declared.tree.Slot.{Slot}
 use Rattle.c_typed.specs.declared.tree.Slot.TheVariants as slot
 use Rattle.c_typed.specs.declared.tree.Target.{Target}
 use Rattle.c_typed.specs.declared.tree.Target.TheVariants as target
 use Rattle.type_name_space.specs.Scopes.{Declared}
-use Rattle.typing_env.specs.Seen.{tag_seen}
+use Rattle.typing_env.specs.Seen.{Statement, tag_seen, seen_body}
 use Rattle.typing_env.specs.Env as seen
 use Rattle.typing_env.specs.Env.{Env, Meaning, an_object, a_function, a_constant, a_typedef, TagMeaning, a_tag, an_enumeration}
 use Rattle.type_scope.specs.InScope.{InScope}
+use Rattle.type_scope.specs.declared.rows.Definition.{Definition}
+use Rattle.type_scope.specs.declared.rows.Definition.TheVariants as definition
+use Rattle.type_scope.specs.declared.rows.FunctionRow.{FunctionRow}
 use Rattle.type_scope.specs.declared.rows.Linked.{Linked}
 use Rattle.type_scope.specs.declared.rows.Meaning as held
 use Rattle.type_scope.specs.declared.rows.Meaning.TheVariants as meaning
@@ -59,13 +64,37 @@ with_scopes naming s env = record env {
   };
 }
 
--- with these tokens, and the tags, the enumerations and the identifiers with linkage of this state
+-- a function: its type is that of its definition, once it is defined, and else the composite of those of its declarations (6.2.7p4)
+abbrev pub signature_seen : FuncTy → Definition → Signature
+signature_seen ty (definition.Own own body) = signature_of own
+signature_seen ty _ = signature_of ty
+
+abbrev pub library_seen : Definition → Option LibFunc
+library_seen (definition.Library library) = Some library
+library_seen _ = None
+
+abbrev pub is_own : Definition → Bool
+is_own (definition.Own own body) = true
+is_own _ = false
+
+abbrev pub body_seen : Definition → Option Statement
+body_seen (definition.Own own body) = seen_body body
+body_seen _ = None
+
+abbrev pub routine_by : FuncTy → Definition → seen.Routine
+routine_by ty d = record { signature = signature_seen ty d; library = library_seen d; defined = is_own d; body = body_seen d }
+
+abbrev pub routine_seen : FunctionRow → seen.Routine
+routine_seen row = routine_by row.ty row.definition
+
+-- with these tokens, and the tags, the enumerations, the identifiers with linkage and the functions of this state
 abbrev pub with_tables : Naming → TokenText → State → Env → Env
 with_tables naming tokens state env = record env {
   tokens = tokens;
   tags = map tag_seen state.tags;
   enumerations = state.enumerations.items;
   linked = map (with_meaning (linked_seen naming)) state.linked;
+  functions = map routine_seen state.functions.items;
 }
 
 -- what is known by this state; what it doesn't tell is as it was given

@@ -2,6 +2,7 @@ pub mod Faults
 pub mod InScope
 pub mod Known
 pub mod Labels
+pub mod Objects
 pub mod Reads
 pub mod Strings
 pub mod Tagged

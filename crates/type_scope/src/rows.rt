@@ -1,4 +1,8 @@
 // What names stand for.
+ghost use Rattle.std.specs.Prelude.{ℕ, Some};
+ghost use Rattle.c_types.specs.Types.{qualified_of};
+ghost use Rattle.typing_env.specs.Names.{new_object};
+ghost use Rattle.type_scope.specs.Objects.{IsRowOf};
 
 use c_typed::{Body, Constant, Slot, Target};
 use c_types::{FuncTy, LibFunc, Qual, TagKind, Ty};
@@ -99,7 +103,9 @@ pub struct FunctionRow {
 
 impl ObjectRow {
     /// An object of this type that isn't defined yet.
-    pub fn new(alloc: Global, qual: Qual, internal: bool) -> ObjectRow {
+    pub fn new(alloc: Global, qual: Qual, internal: bool) -> ObjectRow
+        ensures { (name : ℕ) → IsRowOf (new_object name (qualified_of qual)) (Some result) }
+    {
         ObjectRow {
             qual,
             internal,

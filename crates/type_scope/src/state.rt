@@ -1,10 +1,11 @@
 // All that is declared so far.
-ghost use Rattle.std.specs.Prelude.{◌≡◌, length, vec_len, IfOk, OnOk, OnErr};
+ghost use Rattle.std.specs.Prelude.{◌≡◌, ◌≢◌, ℕ, ◌<◌, length, vec_len, Some, None, IfOk, OnOk, OnErr};
 ghost use Rattle.c_lex.specs.TokenText.{TokenText};
 ghost use Rattle.c_typed.specs.Lawful.{HasBytes};
-ghost use Rattle.typing_env.specs.Env.{Env, start_of};
-ghost use Rattle.typing_env.specs.Names.{entered, left_scope, kept_prototype, with_parameters, with_new_tag, with_new_enumeration};
+ghost use Rattle.typing_env.specs.Env.{Env, Object, start_of};
+ghost use Rattle.typing_env.specs.Names.{entered, left_scope, kept_prototype, with_parameters, with_new_tag, with_new_enumeration, object_named, with_object, changing_object, first_of};
 ghost use Rattle.type_scope.specs.Known.{Naming, known_by};
+ghost use Rattle.type_scope.specs.Objects.{IsOneToOne, IsRowOf, HasPlaces, HasObjects, row_in};
 
 use crate::literals::Literal;
 use crate::rows::{FunctionRow, Linked, ObjectRow, TagRow};
@@ -159,6 +160,16 @@ impl State {
     /// A further object with static storage; the answer is its number.
     pub fn add_object(&mut self, row: ObjectRow) -> Result<u32, NoMemory>
         ensures rest { self.new ≡ record self.old { objects = self.new.objects; declared = self.new.declared } }
+        ensures rows { IfOk result (λ number. (n : Naming) → IsOneToOne n → (env : Env) (o : Object) → HasObjects n self.old env → object_named o.name env.objects ≡ None → n number ≡ o.name → IsRowOf o (Some row) → HasObjects n self.new (with_object o env)) }
+    {
+        self.add_row(row)
+    }
+
+    fn add_row(&mut self, row: ObjectRow) -> Result<u32, NoMemory>
+        ensures rest { self.new ≡ record self.old { objects = self.new.objects; declared = self.new.declared } }
+        ensures row { IfOk result (λ number. HasPlaces self.old → row_in self.new number ≡ Some row) }
+        ensures others { IfOk result (λ number. (m : ℕ) → m ≢ number → row_in self.new m ≡ row_in self.old m) }
+        ensures places { OnOk result (HasPlaces self.old → HasPlaces self.new) }
     {
         let at = self.declared;
         self.declared = at.saturating_add(1);
@@ -168,26 +179,48 @@ impl State {
                 self.put_object(place, row);
                 Ok(place)
             }
-            None => {
-                let Ok(place) = u32::try_from(self.objects.len()) else {
-                    return Err(NoMemory);
-                };
-                self.objects.push(row)?;
-                Ok(place)
-            }
+            None => self.push_object(row),
         }
     }
 
-    fn put_object(&mut self, place: u32, row: ObjectRow)
-        ensures { self.new ≡ record self.old { objects = self.new.objects } }
+    fn push_object(&mut self, row: ObjectRow) -> Result<u32, NoMemory>
+        ensures rest { self.new ≡ record self.old { objects = self.new.objects } }
+        ensures row { IfOk result (λ number. row_in self.new number ≡ Some row) }
+        ensures others { IfOk result (λ number. (m : ℕ) → m ≢ number → row_in self.new m ≡ row_in self.old m) }
+        ensures more { OnOk result (length self.old.objects.items < length self.new.objects.items) }
     {
-        if (place as usize) < self.objects.len() {
-            self.objects[place as usize] = row;
+        let Ok(place) = u32::try_from(self.objects.len()) else {
+            return Err(NoMemory);
+        };
+        self.objects.push(row)?;
+        Ok(place)
+    }
+
+    fn put_object(&mut self, place: u32, row: ObjectRow)
+        ensures rest { self.new ≡ record self.old { objects = self.new.objects } }
+        ensures row { place < length self.old.objects.items → row_in self.new place ≡ Some row }
+        ensures others { (m : ℕ) → m ≢ place → row_in self.new m ≡ row_in self.old m }
+        ensures same { length self.new.objects.items ≡ length self.old.objects.items }
+    {
+        if let Some(was) = self.objects.get_mut(place as usize) {
+            *was = row;
         }
     }
 
     /// Notes the first definition of an object.
-    pub fn define_object(&mut self, number: u32, line: u32) {
+    pub fn define_object(&mut self, number: u32, line: u32)
+        ensures rest { self.new ≡ record self.old { objects = self.new.objects; defined = self.new.defined } }
+        ensures rows { (n : Naming) → IsOneToOne n → (env : Env) (at : ℕ) → HasObjects n self.old env → HasObjects n self.new (changing_object (n number) (λ o. record o { defined = first_of o.defined at }) env) }
+    {
+        self.define_row(number, line);
+    }
+
+    fn define_row(&mut self, number: u32, line: u32)
+        ensures rest { self.new ≡ record self.old { objects = self.new.objects; defined = self.new.defined } }
+        ensures row { (at : ℕ) (o : Object) → IsRowOf o (row_in self.old number) → IsRowOf (record o { defined = first_of o.defined at }) (row_in self.new number) }
+        ensures others { (m : ℕ) → m ≢ number → row_in self.new m ≡ row_in self.old m }
+        ensures places { HasPlaces self.old → HasPlaces self.new }
+    {
         let next = self.defined;
         if let Some(row) = self.objects.get_mut(number as usize)
             && row.defined.is_none()

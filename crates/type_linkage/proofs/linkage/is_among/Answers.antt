@@ -1,4 +1,4 @@
-use Rattle.std.proofs.Common.{◌≡◌, true, false, ◌∙◌, sym}
+use Rattle.std.proofs.Common.{◌∙◌, sym}
 use Rattle.c_types.specs.Types.{qualified_of}
 use Rattle.type_linkage.proofs.Types.{among_next, among_here}
 use Rattle.type_linkage.proofs.linkage.is_among.Goals as goal

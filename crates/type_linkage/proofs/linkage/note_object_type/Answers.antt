@@ -1,4 +1,4 @@
-use Rattle.std.proofs.Common.{ap, ◌∙◌, sym}
+use Rattle.std.proofs.Common.{◌∙◌, sym}
 use Rattle.std.proofs.lemmas.Result.{on_ok_weaker}
 use Rattle.c_types.specs.Types.{qualified_of}
 use Rattle.type_linkage.proofs.Linking.{further_of_linked, further_of_other}

@@ -1,0 +1,42 @@
+use Rattle.std.proofs.Common.{◌≡◌, true, ap}
+use Rattle.run_events.specs.Acts.{is_body_act}
+use Rattle.run_events.proofs.Performing.{fill_performs, no_effect, store_performs, value_performs}
+use Rattle.run_events.proofs.Rooms.{touches_all}
+use Rattle.run_events.proofs.acts.perform.Goals as goal
+
+pub returns-in-Store-clause-exact : goal.returns-in-Store-clause-exact
+returns-in-Store-clause-exact c = λ rows can given plain.
+    store_performs rows c.args.machine.now c.store_value.new.machine c.args.event can c.args.act.now c.in-Store.store c.in-Store.place c.in-Store.value
+    c.store_value.result c.in-Store.is given (λ place value. c.store_value.ensures.exact can.can can.tables place value)
+
+pub returns-in-Store-clause-changes : goal.returns-in-Store-clause-changes
+returns-in-Store-clause-changes c = λ plain.
+    touches_all c.args.machine.now c.store_value.new.machine c.args.event.node c.args.act.now c.store_value.ensures.rest
+
+pub returns-in-Fill-clause-exact : goal.returns-in-Fill-clause-exact
+returns-in-Fill-clause-exact c = λ rows can given plain.
+    fill_performs rows c.args.machine.now c.fill_list.new.machine c.args.event can c.args.act.now c.in-Fill.object c.in-Fill.constants
+    c.fill_list.result c.in-Fill.is given (λ object. c.fill_list.ensures.exact can.can can.tables object)
+
+pub returns-in-Fill-clause-changes : goal.returns-in-Fill-clause-changes
+returns-in-Fill-clause-changes c = λ plain.
+    touches_all c.args.machine.now c.fill_list.new.machine c.args.event.node c.args.act.now c.fill_list.ensures.rest
+
+pub returns-in-Call-clause-exact : goal.returns-in-Call-clause-exact
+returns-in-Call-clause-exact c = λ rows can given plain. absurd (let e : is_body_act c.args.act.now ≡ true = ap is_body_act c.in-Call.is in cc)
+
+pub returns-in-Call-clause-changes : goal.returns-in-Call-clause-changes
+returns-in-Call-clause-changes c = λ plain. absurd (let e : is_body_act c.args.act.now ≡ true = ap is_body_act c.in-Call.is in cc)
+
+pub returns-in-Initialize-clause-exact : goal.returns-in-Initialize-clause-exact
+returns-in-Initialize-clause-exact c = λ rows can given plain.
+    absurd (let e : is_body_act c.args.act.now ≡ true = ap is_body_act c.in-Initialize.is in cc)
+
+pub returns-in-Initialize-clause-changes : goal.returns-in-Initialize-clause-changes
+returns-in-Initialize-clause-changes c = λ plain. absurd (let e : is_body_act c.args.act.now ≡ true = ap is_body_act c.in-Initialize.is in cc)
+
+pub returns-in_default-clause-exact : goal.returns-in_default-clause-exact
+returns-in_default-clause-exact c = λ rows can given plain.
+    let gives = no_effect c.args.act.now c.in_default.not-Store c.in_default.not-Fill c.in_default.not-Call c.in_default.not-Initialize in
+    value_performs rows c.args.machine.now c.value_act.new.machine c.args.event c.args.act.now c.value_act.result can given gives
+    (c.value_act.ensures.exact can.can given gives)
