@@ -24,6 +24,7 @@ use Rattle.std.proofs.Common.{
   arith,
   append_assoc,
   rules,
+  get_or,
   List,
   [],
   ◌∷◌,
@@ -47,7 +48,8 @@ use Rattle.addr_map.specs.declared.map.Mode.{Mode}
 use Rattle.addr_map.specs.declared.map.Row.{Row}
 use Rattle.addr_map.specs.Rows.{row_at, row_of}
 use Rattle.exposure.specs.declared.prov.Prov.TheVariants.{Whole}
-use Rattle.c_types.specs.Shapes.{Form}
+use Rattle.c_types.specs.declared.shape.Shape.{Shape}
+use Rattle.c_types.specs.Shapes.{Form, form_of}
 use Rattle.mem_spec.specs.declared.kind.ObjKind.{ObjKind}
 use Rattle.mem_spec.specs.Acts.{base_in, create, has_place}
 use Rattle.mem_spec.specs.Script.{Act, Bear, Done, Give, Misplace, Raised, Ended, Outside, Unplaced, Script, run, touch, touched, ◌>>◌}
@@ -56,7 +58,7 @@ use Rattle.mem_spec.specs.Streams.{Io}
 use Rattle.prov_memory.specs.Held.{Held, held_of}
 use Rattle.prov_memory.specs.Keeps.{Keeps, RowsStay}
 use Rattle.prov_memory.specs.Made.{IsMade}
-use Rattle.prov_memory.specs.Memory.{IsBorn, Kept, cannot_create, life_in, no_place, store_of}
+use Rattle.prov_memory.specs.Memory.{AreKnown, IsBorn, Kept, cannot_create, life_in, no_place, store_of}
 use Rattle.prov_memory.specs.Sound.{IsSound}
 use Rattle.prov_memory.proofs.KeepLemmas.{keeps_none, keeps_then}
 use Rattle.c_model.specs.Program.{Decl}
@@ -326,3 +328,72 @@ created_so : (rows : List Row) (x : ObjName) (size align base : ℕ) (kind : Obj
 created_so rows x size align base kind form s at none =
     ap (λ (o : Option Row). run rows (if has_place o size align then touch (Bear x size kind form) >> Give (base_in o) else Misplace) s) at
     ∙ created_at rows x size base kind form s ((size == size) && (align == align)) (sized size align) none
+
+-- .. and stands among the objects of the top frame
+pub one_new : (m p : Machine) (o : ObjectCode) (first k at base : ℕ) (memory : Kept) (t items : List Item) (declared : Option Shape) (form : Option Form) →
+    declared ≡ option_map (λ s. s.value) o.shape → form ≡ (birth_of o).form → at ≡ min (first + k) (2 ^ 32 - 1) →
+    IsBorn m.memory memory (new_name m k) base o.size o.align (object_kind o.constant) declared →
+    (AreKnown m.memory → (io : Io) → run memory.rows (create memory.rows (new_name m k) o.size o.align (object_kind o.constant) form) (store_of m.memory io)
+    ≡ Done base t (store_of memory io)) →
+    Keeps m.memory memory → IsMade memory (Whole (new_name m k)) →
+    p ≡ record m { memory = memory; spare = t; locals = p.locals } →
+    slice_get p.locals.items (min (m.top.locals + at) (2 ^ 64 - 1)) ≡ Some (record { addr = base; name = new_name m k }) →
+    ((j : ℕ) → j ≢ min (m.top.locals + at) (2 ^ 64 - 1) → slice_get p.locals.items j ≡ slice_get m.locals.items j) → items ≡ p.items ++ p.spare →
+    IsOneNew m o first k (record p { items = items })
+one_new m p o first k at base memory t items declared form shape shapes is born exact keeps made rest placed others joined =
+    let x = new_name m k in
+    let kind = object_kind o.constant in
+    let known : IsSound m.memory → (io : Io) → run memory.rows (create memory.rows x o.size o.align kind form) (store_of m.memory io)
+    ≡ Done base t (store_of memory io) = λ sound. exact sound.known in
+    let does : (io : Io) → run memory.rows (create memory.rows x o.size o.align kind form) (store_of m.memory io)
+    ≡ Done base (Born x ∷ []) (born (store_of m.memory io) x o.size kind form) = λ io.
+    created_so memory.rows x o.size o.align base kind form (store_of m.memory io) born.row (ap (λ (h : Option Held). life_in h) born.absent) in
+    let there : first + k < 2 ^ 32 → m.top.locals + (first + k) < 2 ^ 64 → min (m.top.locals + at) (2 ^ 64 - 1) ≡ m.top.locals + (first + k) = λ small low.
+    omega (arith, is, small, low) in
+    let all : items ≡ m.items ++ t = joined ∙ ap (λ (q : Machine). q.items ++ q.spare) rest in
+    subst (λ (q : Machine). IsOneNew m o first k (record q { items = items })) (sym rest) (record {
+      rest = refl;
+      base = base;
+      born = subst (λ (d : Option Shape). IsBorn m.memory memory x base o.size o.align kind d) shape born;
+      kept = keeps;
+      made = made;
+      items = λ sound.
+          let touches : t ≡ Born x ∷ [] = sym (ap touched_by (known sound m.streams)) ∙ ap touched_by (does m.streams) in
+          all ∙ ap (λ (is : List Item). m.items ++ is) touches;
+      store = λ sound io.
+          sym (ap (left_by (store_of m.memory io)) (known sound io)) ∙ ap (left_by (store_of m.memory io)) (does io)
+          ∙ ap (λ (f : Option Form). born (store_of m.memory io) x o.size kind f) shapes;
+      placed = λ small low.
+          subst (λ (j : ℕ). slice_get p.locals.items j ≡ Some (record { addr = base; name = x })) (there small low) placed;
+      others = λ small low j apart. others j (λ e. apart (e ∙ there small low));
+    })
+
+-- ---- the code: one object after the other
+item_at : {A : Type 0} (xs : List A) (i : ℕ) (x : A) → i < length xs → x ≡ get_or xs i x → slice_get xs i ≡ Some x
+item_at [] i x lt is = absurd (omega (arith, lt))
+item_at (y ∷ xs) zero x lt is = ap Some (sym is)
+item_at (y ∷ xs) (suc i) x lt is = item_at xs i x (omega (arith, lt)) is
+
+-- numbers of objects that can be created don't reach the most
+numbered : (first n number count : ℕ) → number ≡ min n (2 ^ 32 - 1) → n < count → first + count < 2 ^ 32 → number ≡ n
+numbered first n number count is lt small = omega (arith, is, lt, small)
+
+pub next_new : (old mid new : Machine) (objects : List ObjectCode) (o : ObjectCode) (first n number : ℕ) → n < length objects → o ≡ get_or objects n o →
+    number ≡ min n (2 ^ 32 - 1) → (CanBear old first (length objects) → AreNew old objects first n mid) → IsOneNew mid o first number new →
+    CanBear old first (length objects) → AreNew old objects first (n + 1) new
+next_new old mid new objects o first n number lt at is d one can =
+    let same : number ≡ n = numbered first n number (length objects) is lt can.numbers in
+    let next : suc n ≡ n + 1 = omega arith in
+    subst (λ (k : ℕ). AreNew old objects first k new) next
+    (one_more_new old mid new objects o first n (length objects) (item_at objects n o lt at) can lt (d can)
+    (subst (λ (k : ℕ). IsOneNew mid o first k new) same one))
+
+pub stops_there : (objects : List ObjectCode) (first n number : ℕ) (old mid new : Machine) (o : ObjectCode) (r : Result (Unit {0}) Halt) (y e : Halt) →
+    r ≡ Err y → y ≡ e → n < length objects → o ≡ get_or objects n o → number ≡ min n (2 ^ 32 - 1) →
+    (CanBear old first (length objects) → AreNew old objects first n mid) → CreatesOne mid o first number new (Err e) →
+    CanBear old first (length objects) → BearsAll old objects first new r
+stops_there objects first n number old mid new o r y e fails fault lt at is d one can =
+    let same : number ≡ n = numbered first n number (length objects) is lt can.numbers in
+    subst (λ (q : Result (Unit {0}) Halt). BearsAll old objects first new q) (sym (fails ∙ ap Err fault))
+    (stops_at objects first n old mid new o e (item_at objects n o lt at) lt (ap (λ (m : Machine). m.top) (d can).rest) d
+    (subst (λ (k : ℕ). CreatesOne mid o first k new (Err e)) same one) can)

@@ -101,6 +101,7 @@ use Rattle.run_machine.specs.Answering.{Answers, AnswersStep, HasTaken, as_befor
 use Rattle.run_machine.specs.Entering.{
   AreBelow,
   AreNew,
+  BearsAll,
   Birth,
   CanBear,
   CanEnter,
@@ -652,3 +653,66 @@ pub enter_answers : (m new : Machine) (s : Step) (b : Bor Block) (number : ℕ) 
     Enters m number new r → AnswersStep s m new r
 enter_answers m new s b number r is same e =
     by_step s (taking.Enter b) m new r is (enter_by m new b r (subst (λ (n : ℕ). Enters m n new r) same e))
+
+-- ---- the code: a block is entered
+abbrev turned_to : Machine → (number turn : ℕ) → Machine
+turned_to m number turn = record m { entered = number; top = record m.top { turn = turn } }
+
+abbrev Bears : (old : Machine) → List ObjectCode → (first : ℕ) → (new : Machine) → Result (Unit {0}) Halt → Type 0
+Bears old objects first new r = CanBear old first (length objects) → BearsAll old objects first new r
+
+-- of the block of this number, and its objects
+bears_there : (m mid : Machine) (number t u first : ℕ) (os ps : List ObjectCode) (r : Result (Unit {0}) Halt) → t ≡ u → os ≡ ps →
+    Bears (turned_to m number t) os first mid r → Bears (turned_to m number u) ps first mid r
+bears_there m mid number t u first os ps r is same d =
+    subst (λ (xs : List ObjectCode). Bears (turned_to m number u) xs first mid r) same
+    (subst (λ (k : ℕ). Bears (turned_to m number k) os first mid r) is d)
+
+module _ (m mid : Machine) (number t reached : ℕ) (c : BlockCode) (os : List ObjectCode) (is : t ≡ min (m.top.turn + 1) (2 ^ 64 - 1))
+    (at : slice_get m.code.now.tables.blocks.items (min (m.top.blocks + number) (2 ^ 32 - 1)) ≡ Some c)
+    (there : os ≡ part_of m.code.now.tables.objects.items c.objects) (sum : reached ≡ min (m.memory.created + c.created) (2 ^ 62)) where
+  pub enters_over : 2 ^ 26 < reached → Enters m number mid (Err (halt.Over Created reached))
+  enters_over lt = (c, at, λ none can. (refl, sum, lt))
+
+  pub enters_ok : (new : Machine) → reached ≤ 2 ^ 26 → Bears (turned_to m number t) os c.first mid (Ok tt) → (c.arguments ≡ 0 → new ≡ mid) →
+      Enters m number new (Ok None)
+  enters_ok new small d stays = (
+    c,
+    at,
+    λ none can.
+        let objects = part_of m.code.now.tables.objects.items c.objects in (
+          refl,
+          subst (λ (k : ℕ). k ≤ 2 ^ 26) sum small,
+          subst (λ (q : Machine). AreNew (turned m number) objects c.first (length objects) q) (sym (stays none))
+              (bears_there m mid number t (min (m.top.turn + 1) (2 ^ 64 - 1)) c.first os objects (Ok tt) is there d can),
+        ),
+  )
+
+  by_fault : (e : Halt) → reached ≤ 2 ^ 26 → Bears (turned_to m number t) os c.first mid (Err e) → Enters m number mid (Err e)
+  by_fault halt.NoMemory small d = tt
+  by_fault halt.Unplaced small d = (
+    c,
+    at,
+    λ none can. (
+      subst (λ (k : ℕ). k ≤ 2 ^ 26) sum small,
+      bears_there m mid number t (min (m.top.turn + 1) (2 ^ 64 - 1)) c.first os (part_of m.code.now.tables.objects.items c.objects) (Err halt.Unplaced) is there d
+          can,
+    ),
+  )
+  by_fault (halt.Over cause count) small d = (
+    c,
+    at,
+    λ none can. absurd (bears_there m mid number t (min (m.top.turn + 1) (2 ^ 64 - 1)) c.first os (part_of m.code.now.tables.objects.items c.objects)
+        (Err (halt.Over cause count)) is there d can),
+  )
+  by_fault (halt.Raised event line clause) small d = (
+    c,
+    at,
+    λ none can. absurd (bears_there m mid number t (min (m.top.turn + 1) (2 ^ 64 - 1)) c.first os (part_of m.code.now.tables.objects.items c.objects)
+        (Err (halt.Raised event line clause)) is there d can),
+  )
+
+  pub enters_not : (r : Result (Option ℕ) Halt) (y e : Halt) → r ≡ Err y → y ≡ e → reached ≤ 2 ^ 26 →
+      Bears (turned_to m number t) os c.first mid (Err e) → Enters m number mid r
+  enters_not r y e fails fault small d =
+      subst (λ (q : Result (Option ℕ) Halt). Enters m number mid q) (sym (fails ∙ ap Err fault)) (by_fault e small d)

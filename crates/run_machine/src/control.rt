@@ -1,5 +1,6 @@
 // The control steps (6.8).
-ghost use Rattle.std.specs.Prelude.{◌≡◌, ◌≢◌, ◌∷◌, ◌+◌, ◌-◌, ◌^◌, true, false, min, ℕ, ℤ, Bool, Option, None, Some, length, slice_get, IfOk, OnOk};
+ghost use Rattle.std.specs.Prelude.{◌≡◌, ◌≢◌, ◌∷◌, ◌+◌, ◌-◌, ◌^◌, true, false, min, ℕ, ℤ, Bool, Option, None, Some, length, slice_get, IfOk, OnOk, option_map};
+ghost use Rattle.c_types.specs.Shapes.{form_of};
 ghost use Rattle.run_control.specs.Moves.{moved};
 ghost use Rattle.c_model.specs.Control.{Break_here, moved_in, ready_work};
 ghost use Rattle.run_control.specs.declared.links.Place.{Place};
@@ -15,6 +16,7 @@ ghost use Rattle.run_machine.specs.Moving.{GoesOn, IsGone, StepLeaves, TakesStep
 
 use crate::frames::end_frame;
 use c_typed::Typed;
+use c_types::Shape;
 use prov_memory::ObjKind;
 use run_code::{BlockCode, ObjectCode, Operand};
 use run_control::{Move, Step, Use};
@@ -22,6 +24,7 @@ use run_events::{choose_at_once, put_at};
 use run_objects::total;
 use run_state::{Begun, Halt, Local, Machine, Stage};
 use seq_order::Taken;
+use std::rc::Rc;
 use ub_base::{Cause, NoMemory, ObjName};
 
 /// How many bytes the created objects may count (own).
@@ -173,10 +176,7 @@ fn create(machine: &mut Machine, object: &ObjectCode, first: u32, number: u32) -
         literal: false,
         constant: object.constant,
     };
-    let shape = match &object.shape {
-        Some(shape) => Some(shape.clone().map_err(NoMemory::from)?),
-        None => None,
-    };
+    let shape = shape_of(object)?;
     let spare = &mut machine.spare;
     let addr = machine
         .memory
@@ -184,6 +184,17 @@ fn create(machine: &mut Machine, object: &ObjectCode, first: u32, number: u32) -
     place(machine, first.saturating_add(number), Local { addr, name })?;
     machine.items.join(&machine.spare)?;
     Ok(())
+}
+
+// The shape of an object's declared type, with an owner more.
+fn shape_of(object: &ObjectCode) -> Result<Option<Rc<Shape>>, NoMemory>
+    ensures shape { IfOk result (λ shape. option_map (λ s. s.value) shape ≡ option_map (λ s. s.value) object.now.shape) }
+    ensures form { IfOk result (λ shape. option_map (λ s. form_of s.value) shape ≡ option_map (λ s. form_of s.value) object.now.shape) }
+{
+    match &object.shape {
+        Some(shape) => Ok(Some(shape.clone()?)),
+        None => Ok(None),
+    }
 }
 
 // An automatic object of the top frame stands here.
