@@ -55,6 +55,8 @@ use Rattle.mem_spec.specs.Acts.{base_in, create, has_place}
 use Rattle.mem_spec.specs.Script.{Act, Bear, Done, Give, Misplace, Raised, Ended, Outside, Unplaced, Script, run, touch, touched, ◌>>◌}
 use Rattle.mem_spec.specs.Store.{Life, Store, born}
 use Rattle.mem_spec.specs.Streams.{Io}
+use Rattle.prov_memory.specs.declared.answer.CreateFault.{CreateFault}
+use Rattle.prov_memory.specs.declared.answer.CreateFault.TheVariants as faults
 use Rattle.prov_memory.specs.Held.{Held, held_of}
 use Rattle.prov_memory.specs.Keeps.{Keeps, RowsStay}
 use Rattle.prov_memory.specs.Made.{IsMade}
@@ -70,6 +72,7 @@ use Rattle.run_code.specs.declared.steps.ObjectCode.{ObjectCode}
 use Rattle.run_state.specs.declared.halt.Halt.{Halt}
 use Rattle.run_state.specs.declared.halt.Halt.TheVariants as halt
 use Rattle.run_state.specs.declared.machine.Machine.{Machine}
+use Rattle.run_state.specs.Faults.{halt_of}
 use Rattle.run_machine.specs.Entering.{
   AreNew,
   BearsAll,
@@ -340,21 +343,21 @@ pub one_new : (m p : Machine) (o : ObjectCode) (first k at base : ℕ) (memory :
     slice_get p.locals.items (min (m.top.locals + at) (2 ^ 64 - 1)) ≡ Some (record { addr = base; name = new_name m k }) →
     ((j : ℕ) → j ≢ min (m.top.locals + at) (2 ^ 64 - 1) → slice_get p.locals.items j ≡ slice_get m.locals.items j) → items ≡ p.items ++ p.spare →
     IsOneNew m o first k (record p { items = items })
-one_new m p o first k at base memory t items declared form shape shapes is born exact keeps made rest placed others joined =
+one_new m p o first k at base memory t items declared form shape shapes is bears exact keeps made rest placed others joined =
     let x = new_name m k in
     let kind = object_kind o.constant in
     let known : IsSound m.memory → (io : Io) → run memory.rows (create memory.rows x o.size o.align kind form) (store_of m.memory io)
     ≡ Done base t (store_of memory io) = λ sound. exact sound.known in
     let does : (io : Io) → run memory.rows (create memory.rows x o.size o.align kind form) (store_of m.memory io)
     ≡ Done base (Born x ∷ []) (born (store_of m.memory io) x o.size kind form) = λ io.
-    created_so memory.rows x o.size o.align base kind form (store_of m.memory io) born.row (ap (λ (h : Option Held). life_in h) born.absent) in
+    created_so memory.rows x o.size o.align base kind form (store_of m.memory io) bears.row (ap (λ (h : Option Held). life_in h) bears.absent) in
     let there : first + k < 2 ^ 32 → m.top.locals + (first + k) < 2 ^ 64 → min (m.top.locals + at) (2 ^ 64 - 1) ≡ m.top.locals + (first + k) = λ small low.
     omega (arith, is, small, low) in
     let all : items ≡ m.items ++ t = joined ∙ ap (λ (q : Machine). q.items ++ q.spare) rest in
     subst (λ (q : Machine). IsOneNew m o first k (record q { items = items })) (sym rest) (record {
       rest = refl;
       base = base;
-      born = subst (λ (d : Option Shape). IsBorn m.memory memory x base o.size o.align kind d) shape born;
+      born = subst (λ (d : Option Shape). IsBorn m.memory memory x base o.size o.align kind d) shape bears;
       kept = keeps;
       made = made;
       items = λ sound.
@@ -367,6 +370,19 @@ one_new m p o first k at base memory t items declared form shape shapes is born 
           subst (λ (j : ℕ). slice_get p.locals.items j ≡ Some (record { addr = base; name = x })) (there small low) placed;
       others = λ small low j apart. others j (λ e. apart (e ∙ there small low));
     })
+
+-- .. or it has no place
+abbrev failed : CreateFault → Result ℕ CreateFault
+failed f = Err f
+
+pub creates_not : (m new : Machine) (o : ObjectCode) (first k : ℕ) (r : Result (Unit {0}) Halt) (y : Halt) (f : CreateFault) → r ≡ Err y → y ≡ halt_of f →
+    (failed f ≡ failed faults.Unplaced → cannot_create m.memory (new_name m k) o.size o.align ≡ true) →
+    (failed f ≡ failed faults.Unplaced → new.memory ≡ m.memory) → CreatesOne m o first k new r
+creates_not m new o first k r y faults.Unplaced fails is cannot same =
+    subst (λ (q : Result (Unit {0}) Halt). CreatesOne m o first k new q) (sym (fails ∙ ap Err is))
+    (cannot refl, same refl)
+creates_not m new o first k r y faults.NoMemory fails is cannot same =
+    subst (λ (q : Result (Unit {0}) Halt). CreatesOne m o first k new q) (sym (fails ∙ ap Err is)) tt
 
 -- ---- the code: one object after the other
 item_at : {A : Type 0} (xs : List A) (i : ℕ) (x : A) → i < length xs → x ≡ get_or xs i x → slice_get xs i ≡ Some x
