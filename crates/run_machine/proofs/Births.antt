@@ -55,8 +55,6 @@ use Rattle.mem_spec.specs.Acts.{base_in, create, has_place}
 use Rattle.mem_spec.specs.Script.{Act, Bear, Done, Give, Misplace, Raised, Ended, Outside, Unplaced, Script, run, touch, touched, ◌>>◌}
 use Rattle.mem_spec.specs.Store.{Life, Store, born}
 use Rattle.mem_spec.specs.Streams.{Io}
-use Rattle.prov_memory.specs.declared.answer.CreateFault.{CreateFault}
-use Rattle.prov_memory.specs.declared.answer.CreateFault.TheVariants as faults
 use Rattle.prov_memory.specs.Held.{Held, held_of}
 use Rattle.prov_memory.specs.Keeps.{Keeps, RowsStay}
 use Rattle.prov_memory.specs.Made.{IsMade}
@@ -72,7 +70,6 @@ use Rattle.run_code.specs.declared.steps.ObjectCode.{ObjectCode}
 use Rattle.run_state.specs.declared.halt.Halt.{Halt}
 use Rattle.run_state.specs.declared.halt.Halt.TheVariants as halt
 use Rattle.run_state.specs.declared.machine.Machine.{Machine}
-use Rattle.run_state.specs.Faults.{halt_of}
 use Rattle.run_machine.specs.Entering.{
   AreNew,
   BearsAll,
@@ -370,19 +367,6 @@ one_new m p o first k at base memory t items declared form shape shapes is bears
           subst (λ (j : ℕ). slice_get p.locals.items j ≡ Some (record { addr = base; name = x })) (there small low) placed;
       others = λ small low j apart. others j (λ e. apart (e ∙ there small low));
     })
-
--- .. or it has no place
-abbrev failed : CreateFault → Result ℕ CreateFault
-failed f = Err f
-
-pub creates_not : (m new : Machine) (o : ObjectCode) (first k : ℕ) (r : Result (Unit {0}) Halt) (y : Halt) (f : CreateFault) → r ≡ Err y → y ≡ halt_of f →
-    (failed f ≡ failed faults.Unplaced → cannot_create m.memory (new_name m k) o.size o.align ≡ true) →
-    (failed f ≡ failed faults.Unplaced → new.memory ≡ m.memory) → CreatesOne m o first k new r
-creates_not m new o first k r y faults.Unplaced fails is cannot same =
-    subst (λ (q : Result (Unit {0}) Halt). CreatesOne m o first k new q) (sym (fails ∙ ap Err is))
-    (cannot refl, same refl)
-creates_not m new o first k r y faults.NoMemory fails is cannot same =
-    subst (λ (q : Result (Unit {0}) Halt). CreatesOne m o first k new q) (sym (fails ∙ ap Err is)) tt
 
 -- ---- the code: one object after the other
 item_at : {A : Type 0} (xs : List A) (i : ℕ) (x : A) → i < length xs → x ≡ get_or xs i x → slice_get xs i ≡ Some x

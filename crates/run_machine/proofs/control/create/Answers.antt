@@ -1,5 +1,4 @@
-use Rattle.std.proofs.lemmas.Result.{err_from_is_err_and}
-use Rattle.run_machine.proofs.Births.{creates_not, one_new}
+use Rattle.run_machine.proofs.Births.{one_new}
 use Rattle.run_machine.proofs.control.create.Goals as goal
 
 pub returns-clause-creates : goal.returns-clause-creates
@@ -8,9 +7,3 @@ returns-clause-creates c =
     c.create.new.t c.join.new.self _ _ c.in_ok-shape.ensures.shape c.in_ok-shape.ensures.form c.saturating_add.ensures c.in_ok-addr.ensures.born
     c.in_ok-addr.ensures.exact (c.create.ensures.kept (λ e. absurd (cc))) c.in_ok-addr.ensures.whole c.place.ensures.rest c.in_ok-place.ensures.placed
     c.place.ensures.others c.in_ok-join.ensures.ok
-
-pub returns-in_err-addr-clause-creates : goal.returns-in_err-addr-clause-creates
-returns-in_err-addr-clause-creates c =
-    let p = err_from_is_err_and c.from_residual-in_err-addr.result c.from_residual-in_err-addr.ensures.1 in
-    creates_not c.args.machine.now (record c.args.machine.now { memory = c.create.new.self; spare = c.create.new.t }) c.args.object.now c.args.first
-    c.args.number c.from_residual-in_err-addr.result p.0 _ p.1 p.2 c.in_err-addr.ensures.unplaced c.in_err-addr.ensures.same

@@ -15,7 +15,7 @@ loop-object-preserved c =
     let inv = c.loop-object.invariant in
     record {
       work = c.create.ensures.work ∙ inv.work;
-      number = omega (arith, inv.number, c.saturating_add.ensures);
+      number = omega (arith, inv.number, c.saturating_add-number.ensures);
       born = next_new c.args.machine.now c.loop-object.machine c.create.new.machine c.args.objects.now c.object-item.result c.args.first
           c.loop-object.object-index c.loop-object.number c.loop-object-test.true c.object-item.is inv.number inv.born c.in_ok-create.ensures.creates;
     }
