@@ -668,16 +668,13 @@ bears_there m mid number t u first os ps r is same d =
     subst (λ (xs : List ObjectCode). Bears (turned_to m number u) xs first mid r) same
     (subst (λ (k : ℕ). Bears (turned_to m number k) os first mid r) is d)
 
-so_many : (l n : ℕ) → nat_lt l n ≡ true → l < n
-so_many l n e = grind (arith, nat_tests, e)
-
 module _ (m mid : Machine) (number t reached : ℕ) (c : BlockCode) (os : List ObjectCode) (is : t ≡ min (m.top.turn + 1) (2 ^ 64 - 1))
     (at : slice_get m.code.now.tables.blocks.items (min (m.top.blocks + number) (2 ^ 32 - 1)) ≡ Some c)
     (there : os ≡ part_of m.code.now.tables.objects.items c.objects) (sum : reached ≡ min (m.memory.created + c.created) (2 ^ 62)) where
-  pub enters_over : nat_lt (2 ^ 26) reached ≡ true → Enters m number mid (Err (halt.Over Created reached))
-  enters_over over = (c, at, λ none can. (refl, sum, so_many (2 ^ 26) reached over))
+  pub enters_over : 2 ^ 26 < reached → Enters m number mid (Err (halt.Over Created reached))
+  enters_over over = (c, at, λ none can. (refl, sum, over))
 
-  pub enters_ok : (new : Machine) → nat_lt (2 ^ 26) reached ≡ false → Bears (turned_to m number t) os c.first mid (Ok tt) → (c.arguments ≡ 0 → new ≡ mid) →
+  pub enters_ok : (new : Machine) → reached ≤ 2 ^ 26 → Bears (turned_to m number t) os c.first mid (Ok tt) → (c.arguments ≡ 0 → new ≡ mid) →
       Enters m number new (Ok None)
   enters_ok new small d stays = (
     c,
@@ -685,7 +682,7 @@ module _ (m mid : Machine) (number t reached : ℕ) (c : BlockCode) (os : List O
     λ none can.
         let objects = part_of m.code.now.tables.objects.items c.objects in (
           refl,
-          subst (λ (k : ℕ). k ≤ 2 ^ 26) sum (not_over (2 ^ 26) reached small),
+          subst (λ (k : ℕ). k ≤ 2 ^ 26) sum small,
           subst (λ (q : Machine). AreNew (turned m number) objects c.first (length objects) q) (sym (stays none))
               (bears_there m mid number t (min (m.top.turn + 1) (2 ^ 64 - 1)) c.first os objects (Ok tt) is there d can),
         ),
@@ -715,7 +712,7 @@ module _ (m mid : Machine) (number t reached : ℕ) (c : BlockCode) (os : List O
         (Err (halt.Raised event line clause)) is there d can),
   )
 
-  pub enters_not : (r : Result (Option ℕ) Halt) (y e : Halt) → r ≡ Err y → y ≡ e → nat_lt (2 ^ 26) reached ≡ false →
+  pub enters_not : (r : Result (Option ℕ) Halt) (y e : Halt) → r ≡ Err y → y ≡ e → reached ≤ 2 ^ 26 →
       Bears (turned_to m number t) os c.first mid (Err e) → Enters m number mid r
   enters_not r y e fails fault small d =
-      subst (λ (q : Result (Option ℕ) Halt). Enters m number mid q) (sym (fails ∙ ap Err fault)) (by_fault e (not_over (2 ^ 26) reached small) d)
+      subst (λ (q : Result (Option ℕ) Halt). Enters m number mid q) (sym (fails ∙ ap Err fault)) (by_fault e small d)
