@@ -716,3 +716,7 @@ module _ (m mid : Machine) (number t reached : ℕ) (c : BlockCode) (os : List O
       Bears (turned_to m number t) os c.first mid (Err e) → Enters m number mid r
   enters_not r y e fails fault small d =
       subst (λ (q : Result (Option ℕ) Halt). Enters m number mid q) (sym (fails ∙ ap Err fault)) (by_fault e small d)
+
+-- the bytes that are created by then, by the count of those so far
+pub reached_so : (x a b y : ℕ) → x ≡ min (a + y) (2 ^ 62) → a ≡ b → x ≡ min (b + y) (2 ^ 62)
+reached_so x a b y e f = e ∙ ap (λ (k : ℕ). min (k + y) (2 ^ 62)) f
