@@ -2,11 +2,12 @@
 //! (ISO/IEC 9899:2011, 6.2.2, 6.7p3, 6.9.2, 7.1.3).
 #![tactic(auto)]
 
+mod functions;
 mod library;
 mod linkage;
+mod objects;
 
+pub use functions::declare_function;
 pub use library::{library_function, library_type};
-pub use linkage::{
-    Linkage, complete_object, copied_function, declare_function, declare_local_static,
-    declare_object,
-};
+pub use linkage::{Linkage, copied_function};
+pub use objects::{complete_object, declare_local_static, declare_object};

@@ -1,30 +1,26 @@
-// Declarations of objects and functions whose identifiers have linkage, and what they redeclare (6.2.2, 6.7p3, 6.9.2).
-ghost use Rattle.std.specs.Prelude.{◌≡◌, ◌≢◌, ℕ, None, ◌||◌, false, true, not, map, vec_len, slice_get, Some, IfOk, OnOk, is_some};
+// What a declaration of an identifier with linkage redeclares, and the types of one identifier (6.2.2, 6.7p3).
+ghost use Rattle.std.specs.Prelude.{◌≡◌, None, ◌||◌, false, true, not, map, slice_get, Some, IfOk, OnOk, is_some};
 ghost use Rattle.std.specs.Option.{option_map, option_copied};
-ghost use Rattle.c_lex.specs.TokenText.{TokenText, text_at};
-ghost use Rattle.c_types.specs.Types.{type_of, qualified_of, signature_of, composite_qualified, composite_signature};
+ghost use Rattle.c_lex.specs.TokenText.{TokenText};
+ghost use Rattle.c_types.specs.Types.{type_of, qualified_of, signature_of, composite_qualified};
 ghost use Rattle.c_types.specs.Same.{same_qualifier};
 ghost use Rattle.c_types.specs.declared.ty.FuncTy.{FuncTy};
-ghost use Rattle.c_typed.specs.declared.tree.Slot.TheVariants as slot;
-ghost use Rattle.c_typed.specs.declared.tree.Target.TheVariants as target;
 ghost use Rattle.type_name_space.specs.Scopes.{visible, at_depth};
-ghost use Rattle.typing_env.specs.Env.{Env, Object, an_object, a_function, symbol_in};
+ghost use Rattle.typing_env.specs.Env.{Env, Object, symbol_in};
 ghost use Rattle.typing_env.specs.Names as names;
 ghost use Rattle.typing_env.specs.Names.{meaning_in};
-ghost use Rattle.type_scope.specs.Known.{Naming, known_by, meaning_seen, linked_seen, target_seen, routine_by, routine_seen, IsKnown};
-ghost use Rattle.type_scope.specs.Reads.{Reads, Follows};
-ghost use Rattle.type_scope.specs.Objects.{IsOneToOne, IsRowOf, HasPlaces, HasObjects, row_in};
-ghost use Rattle.type_linkage.specs.Linkage.{given_of, held_target, target_held, if_held, entity_in, prior_in, IsNamedOk, IsNamed, redeclared_seen, function_qualified, signature_in, one_more_type, static_declared};
+ghost use Rattle.type_scope.specs.Known.{Naming, known_by, meaning_seen, linked_seen, target_seen};
+ghost use Rattle.type_scope.specs.Reads.{Reads};
+ghost use Rattle.type_scope.specs.Objects.{IsOneToOne};
+ghost use Rattle.type_linkage.specs.Linkage.{given_of, held_target, target_held, if_held, entity_in, prior_in, redeclared_seen, function_qualified, signature_in, one_more_type};
 
-use crate::library::{library_function, library_type};
 use c_typed::{Slot, Target};
 use c_types::{
-    FuncTy, LibFunc, Qual, Shared, Ty, compatible, compatible_functions, composite, copied,
-    copied_qual, same_qualified,
+    FuncTy, Qual, Shared, Ty, compatible, composite, copied, copied_qual, same_qualified,
 };
 use std::alloc::Global;
 use type_reasons::Reason;
-use type_scope::{Definition, FunctionRow, Linked, Meaning, ObjectRow, Source, State, TypeFault};
+use type_scope::{Linked, Meaning, Source, State, TypeFault};
 use ub_base::{Items, NoMemory};
 
 /// How a declaration gives linkage: `static` at file scope; nothing at file scope; `extern`.
@@ -110,14 +106,14 @@ pub fn copied_function(alloc: Global, ty: &FuncTy) -> Result<FuncTy, NoMemory>
 }
 
 // The function type as a type.
-fn function_type(alloc: Global, ty: &FuncTy) -> Result<Ty, NoMemory>
+pub fn function_type(alloc: Global, ty: &FuncTy) -> Result<Ty, NoMemory>
     ensures { IfOk result (λ t. type_of t ≡ names.type_of_signature (signature_of ty.now)) }
 {
     Ok(Ty::Function(Shared::new(alloc, copied_function(alloc, ty)?)?))
 }
 
 // The type as that of an identifier.
-fn function_qual(alloc: Global, ty: &FuncTy) -> Result<Qual, NoMemory>
+pub fn function_qual(alloc: Global, ty: &FuncTy) -> Result<Qual, NoMemory>
     ensures { IfOk result (λ q. qualified_of q ≡ function_qualified (signature_of ty.now)) }
 {
     Ok(Qual {
@@ -127,7 +123,7 @@ fn function_qual(alloc: Global, ty: &FuncTy) -> Result<Qual, NoMemory>
 }
 
 // The function type that a type is, if it is one.
-fn as_function(ty: &Ty) -> Option<&FuncTy>
+pub fn as_function(ty: &Ty) -> Option<&FuncTy>
     ensures { option_map signature_of (option_copied result) ≡ signature_in (type_of ty.now) }
 {
     match ty {
@@ -173,7 +169,7 @@ fn is_target(a: Target, b: Target) -> bool
 }
 
 // The identifier with linkage that is spelled so.
-fn entity(state: &State, symbol: u32) -> Option<&Linked>
+pub fn entity(state: &State, symbol: u32) -> Option<&Linked>
     ensures { option_copied result ≡ entity_in state.now symbol }
 {
     match state.linked.find(symbol) {
@@ -192,7 +188,7 @@ fn target_held(meaning: Option<&Meaning>) -> Option<Target>
 }
 
 // The identifier, where it stands for this.
-fn if_linked<'a>(target: Option<Target>, entity: Option<&'a Linked>) -> Option<&'a Linked>
+pub fn if_linked<'a>(target: Option<Target>, entity: Option<&'a Linked>) -> Option<&'a Linked>
     ensures { option_copied result ≡ if_held target (option_copied entity.entry) }
 {
     match target {
@@ -205,14 +201,14 @@ fn if_linked<'a>(target: Option<Target>, entity: Option<&'a Linked>) -> Option<&
 }
 
 // The one that the visible declaration declares.
-fn prior(state: &State, symbol: u32) -> Option<&Linked>
+pub fn prior(state: &State, symbol: u32) -> Option<&Linked>
     ensures { option_copied result ≡ prior_in state.now symbol }
 {
     if_linked(target_held(state.names.find(symbol)), entity(state, symbol))
 }
 
 // Whether the identifier would be internal (6.2.2p3, 6.2.2p4, 6.2.2p5).
-fn is_internal(linkage: Linkage, prior: Option<&Linked>) -> bool
+pub fn is_internal(linkage: Linkage, prior: Option<&Linked>) -> bool
     ensures { (n : Naming) → result ≡ names.is_internal (given_of linkage) (option_map (linked_seen n) (option_copied prior.entry)) }
 {
     match linkage {
@@ -235,7 +231,7 @@ fn keeps_linkage(internal: bool, entity: Option<&Linked>) -> bool
     }
 }
 
-fn is_known(found: Option<&Linked>) -> bool
+pub fn is_known(found: Option<&Linked>) -> bool
     ensures { result ≡ is_some (option_copied found.entry) }
 {
     found.is_some()
@@ -292,7 +288,7 @@ fn type_seen(state: &State, symbol: u32, qual: &Qual, linked: bool) -> Result<Qu
 
 // Why a declaration of the identifier clashes with an earlier one whose type isn't compatible: one in this scope, or in
 // another one.
-fn clash(state: &State, symbol: u32) -> Reason {
+pub fn clash(state: &State, symbol: u32) -> Reason {
     if state.is_taken(symbol) {
         Reason::IncompatibleDeclarations
     } else {
@@ -302,13 +298,13 @@ fn clash(state: &State, symbol: u32) -> Reason {
 
 // What a declaration with linkage finds.
 #[derive(Drop)]
-struct Found {
-    symbol: u32,
-    internal: bool,
+pub struct Found {
+    pub symbol: u32,
+    pub internal: bool,
     /// What the identifier stands for, where it is known.
-    target: Option<Target>,
+    pub target: Option<Target>,
     /// The type that it has from here on.
-    seen: Qual,
+    pub seen: Qual,
 }
 
 // What the identifier stands for, where it is known.
@@ -339,7 +335,7 @@ fn broken_rule(state: &State, symbol: u32, qual: &Qual, linkage: Linkage) -> Opt
 }
 
 // What the declaration finds; refused where it breaks a rule.
-fn redeclared(
+pub fn redeclared(
     state: &State,
     source: &Source<'_>,
     at: u32,
@@ -383,7 +379,7 @@ fn further_row(alloc: Global, known: &Linked, qual: &Qual) -> Result<Option<Link
 }
 
 // Notes the type of a further declaration of the identifier.
-fn note_type(state: &mut State, symbol: u32, qual: &Qual) -> Result<(), NoMemory>
+pub fn note_type(state: &mut State, symbol: u32, qual: &Qual) -> Result<(), NoMemory>
     ensures known { OnOk result ((n : Naming) (t : TokenText) (env : Env) → known_by n t state.new env ≡ names.with_further symbol (qualified_of qual.now) (known_by n t state.old env)) }
     ensures rest { state.new ≡ record state.old { linked = state.new.linked } }
 {
@@ -398,7 +394,7 @@ fn note_type(state: &mut State, symbol: u32, qual: &Qual) -> Result<(), NoMemory
 }
 
 // Notes an identifier with linkage.
-fn link(
+pub fn link(
     state: &mut State,
     symbol: u32,
     target: Target,
@@ -420,7 +416,7 @@ fn link(
 }
 
 // Declares the identifier in this scope, or gives the declaration there this meaning.
-fn bind(state: &mut State, symbol: u32, meaning: Meaning) -> Result<(), NoMemory>
+pub fn bind(state: &mut State, symbol: u32, meaning: Meaning) -> Result<(), NoMemory>
     ensures known { OnOk result ((n : Naming) (t : TokenText) (env : Env) → known_by n t state.new env ≡ names.bound symbol (meaning_seen n meaning) (known_by n t state.old env)) }
     ensures rest { state.new ≡ record state.old { names = state.new.names } }
 {
@@ -430,394 +426,4 @@ fn bind(state: &mut State, symbol: u32, meaning: Meaning) -> Result<(), NoMemory
     } else {
         state.names.declare(symbol, meaning)
     }
-}
-
-// 4. Objects.
-
-// The number of an object; a function has none (6.2.7p2).
-fn object_in(target: Target) -> Option<u32>
-    ensures { result ≡ names.name_of_object target }
-{
-    match target {
-        Target::Static(number) => Some(number),
-        _ => None,
-    }
-}
-
-fn put_object_type(state: &mut State, number: u32, qual: Qual)
-    ensures rest { state.new ≡ record state.old { objects = state.new.objects } }
-    ensures row { (o : Object) → IsRowOf o (row_in state.old number) → IsRowOf (record o { qual = qualified_of qual }) (row_in state.new number) }
-    ensures others { (m : ℕ) → m ≢ number → row_in state.new m ≡ row_in state.old m }
-    ensures places { HasPlaces state.old → HasPlaces state.new }
-{
-    if let Some(row) = state.objects.get_mut(number as usize) {
-        row.qual = qual;
-    }
-}
-
-// Gives the object this type.
-fn set_object_type(state: &mut State, number: u32, qual: Qual)
-    ensures rest { state.new ≡ record state.old { objects = state.new.objects } }
-    ensures rows { (n : Naming) → IsOneToOne n → (env : Env) → HasObjects n state.old env → HasObjects n state.new (names.changing_object (n number) (λ o. record o { qual = qualified_of qual }) env) }
-{
-    put_object_type(state, number, qual);
-}
-
-fn new_object(state: &mut State, symbol: u32, qual: &Qual, internal: bool) -> Result<u32, NoMemory>
-    ensures known { IfOk result (λ number. (n : Naming) (t : TokenText) (env : Env) → known_by n t state.new env ≡ names.with_link symbol internal (target_seen n (target.Static number)) (qualified_of qual.now) (known_by n t state.old env)) }
-    ensures rows { IfOk result (λ number. (n : Naming) → IsOneToOne n → (env : Env) (at : ℕ) → HasObjects n state.old env → names.object_named at env.objects ≡ None → n number ≡ at → HasObjects n state.new (names.with_object (names.new_object at (qualified_of qual.now)) env)) }
-{
-    let alloc = state.alloc;
-    let number = state.add_object(ObjectRow::new(alloc, copied_qual(alloc, qual)?, internal))?;
-    link(state, symbol, Target::Static(number), internal, qual)?;
-    Ok(number)
-}
-
-// A further declaration of the object; at file scope the type that the identifier has there is the object's so far.
-fn further_object(
-    state: &mut State,
-    symbol: u32,
-    number: u32,
-    qual: &Qual,
-    seen: &Qual,
-) -> Result<(), NoMemory>
-    ensures known { OnOk result ((n : Naming) (t : TokenText) (env : Env) → known_by n t state.new env ≡ names.with_further symbol (qualified_of qual.now) (known_by n t state.old env)) }
-    ensures rows { OnOk result ((n : Naming) → IsOneToOne n → (env : Env) → env.depth ≡ state.old.names.depth → HasObjects n state.old env → HasObjects n state.new (names.file_type (n number) (qualified_of seen.now) env)) }
-{
-    note_type(state, symbol, qual)?;
-    if state.names.is_file() {
-        let seen = copied_qual(state.alloc, seen)?;
-        set_object_type(state, number, seen);
-    }
-    Ok(())
-}
-
-fn bind_object(state: &mut State, symbol: u32, number: u32, seen: Qual) -> Result<(), NoMemory>
-    ensures known { OnOk result ((n : Naming) (t : TokenText) (env : Env) → known_by n t state.new env ≡ names.bound symbol (an_object (slot.Static (n number)) (qualified_of seen) false) (known_by n t state.old env)) }
-    ensures rest { state.new ≡ record state.old { names = state.new.names } }
-{
-    let meaning = Meaning::Object {
-        slot: Slot::Static(number),
-        qual: seen,
-        register: false,
-    };
-    bind(state, symbol, meaning)
-}
-
-// The number of an object with linkage that is declared.
-fn object_number(
-    state: &mut State,
-    source: &Source<'_>,
-    at: u32,
-    qual: &Qual,
-    linkage: Linkage,
-) -> Result<u32, TypeFault>
-    ensures reads { (n : Naming) → IsOneToOne n → IsNamed n source.now at state.old result → (env : Env) → IsKnown n source.now state.old env → Follows n (IsKnown n source.now state.new) (names.declare_object at (qualified_of qual.now) (given_of linkage) env) result }
-    ensures rows { (n : Naming) → IsOneToOne n → IsNamed n source.now at state.old result → (env : Env) → IsKnown n source.now state.old env → HasObjects n state.old env → names.object_named at env.objects ≡ None → Follows n (HasObjects n state.new) (names.declare_object at (qualified_of qual.now) (given_of linkage) env) result }
-{
-    let found = match redeclared(state, source, at, qual, linkage) {
-        Ok(found) => found,
-        Err(fault) => return Err(fault),
-    };
-    let symbol = found.symbol;
-    match found.target {
-        None => {
-            let number = new_object(state, symbol, qual, found.internal)?;
-            bind_object(state, symbol, number, found.seen)?;
-            Ok(number)
-        }
-        Some(target) => {
-            let Some(number) = object_in(target) else {
-                return Err(source.fault(at, clash(state, symbol)));
-            };
-            further_object(state, symbol, number, qual, &found.seen)?;
-            bind_object(state, symbol, number, found.seen)?;
-            Ok(number)
-        }
-    }
-}
-
-/// Declares an object with linkage; the answer is its number.
-pub fn declare_object(
-    state: &mut State,
-    source: &Source<'_>,
-    at: u32,
-    qual: Qual,
-    linkage: Linkage,
-) -> Result<u32, TypeFault>
-    ensures reads { (n : Naming) → IsOneToOne n → IsNamed n source.now at state.old result → (env : Env) → IsKnown n source.now state.old env → Follows n (IsKnown n source.now state.new) (names.declare_object at (qualified_of qual) (given_of linkage) env) result }
-    ensures rows { (n : Naming) → IsOneToOne n → IsNamed n source.now at state.old result → (env : Env) → IsKnown n source.now state.old env → HasObjects n state.old env → names.object_named at env.objects ≡ None → Follows n (HasObjects n state.new) (names.declare_object at (qualified_of qual) (given_of linkage) env) result }
-{
-    object_number(state, source, at, &qual, linkage)
-}
-
-// Whether the identifier with linkage that is spelled so stands for the object.
-fn is_linked_object(state: &State, symbol: u32, number: u32) -> bool
-    ensures { result ≡ is_some (if_held (Some (target.Static number)) (entity_in state.now symbol)) }
-{
-    is_known(if_linked(Some(Target::Static(number)), entity(state, symbol)))
-}
-
-// Notes the type of a further declaration of the identifier, where that stands for the object.
-fn note_object_type(
-    state: &mut State,
-    symbol: u32,
-    number: u32,
-    qual: &Qual,
-) -> Result<(), NoMemory>
-    ensures known { OnOk result ((n : Naming) → IsOneToOne n → (t : TokenText) (env : Env) → known_by n t state.new env ≡ names.with_further_of (target.Static (n number)) symbol (qualified_of qual.now) (known_by n t state.old env)) }
-    ensures rest { state.new ≡ record state.old { linked = state.new.linked } }
-{
-    if is_linked_object(state, symbol, number) {
-        note_type(state, symbol, qual)
-    } else {
-        Ok(())
-    }
-}
-
-/// Gives an object with static storage the type that its initializer completes, and so the identifier that declares it here.
-pub fn complete_object(
-    state: &mut State,
-    symbol: u32,
-    number: u32,
-    qual: &Qual,
-) -> Result<(), NoMemory>
-    ensures known { OnOk result ((n : Naming) → IsOneToOne n → (t : TokenText) (env : Env) → known_by n t state.new env ≡ names.renamed symbol (an_object (slot.Static (n number)) (qualified_of qual.now) false) (names.with_further_of (target.Static (n number)) symbol (qualified_of qual.now) (known_by n t state.old env))) }
-    ensures rows { OnOk result ((n : Naming) → IsOneToOne n → (env : Env) → HasObjects n state.old env → HasObjects n state.new (names.changing_object (n number) (λ o. record o { qual = qualified_of qual.now }) env)) }
-{
-    let alloc = state.alloc;
-    set_object_type(state, number, copied_qual(alloc, qual)?);
-    note_object_type(state, symbol, number, qual)?;
-    let meaning = Meaning::Object {
-        slot: Slot::Static(number),
-        qual: copied_qual(alloc, qual)?,
-        register: false,
-    };
-    state.names.change(symbol, meaning);
-    Ok(())
-}
-
-/// Declares an object of block scope with static storage: without linkage, and defined; the answer is its number.
-pub fn declare_local_static(
-    state: &mut State,
-    source: &Source<'_>,
-    at: u32,
-    qual: Qual,
-) -> Result<u32, TypeFault>
-    ensures reads { (n : Naming) → IsNamedOk n at result → (env : Env) → IsKnown n source.now state.old env → Follows (λ number. tt) (IsKnown n source.now state.new) (static_declared at (qualified_of qual) env) result }
-    ensures rows { (n : Naming) → IsOneToOne n → IsNamedOk n at result → (env : Env) → IsKnown n source.now state.old env → HasObjects n state.old env → names.object_named at env.objects ≡ None → Follows (λ number. tt) (HasObjects n state.new) (static_declared at (qualified_of qual) env) result }
-{
-    let alloc = state.alloc;
-    let copy = copied_qual(alloc, &qual)?;
-    let number = state.add_object(ObjectRow::new(alloc, qual, true))?;
-    state.define_object(number, source.line(at));
-    let meaning = Meaning::Object {
-        slot: Slot::Static(number),
-        qual: copy,
-        register: false,
-    };
-    match state.declare(source, at, meaning) {
-        Ok(()) => Ok(number),
-        Err(fault) => Err(fault),
-    }
-}
-
-// 5. Functions.
-
-// The number of a function; an object has none (6.2.7p2).
-fn function_in(target: Target) -> Option<u32>
-    ensures { result ≡ names.number_of_function target }
-{
-    match target {
-        Target::Function(number) => Some(number),
-        _ => None,
-    }
-}
-
-// The library function that an external name stands for (7.1.3p1).
-fn library_of(name: &[u8], internal: bool) -> Option<LibFunc>
-    ensures { result ≡ names.library_of internal name.now }
-{
-    if internal {
-        None
-    } else {
-        library_function(name)
-    }
-}
-
-// Whether the type is that of the library's function (7.1.3p2).
-fn fits_library(alloc: Global, ty: &FuncTy, library: Option<LibFunc>) -> Result<bool, NoMemory>
-    ensures { IfOk result (λ fits. fits ≡ names.fits_library (signature_of ty.now) library) }
-{
-    match library {
-        None => Ok(true),
-        Some(library) => {
-            let known = library_type(alloc, library)?;
-            Ok(compatible_functions(&known, ty))
-        }
-    }
-}
-
-// Where a function that is declared first is defined: in the library, or nowhere so far.
-fn first_definition(library: Option<LibFunc>) -> Definition
-    ensures { (ty : FuncTy) → routine_by ty result ≡ names.new_function (signature_of ty) library }
-{
-    match library {
-        Some(library) => Definition::Library(library),
-        None => Definition::Nowhere,
-    }
-}
-
-fn new_row(
-    alloc: Global,
-    ty: &FuncTy,
-    internal: bool,
-    library: Option<LibFunc>,
-) -> Result<FunctionRow, NoMemory>
-    ensures { IfOk result (λ row. routine_seen row ≡ names.new_function (signature_of ty.now) library) }
-{
-    let copy = copied_function(alloc, ty)?;
-    let definition = first_definition(library);
-    Ok(FunctionRow {
-        ty: copy,
-        internal,
-        definition,
-        used: None,
-    })
-}
-
-fn add_function(state: &mut State, row: FunctionRow) -> Result<u32, NoMemory>
-    ensures number { IfOk result (λ number. number ≡ vec_len state.old.functions) }
-    ensures known { OnOk result ((n : Naming) (t : TokenText) (env : Env) → known_by n t state.new env ≡ names.with_function (routine_seen row) (known_by n t state.old env)) }
-{
-    let Ok(number) = u32::try_from(state.functions.len()) else {
-        return Err(NoMemory);
-    };
-    state.functions.push(row)?;
-    Ok(number)
-}
-
-fn new_function(
-    state: &mut State,
-    symbol: u32,
-    ty: &FuncTy,
-    qual: &Qual,
-    internal: bool,
-    library: Option<LibFunc>,
-) -> Result<u32, NoMemory>
-    ensures number { IfOk result (λ number. number ≡ vec_len state.old.functions) }
-    ensures known { IfOk result (λ number. (n : Naming) (t : TokenText) (env : Env) → known_by n t state.new env ≡ names.with_link symbol internal (target.Function number) (qualified_of qual.now) (names.with_function (names.new_function (signature_of ty.now) library) (known_by n t state.old env))) }
-{
-    let row = new_row(state.alloc, ty, internal, library)?;
-    let number = add_function(state, row)?;
-    link(state, symbol, Target::Function(number), internal, qual)?;
-    Ok(number)
-}
-
-// The composite of the function types.
-fn joined_functions(alloc: Global, old: &FuncTy, new: &FuncTy) -> Result<FuncTy, NoMemory>
-    ensures { IfOk result (λ f. signature_of f ≡ composite_signature (signature_of old.now) (signature_of new.now)) }
-{
-    let first = function_type(alloc, old)?;
-    let second = function_type(alloc, new)?;
-    let joined = composite(alloc, &first, &second)?;
-    match as_function(&joined) {
-        Some(joined) => copied_function(alloc, joined),
-        None => copied_function(alloc, old),
-    }
-}
-
-// Gives the function the composite of its type so far and this one.
-fn join_row(alloc: Global, row: &mut FunctionRow, ty: &FuncTy) -> Result<(), NoMemory>
-    ensures { OnOk result (routine_seen row.new ≡ names.further_type (signature_of ty.now) (routine_seen row.old)) }
-{
-    let joined = joined_functions(alloc, &row.ty, ty)?;
-    row.ty = joined;
-    Ok(())
-}
-
-fn join_function(state: &mut State, number: u32, ty: &FuncTy) -> Result<(), NoMemory>
-    ensures { OnOk result ((n : Naming) (t : TokenText) (env : Env) → known_by n t state.new env ≡ names.changing_function number (names.further_type (signature_of ty.now)) (known_by n t state.old env)) }
-{
-    let alloc = state.alloc;
-    match state.functions.get_mut(number as usize) {
-        Some(row) => join_row(alloc, row, ty),
-        None => Ok(()),
-    }
-}
-
-// A further declaration of the function.
-fn further_function(
-    state: &mut State,
-    symbol: u32,
-    number: u32,
-    ty: &FuncTy,
-    qual: &Qual,
-) -> Result<(), NoMemory>
-    ensures { OnOk result ((n : Naming) (t : TokenText) (env : Env) → known_by n t state.new env ≡ names.changing_function number (names.further_type (signature_of ty.now)) (names.with_further symbol (qualified_of qual.now) (known_by n t state.old env))) }
-{
-    note_type(state, symbol, qual)?;
-    join_function(state, number, ty)
-}
-
-fn bind_function(state: &mut State, symbol: u32, number: u32, seen: Qual) -> Result<(), NoMemory>
-    ensures { OnOk result ((n : Naming) (t : TokenText) (env : Env) → known_by n t state.new env ≡ names.bound symbol (a_function number (qualified_of seen).ty) (known_by n t state.old env)) }
-{
-    let meaning = Meaning::Function {
-        number,
-        ty: seen.ty,
-    };
-    bind(state, symbol, meaning)
-}
-
-// The number of a function that is declared, whose type fits the library's.
-fn function_number(
-    state: &mut State,
-    source: &Source<'_>,
-    at: u32,
-    ty: &FuncTy,
-    linkage: Linkage,
-    library: Option<LibFunc>,
-) -> Result<u32, TypeFault>
-    ensures { (n : Naming) → IsOneToOne n → (env : Env) → library ≡ names.library_of (names.is_internal (given_of linkage) (option_map (linked_seen n) (prior_in state.old (symbol_in source.now (slice_get source.now.list at))))) (text_at source.now at) → names.fits_library (signature_of ty.now) library ≡ true → Reads (λ number. number) (names.declare_function at (signature_of ty.now) (given_of linkage) (known_by n source.now state.old env)) result (known_by n source.now state.new env) }
-{
-    let qual = function_qual(state.alloc, ty)?;
-    let found = match redeclared(state, source, at, &qual, linkage) {
-        Ok(found) => found,
-        Err(fault) => return Err(fault),
-    };
-    let symbol = found.symbol;
-    match found.target {
-        None => {
-            let number = new_function(state, symbol, ty, &qual, found.internal, library)?;
-            bind_function(state, symbol, number, found.seen)?;
-            Ok(number)
-        }
-        Some(target) => {
-            let Some(number) = function_in(target) else {
-                return Err(source.fault(at, clash(state, symbol)));
-            };
-            further_function(state, symbol, number, ty, &qual)?;
-            bind_function(state, symbol, number, found.seen)?;
-            Ok(number)
-        }
-    }
-}
-
-/// Declares a function; the answer is its number.
-pub fn declare_function(
-    state: &mut State,
-    source: &Source<'_>,
-    at: u32,
-    ty: FuncTy,
-    linkage: Linkage,
-) -> Result<u32, TypeFault>
-    ensures { (n : Naming) → IsOneToOne n → (env : Env) → Reads (λ number. number) (names.declare_function at (signature_of ty) (given_of linkage) (known_by n source.now state.old env)) result (known_by n source.now state.new env) }
-{
-    let internal = is_internal(linkage, prior(state, source.symbol(at)));
-    let library = library_of(source.spelling(at), internal);
-    if !fits_library(state.alloc, &ty, library)? {
-        return Err(source.fault(at, Reason::LibraryName));
-    }
-    function_number(state, source, at, &ty, linkage, library)
 }

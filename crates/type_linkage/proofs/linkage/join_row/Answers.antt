@@ -1,7 +1,0 @@
-use Rattle.c_types.specs.Types.{signature_of}
-use Rattle.type_linkage.proofs.Functions.{further_is}
-use Rattle.type_linkage.proofs.linkage.join_row.Goals as goal
-
-pub returns : goal.returns
-returns c =
-    further_is (c.args.row.now).ty c.in_ok-joined.joined (signature_of c.args.ty.now) (c.args.row.now).definition c.in_ok-joined.ensures
