@@ -1,0 +1,57 @@
+-- String literals, one after the other.
+use Rattle.std.proofs.Common.{◌≡◌, ℕ, zero, suc, ◌+◌, ◌-◌, ◌<◌, List, [], ◌∷◌, ◌++◌, refl, sym, ap, ◌∙◌, append_assoc, arith}
+use Rattle.std.specs.Prelude.{Option, Some, None, Result, Ok, Err}
+use Rattle.c_lex.specs.TokenText.{TokenText, text_at}
+use Rattle.c_lit.specs.Literals.{string_value, IsAppended}
+use Rattle.c_lit.specs.declared.fault.LitFault.{LitFault}
+use Rattle.type_declarators.specs.Literals.{bytes_then, bytes_from}
+
+-- these bytes, and those behind them
+abbrev pub prepended : List ℕ → Option (List ℕ) → Option (List ℕ)
+prepended bs None = None
+prepended bs (Some cs) = Some (bs ++ cs)
+
+pub none_before : (o : Option (List ℕ)) → prepended [] o ≡ o
+none_before None = refl
+none_before (Some cs) = refl
+
+then_by : (bs more : List ℕ) (o : Option (List ℕ)) → prepended bs (bytes_then (Ok more) o) ≡ prepended (bs ++ more) o
+then_by bs more None = refl
+then_by bs more (Some cs) = ap (λ xs. Some xs) (sym (append_assoc bs more cs))
+
+not_then : (bs : List ℕ) (fault : LitFault) (o : Option (List ℕ)) → prepended bs (bytes_then (Err fault) o) ≡ None
+not_then bs fault o = refl
+
+rest : (count k : ℕ) → k < count → count - k ≡ suc (count - (k + 1))
+rest count k less = omega arith
+
+first_of : (t : TokenText) (first count k : ℕ) (bs : List ℕ) (read : Result (List ℕ) LitFault) → k < count → string_value (text_at t (first + k)) ≡ read
+    → prepended bs (bytes_from t (count - k) (first + k)) ≡ prepended bs (bytes_then read (bytes_from t (count - (k + 1)) (first + k + 1)))
+first_of t first count k bs read less is =
+    ap (λ n. prepended bs (bytes_from t n (first + k))) (rest count k less)
+    ∙ ap (λ r. prepended bs (bytes_then r (bytes_from t (count - (k + 1)) (first + k + 1)))) is
+
+-- one literal more
+pub one_more : (t : TokenText) (first count k at : ℕ) (bs now : List ℕ) (whole : Option (List ℕ)) → k < count → at ≡ first + k
+    → IsAppended bs now (text_at t at) → prepended bs (bytes_from t (count - k) (first + k)) ≡ whole
+    → prepended now (bytes_from t (count - (k + 1)) (first + (k + 1))) ≡ whole
+one_more t first count k at bs now whole less e added is =
+    let next : first + (k + 1) ≡ first + k + 1 = omega arith in
+    ap (λ xs. prepended xs (bytes_from t (count - (k + 1)) (first + (k + 1)))) added.new_is
+    ∙ ap (λ n. prepended (bs ++ added.bytes) (bytes_from t (count - (k + 1)) n)) next
+    ∙ sym (then_by bs added.bytes (bytes_from t (count - (k + 1)) (first + k + 1)))
+    ∙ sym (first_of t first count k bs (Ok added.bytes) less (ap (λ n. string_value (text_at t n)) (sym e) ∙ added.is))
+    ∙ is
+
+-- one that has no value
+pub broken : (t : TokenText) (first count k at : ℕ) (bs : List ℕ) (whole : Option (List ℕ)) (fault : LitFault) → k < count → at ≡ first + k
+    → string_value (text_at t at) ≡ Err fault → prepended bs (bytes_from t (count - k) (first + k)) ≡ whole → whole ≡ None
+broken t first count k at bs whole fault less e fails is =
+    sym is ∙ first_of t first count k bs (Err fault) less (ap (λ n. string_value (text_at t n)) (sym e) ∙ fails)
+
+-- all of them
+pub all_read : (t : TokenText) (first count k : ℕ) (bs now : List ℕ) (whole : Option (List ℕ)) → count ≡ k → now ≡ bs ++ 0 ∷ []
+    → prepended bs (bytes_from t (count - k) (first + k)) ≡ whole → whole ≡ Some now
+all_read t first count k bs now whole e is reads =
+    let none : count - k ≡ 0 = omega arith in
+    sym reads ∙ ap (λ n. prepended bs (bytes_from t n (first + k))) none ∙ ap (λ xs. Some xs) (sym is)
