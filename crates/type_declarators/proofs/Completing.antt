@@ -1,8 +1,8 @@
 -- The end of a member list: when a structure or union may have these members, and what is known then.
-use Rattle.std.proofs.Common.{◌≡◌, ℕ, zero, suc, Bool, true, false, List, [], ◌∷◌, length, map, refl, sym, ap, ◌∙◌, true≢false}
+use Rattle.std.proofs.Common.{◌≡◌, ℕ, zero, suc, ◌≤◌, Bool, true, false, List, [], ◌∷◌, length, map, refl, sym, ap, ◌∙◌, arith}
 use Rattle.std.specs.Prelude.{not, ◌&&◌, if◌then◌else◌, is_some, slice_get, Option, Some, None}
 use Rattle.std.specs.Option.{option_map}
-use Rattle.std.proofs.lemmas.Option.{slice_get-map}
+use Rattle.std.proofs.lemmas.Option.{slice_get-map, none-some}
 use Rattle.c_types.specs.Layout as below
 use Rattle.c_types.specs.Table.{IsSettled}
 use Rattle.c_types.specs.declared.tags.Extent.{Extent}
@@ -45,6 +45,11 @@ pub members_are : (tags : List Tag) (tag : ℕ) → IsSettled tags
     → is_some (below.extents tags tag) ≡ has_members (slice_get (map tag_seen tags) tag)
 members_are tags tag settled = settled_by tags tag (slice_get tags tag) settled refl ∙ ap has_members (sym (slice_get-map tag_seen tags tag))
 
+slice_get_none : (tags : List Tag) (tag : ℕ) → length tags ≤ tag → slice_get tags tag ≡ None
+slice_get_none [] tag out = refl
+slice_get_none (t ∷ ts) zero out = absurd (omega arith)
+slice_get_none (t ∷ ts) (suc tag) out = slice_get_none ts tag (omega arith)
+
 -- 2. Those that are held, as they are seen.
 
 pub completed_seen : (tags : List Tag) (tag : ℕ) (members : List Member)
@@ -59,7 +64,7 @@ out_by (suc n) tags tag e = ap (below.extent_of_tag (below.known_by n tags)) e
 
 completed_none : (tags : List Tag) (tag : ℕ) (members : List Member) → slice_get tags tag ≡ None → slice_get (below.completed tags tag members) tag ≡ None
 completed_none [] tag members e = e
-completed_none (t ∷ ts) zero members e = absurd (cc e)
+completed_none (t ∷ ts) zero members e = absurd (none-some t (sym e))
 completed_none (t ∷ ts) (suc tag) members e = completed_none ts tag members e
 
 -- one that isn't there stays without an extent
@@ -133,3 +138,30 @@ pub not_closed : (kind : TagKind) (number : ℕ) (tags : List Tag) (members : Li
     → are_distinct (names (completed (map tag_seen tags) number (map member_seen members)) number) ≡ true → may_complete tags number members ≡ false
     → close_tag kind number (map member_seen members) env ≡ None
 not_closed kind number tags members env is apart may = closed_by kind number tags members env false is apart may
+
+-- 4. When a structure or union may be completed.
+
+may_be : (tags : List Tag) (tag : ℕ) (members : List Member) (a b : Bool) → has_members (slice_get (map tag_seen tags) tag) ≡ a
+    → is_some (below.extents (below.completed tags tag members) tag) ≡ b → may_complete tags tag members ≡ (not a && b)
+may_be tags tag members a b e is =
+    ap (λ x. not x && is_some (below.extents (below.completed tags tag members) tag)) e ∙ ap (λ y. not a && y) is
+
+and_false : (b : Bool) → (b && false) ≡ false
+and_false true = refl
+and_false false = refl
+
+pub has_them : (tags : List Tag) (tag : ℕ) (members : List Member) (complete : Bool) → IsSettled tags → complete ≡ is_some (below.extents tags tag)
+    → complete ≡ true → may_complete tags tag members ≡ false
+has_them tags tag members complete settled e is =
+    may_be tags tag members true (is_some (below.extents (below.completed tags tag members) tag))
+    (sym (members_are tags tag settled) ∙ sym e ∙ is) refl
+
+pub is_out : (tags : List Tag) (tag : ℕ) (members : List Member) → length tags ≤ tag → may_complete tags tag members ≡ false
+is_out tags tag members out =
+    may_be tags tag members (has_members (slice_get (map tag_seen tags) tag)) false refl (completed_out tags tag members (slice_get_none tags tag out))
+    ∙ and_false (not (has_members (slice_get (map tag_seen tags) tag)))
+
+pub may_or_not : (tags : List Tag) (tag : ℕ) (members : List Member) (complete done : Bool) → IsSettled tags → complete ≡ is_some (below.extents tags tag)
+    → complete ≡ false → done ≡ is_some (below.extents (below.completed tags tag members) tag) → may_complete tags tag members ≡ done
+may_or_not tags tag members complete done settled e is so =
+    may_be tags tag members false done (sym (members_are tags tag settled) ∙ sym e ∙ is) (sym so)

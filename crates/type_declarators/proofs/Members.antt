@@ -53,7 +53,7 @@ pub member_added : (n : Naming) (t : TokenText) (s : State) (env : Env) (at : �
     → member_seen m ≡ record { name = text_at t at; qual = q }
     → IsAdded (named_member (Some at) q (known_by n t s env)) (known_by n t s env) before after
 member_added n t s env at q before middle after m e same is seen = (
-    record { name = text_at t at; qual = q } ∷ [],
-    member_by n t s env at q true e,
-    one_more before after m (record { name = text_at t at; qual = q }) (is ∙ ap (λ ms. ms ++ m ∷ []) same) seen,
-  )
+  record { name = text_at t at; qual = q } ∷ [],
+  member_by n t s env at q true e,
+  one_more before after m (record { name = text_at t at; qual = q }) (is ∙ ap (λ ms. ms ++ m ∷ []) same) seen,
+)

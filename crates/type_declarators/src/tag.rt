@@ -208,7 +208,10 @@ fn completed(tags: &mut Tags, number: u32, members: Items<Member>) -> Result<(),
     ensures unchanged { OnErr result (tags.new ≡ tags.old) }
 {
     tags.law_extents();
-    if tags.is_complete(number) || number as usize >= tags.len() {
+    if tags.is_complete(number) {
+        return Err(Reason::DefinedTwice);
+    }
+    if number as usize >= tags.len() {
         return Err(Reason::DefinedTwice);
     }
     if tags.complete(number, members) {
