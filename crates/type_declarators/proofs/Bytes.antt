@@ -1,5 +1,5 @@
 -- String literals, one after the other.
-use Rattle.std.proofs.Common.{◌≡◌, ℕ, zero, suc, ◌+◌, ◌-◌, ◌<◌, List, [], ◌∷◌, ◌++◌, refl, sym, ap, ◌∙◌, append_assoc, arith}
+use Rattle.std.proofs.Common.{◌≡◌, ℕ, zero, suc, ◌+◌, ◌-◌, ◌<◌, ◌≤◌, List, [], ◌∷◌, ◌++◌, refl, sym, ap, ◌∙◌, append_assoc, arith}
 use Rattle.std.specs.Prelude.{Option, Some, None, Result, Ok, Err}
 use Rattle.c_lex.specs.TokenText.{TokenText, text_at}
 use Rattle.c_lit.specs.Literals.{string_value, IsAppended}
@@ -31,26 +31,39 @@ first_of t first count k bs read less is =
     ap (λ n. prepended bs (bytes_from t n (first + k))) (rest count k less)
     ∙ ap (λ r. prepended bs (bytes_then r (bytes_from t (count - (k + 1)) (first + k + 1)))) is
 
+-- none so far
+pub begins : (t : TokenText) (first count : ℕ) (bs : List ℕ) → bs ≡ []
+    → prepended bs (bytes_from t (count - 0) (first + 0)) ≡ bytes_from t count first
+begins t first count bs e =
+    let all : count - 0 ≡ count = omega arith in
+    let here : first + 0 ≡ first = omega arith in
+    ap (λ n. prepended bs (bytes_from t n (first + 0))) all
+    ∙ ap (λ n. prepended bs (bytes_from t count n)) here
+    ∙ ap (λ xs. prepended xs (bytes_from t count first)) e
+    ∙ none_before (bytes_from t count first)
+
 -- one literal more
-pub one_more : (t : TokenText) (first count k at : ℕ) (bs now : List ℕ) (whole : Option (List ℕ)) → k < count → at ≡ first + k
-    → IsAppended bs now (text_at t at) → prepended bs (bytes_from t (count - k) (first + k)) ≡ whole
+pub one_more : (t : TokenText) (first count k at : ℕ) (bs now text : List ℕ) (whole : Option (List ℕ)) → k < count → at ≡ first + k
+    → text ≡ text_at t at → IsAppended bs now text → prepended bs (bytes_from t (count - k) (first + k)) ≡ whole
     → prepended now (bytes_from t (count - (k + 1)) (first + (k + 1))) ≡ whole
-one_more t first count k at bs now whole less e added is =
+one_more t first count k at bs now text whole less e spelled added is =
     let next : first + (k + 1) ≡ first + k + 1 = omega arith in
     ap (λ xs. prepended xs (bytes_from t (count - (k + 1)) (first + (k + 1)))) added.new_is
     ∙ ap (λ n. prepended (bs ++ added.bytes) (bytes_from t (count - (k + 1)) n)) next
     ∙ sym (then_by bs added.bytes (bytes_from t (count - (k + 1)) (first + k + 1)))
-    ∙ sym (first_of t first count k bs (Ok added.bytes) less (ap (λ n. string_value (text_at t n)) (sym e) ∙ added.is))
+    ∙ sym (first_of t first count k bs (Ok added.bytes) less
+    (ap (λ n. string_value (text_at t n)) (sym e) ∙ ap string_value (sym spelled) ∙ added.is))
     ∙ is
 
 -- one that has no value
-pub broken : (t : TokenText) (first count k at : ℕ) (bs : List ℕ) (whole : Option (List ℕ)) (fault : LitFault) → k < count → at ≡ first + k
-    → string_value (text_at t at) ≡ Err fault → prepended bs (bytes_from t (count - k) (first + k)) ≡ whole → whole ≡ None
-broken t first count k at bs whole fault less e fails is =
-    sym is ∙ first_of t first count k bs (Err fault) less (ap (λ n. string_value (text_at t n)) (sym e) ∙ fails)
+pub broken : (t : TokenText) (first count k at : ℕ) (bs text : List ℕ) (whole : Option (List ℕ)) (fault : LitFault) → k < count → at ≡ first + k
+    → text ≡ text_at t at → string_value text ≡ Err fault → prepended bs (bytes_from t (count - k) (first + k)) ≡ whole → whole ≡ None
+broken t first count k at bs text whole fault less e spelled fails is =
+    sym is
+    ∙ first_of t first count k bs (Err fault) less (ap (λ n. string_value (text_at t n)) (sym e) ∙ ap string_value (sym spelled) ∙ fails)
 
 -- all of them
-pub all_read : (t : TokenText) (first count k : ℕ) (bs now : List ℕ) (whole : Option (List ℕ)) → count ≡ k → now ≡ bs ++ 0 ∷ []
+pub all_read : (t : TokenText) (first count k : ℕ) (bs now : List ℕ) (whole : Option (List ℕ)) → count ≤ k → now ≡ bs ++ 0 ∷ []
     → prepended bs (bytes_from t (count - k) (first + k)) ≡ whole → whole ≡ Some now
 all_read t first count k bs now whole e is reads =
     let none : count - k ≡ 0 = omega arith in

@@ -414,6 +414,12 @@ fn is_void_type(ty: &Ty) -> bool
     matches!(ty, Ty::Void)
 }
 
+fn is_void_qual(qual: &Qual) -> bool
+    ensures { result ≡ spec.is_void (qualified_of qual.now).ty }
+{
+    is_void_type(&qual.ty)
+}
+
 /// Whether the parameter is the `void` that stands for no parameters, if it is the only item of its list (6.7.6.3p10).
 pub fn is_void(words: &Words, param: &Declared) -> bool
     ensures { (ws : spec.Words) → IsSaid words.now ws → result ≡ is_lone_void ws param.now.name (qualified_of param.now.qual) }
@@ -508,7 +514,7 @@ pub fn parameter(
     if words.function {
         return Err(source.fault(at, Reason::FunctionSpecifier));
     }
-    if is_void_type(&qual.ty) {
+    if is_void_qual(&qual) {
         return Err(source.fault(at, Reason::VoidParameter));
     }
     let qual = adjusted(state.alloc, qual)?;

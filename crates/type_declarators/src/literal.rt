@@ -70,11 +70,14 @@ pub fn literal_bytes(
     let mut bytes = Bytes::from_slice(alloc, &[])?;
     for k in 0..count {
         let at = first.saturating_add(k);
-        if let Err(fault) = string_bytes(&mut bytes, source.spelling(at)) {
-            return Err(literal_fault(source, at, fault, Reason::StringLiteral));
+        match string_bytes(&mut bytes, source.spelling(at)) {
+            Ok(()) => {}
+            Err(fault) => {
+                return Err(literal_fault(source, at, fault, Reason::StringLiteral));
+            }
         }
     }
-    bytes.append(&[0])?;
+    bytes.push(0)?;
     Ok(bytes)
 }
 

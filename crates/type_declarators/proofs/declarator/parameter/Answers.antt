@@ -10,26 +10,26 @@ returns-in_default-clause-reads c small ws said n env other =
     class_refused c.args.index ws c.args.param.name (qualified_of c.args.param.qual) (known_by n c.args.source.now c.args.state.now env)
     (ap is_register (sym said.storage) ∙ sym c.is_register.ensures ∙ c.in_default.is)
 
-pub returns-then-words-function-clause-reads : goal.returns-then-words-function-clause-reads
-returns-then-words-function-clause-reads c small ws said n env other =
+pub returns-then-words-clause-reads : goal.returns-then-words-clause-reads
+returns-then-words-clause-reads c small ws said n env other =
     function_refused c.args.index ws c.args.param.name (qualified_of c.args.param.qual) (known_by n c.args.source.now c.args.state.now env)
-    (sym said.function ∙ c.if-words-function.true)
+    (sym said.function ∙ c.if-words.true)
 
-pub returns-then-is_void_type-clause-reads : goal.returns-then-is_void_type-clause-reads
-returns-then-is_void_type-clause-reads c small ws said n env other =
+pub returns-then-is_void_qual-clause-reads : goal.returns-then-is_void_qual-clause-reads
+returns-then-is_void_qual-clause-reads c small ws said n env other =
     void_refused c.args.index ws c.args.param.name (qualified_of c.args.param.qual) (known_by n c.args.source.now c.args.state.now env)
-    (sym c.is_void_type.ensures ∙ c.if-is_void_type.true)
+    (sym c.is_void_qual.ensures ∙ c.if-is_void_qual.true)
 
 pub returns-in-Ok-clause-reads : goal.returns-in-Ok-clause-reads
 returns-in-Ok-clause-reads c small ws said n env =
     declared c.args.index ws c.args.param.name (qualified_of c.args.param.qual) (qualified_of c.in_ok-qual.qual) c.in-Some.register
     (known_by n c.args.source.now c.args.state.now env) (known_by n c.args.source.now c.declare_parameter.new.state env)
-    (ap is_register (sym said.storage) ∙ sym c.is_register.ensures ∙ c.in-Some.is) (sym said.function ∙ c.if-words-function.false)
-    (sym c.is_void_type.ensures ∙ c.if-is_void_type.false) c.in_ok-qual.ensures (c.in-Ok.ensures.reads small n env)
+    (ap is_register (sym said.storage) ∙ sym c.is_register.ensures ∙ c.in-Some.is) (sym said.function ∙ c.if-words.false)
+    (sym c.is_void_qual.ensures ∙ c.if-is_void_qual.false) c.in_ok-qual.ensures (c.in-Ok.ensures.reads small n env)
 
 pub returns-in-Err-clause-reads : goal.returns-in-Err-clause-reads
 returns-in-Err-clause-reads c small ws said n env other =
     declared_refused c.args.index ws c.args.param.name (qualified_of c.args.param.qual) (qualified_of c.in_ok-qual.qual) c.in-Some.register
     (known_by n c.args.source.now c.args.state.now env)
-    (ap is_register (sym said.storage) ∙ sym c.is_register.ensures ∙ c.in-Some.is) (sym said.function ∙ c.if-words-function.false)
-    (sym c.is_void_type.ensures ∙ c.if-is_void_type.false) c.in_ok-qual.ensures (c.in-Err.ensures.reads small n env other)
+    (ap is_register (sym said.storage) ∙ sym c.is_register.ensures ∙ c.in-Some.is) (sym said.function ∙ c.if-words.false)
+    (sym c.is_void_qual.ensures ∙ c.if-is_void_qual.false) c.in_ok-qual.ensures (c.in-Err.ensures.reads small n env other)

@@ -1,4 +1,4 @@
-use Rattle.std.proofs.Common.{sym, ◌∙◌}
+use Rattle.std.proofs.Common.{sym, ◌∙◌, arith}
 use Rattle.type_declarators.proofs.Completing.{has_them, is_out, may_or_not}
 use Rattle.type_declarators.proofs.tag.completed.Goals as goal
 
@@ -6,8 +6,8 @@ pub returns-then-is_complete-clause-value : goal.returns-then-is_complete-clause
 returns-then-is_complete-clause-value c =
     sym (has_them c.args.tags.now c.args.number c.args.members c.is_complete.result c.law_extents.ensures c.is_complete.ensures c.if-is_complete.true)
 
-pub returns-then-branch-clause-value : goal.returns-then-branch-clause-value
-returns-then-branch-clause-value c = sym (is_out c.args.tags.now c.args.number c.args.members (omega (arith, c.if-branch.true, c.len.ensures)))
+pub returns-then-number-len-clause-value : goal.returns-then-number-len-clause-value
+returns-then-number-len-clause-value c = sym (is_out c.args.tags.now c.args.number c.args.members (omega (arith, c.if-number-len.true, c.len.ensures)))
 
 pub returns-then-complete-clause-value : goal.returns-then-complete-clause-value
 returns-then-complete-clause-value c =
