@@ -1,16 +1,18 @@
 -- Members, by the steps of the definition.
-use Rattle.std.proofs.Common.{◌≡◌, ℕ, Bool, true, false, List, [], ◌∷◌, ◌++◌, map, refl, sym, ap, ◌∙◌}
-use Rattle.std.specs.Prelude.{if◌then◌else◌, slice_get, Option, Some, None}
+use Rattle.std.proofs.Common.{◌≡◌, ℕ, Bool, true, false, List, [], ◌∷◌, ◌++◌, map, refl, sym, ap, ◌∙◌, true≢false}
+use Rattle.std.specs.Prelude.{not, if◌then◌else◌, slice_get, Option, Some, None}
 use Rattle.std.proofs.lemmas.List.{map-append}
+use Rattle.std.proofs.lemmas.Option.{same_Some}
 use Rattle.c_lex.specs.TokenText.{TokenText, text_at}
 use Rattle.c_types.specs.Types.{Qualified}
 use Rattle.c_types.specs.declared.tags.Member.{Member}
-use Rattle.typing_env.specs.Env.{Env, and_then, spelling}
+use Rattle.typing_env.specs.Env.{Env, and_then, spelling, symbol_in, symbol_of}
 use Rattle.typing_env.specs.Seen.{SeenMember, member_seen, tag_seen}
 use Rattle.typing_words.specs.Tags.{is_complete}
 use Rattle.typing_words.specs.Words.{named_member}
 use Rattle.type_scope.specs.Known.{Naming, known_by}
 use Rattle.type_scope.specs.declared.state.State.{State}
+use Rattle.type_scope.proofs.Seen.{symbol_is}
 use Rattle.type_declarators.specs.Members.{IsAdded}
 
 pub no_name : (q : Qualified) (env : Env) → named_member None q env ≡ None
@@ -57,3 +59,12 @@ member_added n t s env at q before middle after m e same is seen = (
   member_by n t s env at q true e,
   one_more before after m (record { name = text_at t at; qual = q }) (is ∙ ap (λ ms. ms ++ m ∷ []) same) seen,
 )
+
+-- a name that isn't new
+pub not_fresh : (n : Naming) (t : TokenText) (s : State) (env : Env) (at name symbol : ℕ) (given : Option ℕ) (has : ℕ → Bool) (fresh : Bool)
+    → given ≡ Some name → given ≡ Some at → symbol ≡ symbol_in t (slice_get t.list name) → fresh ≡ not (has symbol) → fresh ≡ false
+    → has (symbol_of (known_by n t s env) at) ≡ false → ⊥
+not_fresh n t s env at name symbol given has fresh named is spelled told old free =
+    true≢false
+    (sym (told ∙ ap (λ k. not (has k)) (spelled ∙ sym (symbol_is n t s env name)
+    ∙ ap (symbol_of (known_by n t s env)) (same_Some name at (sym named ∙ is))) ∙ ap not free) ∙ old)

@@ -232,10 +232,17 @@ fn count_of(number: i128) -> Option<u64>
 }
 
 // Whether the type is complete (6.2.5p22).
-pub(crate) fn is_complete(state: &State, ty: &Ty) -> bool
+fn is_complete(state: &State, ty: &Ty) -> bool
     ensures { result ≡ tags.is_complete (map tag_seen state.now.tags) (type_of ty.now) }
 {
     state.tags.extent(ty).is_some()
+}
+
+// Whether the type without its qualifier is.
+pub(crate) fn is_complete_qual(state: &State, qual: &Qual) -> bool
+    ensures { result ≡ tags.is_complete (map tag_seen state.now.tags) (qualified_of qual.now).ty }
+{
+    is_complete(state, &qual.ty)
 }
 
 fn array_of(alloc: Global, element: Qual, count: Option<u64>) -> Result<Ty, NoMemory>

@@ -20,7 +20,7 @@ ghost use Rattle.type_declarators.specs.Finds.{Finds};
 ghost use Rattle.type_declarators.specs.Keywords.{IsSaid};
 ghost use Rattle.type_declarators.specs.Members.{IsAdded, may_complete, without_members};
 
-use crate::declarator::{Declared, is_complete};
+use crate::declarator::{Declared, is_complete_qual};
 use crate::words::{Storage, Words};
 use c_ast::{Base, Specs};
 use c_types::{Member, Qual, TagKind, Tags, Ty};
@@ -300,7 +300,7 @@ pub fn add_member(
     let Some(name) = name else {
         return Err(source.fault(at, Reason::UnnamedMember));
     };
-    if !is_complete(state, &qual.ty) {
+    if !is_complete_qual(state, &qual) {
         return Err(source.fault(name, Reason::MemberType));
     }
     if !list.add_name(source.symbol(name))? {

@@ -13,7 +13,7 @@ returns-in-Ok-clause-reads c apart n env =
     closed c.args.kind c.args.number (c.args.state.now).tags c.args.list.members was refl apart (sym c.in-Ok.ensures.value)
     ∙ ap (λ ts. Some (plain (tagged c.args.kind c.args.number), record was { tags = map tag_seen ts })) (sym c.in-Ok.ensures.done)
     ∙ ap (λ ty. Some (plain ty, record was { tags = map tag_seen c.completed.new.tags })) (sym c.tagged_type.ensures)
-    ∙ ap (λ (s : State). Some (plain (type_of c.tagged_type.result), known_by n c.args.source.now s env)) (sym c.note_row.ensures)
+    ∙ ap (λ (s : State). Some (plain (type_of c.tagged_type.result), known_by n c.args.source.now s env)) (sym c.note_row.ensures.rest)
 
 pub returns-clause-reads : goal.returns-clause-reads
 returns-clause-reads c apart n env other =
