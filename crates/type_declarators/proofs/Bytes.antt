@@ -1,10 +1,10 @@
 -- String literals, one after the other.
 use Rattle.std.proofs.Common.{◌≡◌, ℕ, zero, suc, ◌+◌, ◌-◌, ◌<◌, ◌≤◌, List, [], ◌∷◌, ◌++◌, refl, sym, ap, ◌∙◌, append_assoc, arith}
-use Rattle.std.specs.Prelude.{Option, Some, None, Result, Ok, Err}
+use Rattle.std.specs.Prelude.{ℤ, Bool, true, false, if◌then◌else◌, is_some, Option, Some, None, Result, Ok, Err}
 use Rattle.c_lex.specs.TokenText.{TokenText, text_at}
 use Rattle.c_lit.specs.Literals.{string_value, IsAppended}
 use Rattle.c_lit.specs.declared.fault.LitFault.{LitFault}
-use Rattle.type_declarators.specs.Literals.{bytes_then, bytes_from}
+use Rattle.type_declarators.specs.Literals.{bytes_then, bytes_from, is_zero, asserted}
 
 -- these bytes, and those behind them
 abbrev pub prepended : List ℕ → Option (List ℕ) → Option (List ℕ)
@@ -68,3 +68,19 @@ pub all_read : (t : TokenText) (first count k : ℕ) (bs now : List ℕ) (whole 
 all_read t first count k bs now whole e is reads =
     let none : count - k ≡ 0 = omega arith in
     sym reads ∙ ap (λ n. prepended bs (bytes_from t n (first + k))) none ∙ ap (λ xs. Some xs) (sym is)
+
+-- a static assertion
+
+pub fails : (z : ℤ) (message : Option (List ℕ)) (zero : Bool) → zero ≡ is_zero z → zero ≡ true → asserted z message ≡ None
+fails z message zero e is = ap (λ b. if b then None else if is_some message then Some (tt {0}) else None) (sym e ∙ is)
+
+pub stands : (z : ℤ) (message : Option (List ℕ)) (bs : List ℕ) (zero : Bool) → zero ≡ is_zero z → zero ≡ false → message ≡ Some bs
+    → asserted z message ≡ Some tt
+stands z message bs zero e is read =
+    ap (λ b. if b then None else if is_some message then Some (tt {0}) else None) (sym e ∙ is)
+    ∙ ap (λ o. if is_some o then Some (tt {0}) else None) read
+
+pub no_message : (z : ℤ) (message : Option (List ℕ)) (zero : Bool) → zero ≡ is_zero z → zero ≡ false → message ≡ None → asserted z message ≡ None
+no_message z message zero e is read =
+    ap (λ b. if b then None else if is_some message then Some (tt {0}) else None) (sym e ∙ is)
+    ∙ ap (λ o. if is_some o then Some (tt {0}) else None) read

@@ -1,10 +1,24 @@
-use Rattle.std.proofs.Common.{ap, sym, ◌∙◌, drop, Some}
-use Rattle.std.specs.Prelude.{is_some, if◌then◌else◌}
+use Rattle.std.proofs.Common.{ap, sym, subst, ◌∙◌, ◌+◌, ◌<◌, ◌^◌, ℕ, drop}
 use Rattle.type_scope.specs.Strings.{strings_of}
-use Rattle.type_declarators.specs.Literals.{asserted, bytes_from}
+use Rattle.type_declarators.specs.Literals.{bytes_from}
+use Rattle.type_declarators.proofs.Bytes.{fails, stands, no_message}
 use Rattle.type_declarators.proofs.declarator.assertion.Goals as goal
 
 pub returns-then-is_zero : goal.returns-then-is_zero
 returns-then-is_zero c small other =
-    ap (λ b. if b then None else if is_some (bytes_from c.args.source.now (strings_of (drop c.args.message c.args.source.now.list)) c.args.message)
-    then Some tt else None) (sym c.is_zero.ensures ∙ c.if-is_zero.true)
+    fails c.args.number (bytes_from c.args.source.now (strings_of (drop c.args.message c.args.source.now.list)) c.args.message)
+    c.is_zero.result c.is_zero.ensures c.if-is_zero.true
+
+pub returns-in-Ok : goal.returns-in-Ok
+returns-in-Ok c small =
+    stands c.args.number (bytes_from c.args.source.now (strings_of (drop c.args.message c.args.source.now.list)) c.args.message) _
+    c.is_zero.result c.is_zero.ensures c.if-is_zero.false
+    (ap (λ k. bytes_from c.args.source.now k c.args.message) (sym c.string_count.ensures)
+    ∙ c.in-Ok.ensures.value (subst (λ (k : ℕ). c.args.message + k < 2 ^ 32) (sym c.string_count.ensures) small))
+
+pub returns-in-Err : goal.returns-in-Err
+returns-in-Err c small other =
+    no_message c.args.number (bytes_from c.args.source.now (strings_of (drop c.args.message c.args.source.now.list)) c.args.message)
+    c.is_zero.result c.is_zero.ensures c.if-is_zero.false
+    (ap (λ k. bytes_from c.args.source.now k c.args.message) (sym c.string_count.ensures)
+    ∙ c.in-Err.ensures.value (subst (λ (k : ℕ). c.args.message + k < 2 ^ 32) (sym c.string_count.ensures) small) other)

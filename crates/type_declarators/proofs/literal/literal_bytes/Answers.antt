@@ -13,14 +13,14 @@ loop-k-preserved c small =
     c.spelling.result.now (bytes_from c.args.source.now c.args.count c.args.first) c.loop-k-test.true here c.spelling.ensures c.in-Ok.ensures.ok
     (c.loop-k.invariant small)
 
-pub returns-clause-value : goal.returns-clause-value
-returns-clause-value c small other =
+pub returns-in-Err-clause-value : goal.returns-in-Err-clause-value
+returns-in-Err-clause-value c small other =
     let here : c.saturating_add-at.result ≡ c.args.first + c.loop-k.k = omega (arith, c.saturating_add-at.ensures, c.loop-k-test.true, small) in
     broken c.args.source.now c.args.first c.args.count c.loop-k.k c.saturating_add-at.result c.loop-k.bytes
     c.spelling.result.now (bytes_from c.args.source.now c.args.count c.args.first) c.in-Err.fault c.loop-k-test.true here c.spelling.ensures
     (c.in-Err.ensures.fault (λ want. other (c.literal_fault.ensures want))) (c.loop-k.invariant small)
 
-pub returns-in_ok-push-clause-value : goal.returns-in_ok-push-clause-value
-returns-in_ok-push-clause-value c small =
+pub returns-clause-value : goal.returns-clause-value
+returns-clause-value c small =
     all_read c.args.source.now c.args.first c.args.count c.loop-k.k c.loop-k.bytes c.push.new.self (bytes_from c.args.source.now c.args.count c.args.first)
     (omega (arith, c.loop-k-test.false)) c.in_ok-push.ensures.ok (c.loop-k.invariant small)
