@@ -72,15 +72,15 @@ all_read t first count k bs now whole e is reads =
 -- a static assertion
 
 pub fails : (z : ℤ) (message : Option (List ℕ)) (zero : Bool) → zero ≡ is_zero z → zero ≡ true → asserted z message ≡ None
-fails z message zero e is = ap (λ b. if b then None else if is_some message then Some (tt {0}) else None) (sym e ∙ is)
+fails z message none e is = ap (λ b. if b then None else if is_some message then Some (tt {0}) else None) (sym e ∙ is)
 
 pub stands : (z : ℤ) (message : Option (List ℕ)) (bs : List ℕ) (zero : Bool) → zero ≡ is_zero z → zero ≡ false → message ≡ Some bs
     → asserted z message ≡ Some tt
-stands z message bs zero e is read =
+stands z message bs none e is read =
     ap (λ b. if b then None else if is_some message then Some (tt {0}) else None) (sym e ∙ is)
     ∙ ap (λ o. if is_some o then Some (tt {0}) else None) read
 
 pub no_message : (z : ℤ) (message : Option (List ℕ)) (zero : Bool) → zero ≡ is_zero z → zero ≡ false → message ≡ None → asserted z message ≡ None
-no_message z message zero e is read =
+no_message z message none e is read =
     ap (λ b. if b then None else if is_some message then Some (tt {0}) else None) (sym e ∙ is)
     ∙ ap (λ o. if is_some o then Some (tt {0}) else None) read
