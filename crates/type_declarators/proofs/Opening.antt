@@ -5,7 +5,7 @@ use Rattle.std.specs.Option.{option_map}
 use Rattle.std.proofs.lemmas.List.{length-map}
 use Rattle.c_lex.specs.TokenText.{TokenText}
 use Rattle.c_types.specs.declared.tags.TagKind.{TagKind}
-use Rattle.typing_env.specs.Env.{Env, TagMeaning, a_tag, an_enumeration, and_then, symbol_in, symbol_of}
+use Rattle.typing_env.specs.Env.{Env, a_tag, an_enumeration, symbol_in, symbol_of}
 use Rattle.typing_env.specs.Names.{tag_seen, with_tag_name, with_new_tag}
 use Rattle.typing_env.specs.Seen as seen
 use Rattle.typing_words.specs.Words.{plain, tagged, is_kind, new_tag, declare_tag, tag_or_new, reference, has_members, open_tag}

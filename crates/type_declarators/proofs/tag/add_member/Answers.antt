@@ -1,4 +1,4 @@
-use Rattle.std.proofs.Common.{ap, sym, ◌∙◌, ◌∷◌, [], subst, List, ℕ, Some}
+use Rattle.std.proofs.Common.{ap, sym, ◌∙◌, subst, ℕ}
 use Rattle.std.specs.Prelude.{Option}
 use Rattle.std.specs.BTreeSet.{contains}
 use Rattle.std.specs.Ordering.{nat_cmp}

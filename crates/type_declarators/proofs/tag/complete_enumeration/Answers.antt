@@ -1,4 +1,4 @@
-use Rattle.std.proofs.Common.{refl, sym, true≢false}
+use Rattle.std.proofs.Common.{sym, true≢false}
 use Rattle.type_declarators.proofs.Enumerations.{flag_set, flag_none}
 use Rattle.type_declarators.proofs.tag.complete_enumeration.Goals as goal
 

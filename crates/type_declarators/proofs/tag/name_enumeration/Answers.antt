@@ -1,4 +1,4 @@
-use Rattle.std.proofs.Common.{ap, sym, ◌∙◌}
+use Rattle.std.proofs.Common.{ap, ◌∙◌}
 use Rattle.typing_words.specs.Words.{name_enumeration}
 use Rattle.type_scope.specs.Known.{known_by}
 use Rattle.type_declarators.proofs.Enumerations.{unnamed, again_refused, first_named}
