@@ -41,7 +41,7 @@ known_same (suc n) tags tag =
     ∙ (ap (λ (k : Known). extent_of_tag k (option_map tag_seen (slice_get tags tag))) (fun_ext (known_same n tags))
     ∙ extent_same (below.known_by n tags) (slice_get tags tag))
 
-extents_same : (tags : List Tag) (tag : ℕ) → extents (map tag_seen tags) tag ≡ below.extents tags tag
+pub extents_same : (tags : List Tag) (tag : ℕ) → extents (map tag_seen tags) tag ≡ below.extents tags tag
 extents_same tags tag = ap (λ (n : ℕ). known_by n (map tag_seen tags) tag) (length_same tags) ∙ known_same (length tags) tags tag
 
 -- a type is complete where it has an extent

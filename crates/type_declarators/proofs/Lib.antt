@@ -1,7 +1,14 @@
 pub mod Applied
+pub mod Bytes
+pub mod Completing
 pub mod Derived
+pub mod Enumerations
 pub mod Extents
 pub mod Keywords
+pub mod Meanings
+pub mod Members
 pub mod Named
+pub mod Opening
+pub mod Parameters
 pub mod Pointers
 pub mod Standing

@@ -1,3 +1,5 @@
 pub mod Finds
 pub mod Keywords
+pub mod Literals
+pub mod Members
 pub mod Parts

@@ -1,13 +1,21 @@
 // Specifiers, declarators and static assertions, from their parts (6.7, 6.7.2 to 6.7.6, 6.7.8, 6.7.10).
-ghost use Rattle.std.specs.Prelude.{◌≡◌, ◌<◌, ◌^◌, ◌<ℤ◌, ℤ, List, Bool, true, Option, Some, None, IfOk, MatchOption, map, not, ◌||◌, if◌then◌else◌, pos, int_le, reverse};
+ghost use Rattle.std.specs.Prelude.{◌≡◌, ◌+◌, ◌<◌, ◌^◌, ◌<ℤ◌, ℤ, List, Bool, true, Option, Some, None, IfOk, MatchOption, map, not, ◌||◌, if◌then◌else◌, pos, int_le, reverse, drop};
+ghost use Rattle.std.specs.Option.{option_map, option_copied};
 ghost use Rattle.c_lex.specs.declared.token.Word.{Word};
 ghost use Rattle.c_types.specs.Types.{type_of, qualified_of, params_of, pointer, array, function, Params};
+ghost use Rattle.type_name_space.specs.Scopes.{visible};
+ghost use Rattle.typing_env.specs.Env.{Env, symbol_of};
+ghost use Rattle.typing_env.specs.Names.{meaning_in, meaning_of};
 ghost use Rattle.typing_env.specs.Seen.{SeenTag, tag_seen};
 ghost use Rattle.typing_words.specs.Tags as tags;
-ghost use Rattle.typing_words.specs.Words.{said, type_named, type_table, plain, plain_option, is_function_type, may_be_restricted, pointer_by, array_with, counted_array, function_with, is_lone_void};
+ghost use Rattle.typing_words.specs.Words.{said, type_named, type_table, plain, plain_option, typedef_in, is_function_type, may_be_restricted, pointer_by, array_with, counted_array, function_with, is_lone_void};
 ghost use Rattle.typing_words.specs.Words as spec;
+ghost use Rattle.type_scope.specs.Known.{Naming, known_by, meaning_seen};
+ghost use Rattle.type_scope.specs.Reads.{Reads};
+ghost use Rattle.type_scope.specs.Strings.{strings_of};
 ghost use Rattle.type_declarators.specs.Finds.{Finds};
-ghost use Rattle.type_declarators.specs.Keywords.{Says, IsSaid, AreCounted};
+ghost use Rattle.type_declarators.specs.Keywords.{Says, IsSaid, AreCounted, storage_seen};
+ghost use Rattle.type_declarators.specs.Literals as literals;
 ghost use Rattle.type_declarators.specs.Parts.{qualified_so, is_plain, with_keywords, part_seen, parts_seen, applied, FitsCount, AllFit};
 
 use crate::literal::literal_bytes;
@@ -31,8 +39,10 @@ pub struct Declared {
 }
 
 /// Whether the operand is a value.
-pub fn is_value(operand: &Operand) -> bool {
-    operand.form == Form::Value
+pub fn is_value(operand: &Operand) -> bool
+    ensures { result ≡ literals.is_value operand.now.form }
+{
+    matches!(operand.form, Form::Value)
 }
 
 /// A copy of the type in front of a list of declarators.
@@ -62,11 +72,33 @@ pub fn plain_type(source: &Source<'_>, words: &Words, at: u32) -> Result<Qual, T
     }
 }
 
+// The type, where this is the meaning of a typedef name.
+fn denoted(meaning: &Meaning) -> Option<&Qual>
+    ensures { (n : Naming) → option_map qualified_of (option_copied result) ≡ typedef_in (Some (meaning_seen n meaning.now)) }
+{
+    match meaning {
+        Meaning::Typedef(qual) => Some(qual),
+        _ => None,
+    }
+}
+
+// The type that the identifier denotes, where it is a typedef name.
+fn typedef_named(state: &State, symbol: u32) -> Option<&Qual>
+    ensures { (n : Naming) → option_map qualified_of (option_copied result) ≡ typedef_in (option_map (meaning_seen n) (meaning_in (visible symbol state.now.names.ordinary))) }
+{
+    match state.names.find(symbol) {
+        Some(meaning) => denoted(meaning),
+        None => None,
+    }
+}
+
 /// The type that a typedef name denotes (6.7.8p3).
-pub fn typedef_type(source: &Source<'_>, state: &State, name: u32) -> Result<Qual, TypeFault> {
-    match state.names.find(source.symbol(name)) {
-        Some(Meaning::Typedef(qual)) => copy(state, qual),
-        _ => Err(source.fault(name, Reason::TypeSpecifiers)),
+pub fn typedef_type(source: &Source<'_>, state: &State, name: u32) -> Result<Qual, TypeFault>
+    ensures { (n : Naming) (env : Env) → let here = known_by n source.now state.now env in Finds qualified_of (typedef_in (meaning_of here (symbol_of here name))) result }
+{
+    match typedef_named(state, source.symbol(name)) {
+        Some(qual) => copy(state, qual),
+        None => Err(source.fault(name, Reason::TypeSpecifiers)),
     }
 }
 
@@ -204,6 +236,13 @@ fn is_complete(state: &State, ty: &Ty) -> bool
     ensures { result ≡ tags.is_complete (map tag_seen state.now.tags) (type_of ty.now) }
 {
     state.tags.extent(ty).is_some()
+}
+
+// Whether the type without its qualifier is.
+pub(crate) fn is_complete_qual(state: &State, qual: &Qual) -> bool
+    ensures { result ≡ tags.is_complete (map tag_seen state.now.tags) (qualified_of qual.now).ty }
+{
+    is_complete(state, &qual.ty)
 }
 
 fn array_of(alloc: Global, element: Qual, count: Option<u64>) -> Result<Ty, NoMemory>
@@ -382,6 +421,12 @@ fn is_void_type(ty: &Ty) -> bool
     matches!(ty, Ty::Void)
 }
 
+fn is_void_qual(qual: &Qual) -> bool
+    ensures { result ≡ spec.is_void (qualified_of qual.now).ty }
+{
+    is_void_type(&qual.ty)
+}
+
 /// Whether the parameter is the `void` that stands for no parameters, if it is the only item of its list (6.7.6.3p10).
 pub fn is_void(words: &Words, param: &Declared) -> bool
     ensures { (ws : spec.Words) → IsSaid words.now ws → result ≡ is_lone_void ws param.now.name (qualified_of param.now.qual) }
@@ -394,8 +439,8 @@ pub fn is_void(words: &Words, param: &Declared) -> bool
 }
 
 // The type of a parameter: an array becomes a pointer to its element, a function one to it (6.7.6.3p7, 6.7.6.3p8).
-fn adjusted(alloc: Global, qual: Qual) -> Result<Qual, TypeFault>
-    ensures { Finds qualified_of (Some (spec.adjusted (qualified_of qual))) result }
+fn adjusted(alloc: Global, qual: Qual) -> Result<Qual, NoMemory>
+    ensures { IfOk result (λ q. qualified_of q ≡ spec.adjusted (qualified_of qual)) }
 {
     let Qual { ty, constant } = qual;
     match ty {
@@ -408,7 +453,55 @@ fn adjusted(alloc: Global, qual: Qual) -> Result<Qual, TypeFault>
     }
 }
 
-/// A parameter, which is declared in its scope where it has a name; the answer is its type. `index` is its number.
+// Whether a parameter of this storage class is a `register` one; no other class may stand there (6.7.6.3p2).
+fn is_register(storage: Storage) -> Option<bool>
+    ensures { result ≡ spec.is_register (storage_seen storage) }
+{
+    match storage {
+        Storage::None => Some(false),
+        Storage::Register => Some(true),
+        Storage::Typedef | Storage::Extern | Storage::Static | Storage::Auto => None,
+    }
+}
+
+fn number_of(index: usize) -> u32
+    ensures { index < 2 ^ 32 → result ≡ index }
+{
+    match u32::try_from(index) {
+        Ok(number) => number,
+        Err(_) => u32::MAX,
+    }
+}
+
+// Declares a parameter where it has a name: an object of the function's body block (6.2.1p7, 6.9.1p9).
+fn declare_parameter(
+    source: &Source<'_>,
+    state: &mut State,
+    name: Option<u32>,
+    index: usize,
+    qual: &Qual,
+    register: bool,
+) -> Result<(), TypeFault>
+    ensures reads { index < 2 ^ 32 → (n : Naming) (env : Env) → Reads (λ u. u) (spec.declare_parameter name index (qualified_of qual.now) register (known_by n source.now state.old env)) result (known_by n source.now state.new env) }
+    ensures rest { state.new ≡ record state.old { names = state.new.names } }
+{
+    match name {
+        None => Ok(()),
+        Some(at) => {
+            let meaning = Meaning::Object {
+                slot: Slot::Auto {
+                    block: 0,
+                    decl: number_of(index),
+                },
+                qual: copied_qual(state.alloc, qual)?,
+                register,
+            };
+            state.declare(source, at, meaning)
+        }
+    }
+}
+
+/// A parameter, which is declared in its scope where it has a name; the answer is its type (6.7.6.3). `index` is its number.
 pub fn parameter(
     source: &Source<'_>,
     state: &mut State,
@@ -416,34 +509,32 @@ pub fn parameter(
     param: Declared,
     index: usize,
     at: u32,
-) -> Result<Qual, TypeFault> {
+) -> Result<Qual, TypeFault>
+    ensures reads { index < 2 ^ 32 → (ws : spec.Words) → IsSaid words.now ws → (n : Naming) (env : Env) → Reads qualified_of (spec.parameter index ws param.name (qualified_of param.qual) (known_by n source.now state.old env)) result (known_by n source.now state.new env) }
+    ensures rest { state.new ≡ record state.old { names = state.new.names } }
+{
     let Declared { name, qual } = param;
     let at = name.unwrap_or(at);
-    let register = match words.storage {
-        Storage::None => false,
-        Storage::Register => true,
-        _ => return Err(source.fault(at, Reason::ParameterStorage)),
+    let Some(register) = is_register(words.storage) else {
+        return Err(source.fault(at, Reason::ParameterStorage));
     };
     if words.function {
         return Err(source.fault(at, Reason::FunctionSpecifier));
     }
-    if matches!(qual.ty, Ty::Void) {
+    if is_void_qual(&qual) {
         return Err(source.fault(at, Reason::VoidParameter));
     }
     let qual = adjusted(state.alloc, qual)?;
-    if let Some(name) = name {
-        let slot = Slot::Auto {
-            block: 0,
-            decl: u32::try_from(index).unwrap_or(u32::MAX),
-        };
-        let meaning = Meaning::Object {
-            slot,
-            qual: copied_qual(state.alloc, &qual)?,
-            register,
-        };
-        state.declare(source, name, meaning)?;
+    match declare_parameter(source, state, name, index, &qual, register) {
+        Ok(()) => Ok(qual),
+        Err(fault) => Err(fault),
     }
-    Ok(qual)
+}
+
+fn is_zero(number: i128) -> bool
+    ensures { result ≡ literals.is_zero number }
+{
+    number.unsigned_abs() == 0
 }
 
 /// A static assertion: its constant isn't 0, and its message is a string literal (6.7.10p1, 6.7.10p2).
@@ -453,10 +544,14 @@ pub fn assertion(
     number: i128,
     at: u32,
     message: u32,
-) -> Result<(), TypeFault> {
-    if number == 0 {
+) -> Result<(), TypeFault>
+    ensures { let count = strings_of (drop message source.now.list) in message + count < 2 ^ 32 → Finds (λ u. u) (literals.asserted number (literals.bytes_from source.now count message)) result }
+{
+    if is_zero(number) {
         return Err(source.fault(at, Reason::AssertionFails));
     }
-    let _bytes = literal_bytes(alloc, source, message, source.string_count(message))?;
-    Ok(())
+    match literal_bytes(alloc, source, message, source.string_count(message)) {
+        Ok(_bytes) => Ok(()),
+        Err(fault) => Err(fault),
+    }
 }

@@ -1,6 +1,15 @@
 // Constants and string literals (6.4.4, 6.4.5).
-ghost use Rattle.std.specs.Prelude.{IfOk};
+ghost use Rattle.std.specs.Prelude.{◌≡◌, ◌+◌, ◌<◌, ◌^◌, IfOk};
+ghost use Rattle.c_lex.specs.TokenText.{text_at, line_at};
+ghost use Rattle.c_lit.specs.Integers as integers;
+ghost use Rattle.c_lit.specs.Literals as characters;
+ghost use Rattle.c_lit.specs.declared.fault.LitFault.TheVariants as lit;
 ghost use Rattle.c_typed.specs.Lawful.{HasBytes};
+ghost use Rattle.type_operands.specs.Terms.{expression_of};
+ghost use Rattle.typing_env.specs.Env.{line_in};
+ghost use Rattle.type_scope.specs.declared.fault.TypeFault.TheVariants as told;
+ghost use Rattle.type_declarators.specs.Finds.{Finds};
+ghost use Rattle.type_declarators.specs.Literals.{literal_in, character_in, bytes_from};
 
 use c_lit::{LitFault, char_value, int_value, string_bytes};
 use c_typed::Node;
@@ -12,7 +21,9 @@ use type_scope::{Source, State, TypeFault};
 use ub_base::Bytes;
 
 // The fault of a constant or literal that has no value: for this reason, where it isn't too wide.
-fn literal_fault(source: &Source<'_>, at: u32, fault: LitFault, reason: Reason) -> TypeFault {
+fn literal_fault(source: &Source<'_>, at: u32, fault: LitFault, reason: Reason) -> TypeFault
+    ensures { fault ≡ lit.NoMemory → result ≡ told.NoMemory }
+{
     match fault {
         LitFault::NoMemory => TypeFault::NoMemory,
         LitFault::TooWide => source.fault(at, Reason::ConstantTooWide),
@@ -21,7 +32,9 @@ fn literal_fault(source: &Source<'_>, at: u32, fault: LitFault, reason: Reason) 
 }
 
 /// An integer constant (6.4.4.1).
-pub fn number(alloc: Global, source: &Source<'_>, at: u32) -> Result<Operand, TypeFault> {
+pub fn number(alloc: Global, source: &Source<'_>, at: u32) -> Result<Operand, TypeFault>
+    ensures { Finds expression_of (literal_in (line_in source.now.list (line_at source.now at)) (integers.int_value (text_at source.now at))) result }
+{
     match int_value(source.spelling(at)) {
         Ok(lit) => {
             let number = i128::from(lit.value);
@@ -32,7 +45,9 @@ pub fn number(alloc: Global, source: &Source<'_>, at: u32) -> Result<Operand, Ty
 }
 
 /// A character constant, of type `int` (6.4.4.4).
-pub fn character(alloc: Global, source: &Source<'_>, at: u32) -> Result<Operand, TypeFault> {
+pub fn character(alloc: Global, source: &Source<'_>, at: u32) -> Result<Operand, TypeFault>
+    ensures { Finds expression_of (character_in (line_in source.now.list (line_at source.now at)) (characters.char_value (text_at source.now at))) result }
+{
     match char_value(source.spelling(at)) {
         Ok(number) => {
             let number = i128::from(number);
@@ -49,16 +64,20 @@ pub fn literal_bytes(
     first: u32,
     count: u32,
 ) -> Result<Bytes, TypeFault>
-    ensures { IfOk result HasBytes }
+    ensures some { IfOk result HasBytes }
+    ensures value { first + count < 2 ^ 32 → Finds (λ b. b) (bytes_from source.now count first) result }
 {
     let mut bytes = Bytes::from_slice(alloc, &[])?;
     for k in 0..count {
         let at = first.saturating_add(k);
-        if let Err(fault) = string_bytes(&mut bytes, source.spelling(at)) {
-            return Err(literal_fault(source, at, fault, Reason::StringLiteral));
+        match string_bytes(&mut bytes, source.spelling(at)) {
+            Ok(()) => {}
+            Err(fault) => {
+                return Err(literal_fault(source, at, fault, Reason::StringLiteral));
+            }
         }
     }
-    bytes.append(&[0])?;
+    bytes.push(0)?;
     Ok(bytes)
 }
 

@@ -1,5 +1,26 @@
 // Structures, unions and enumerations (6.7.2.1 to 6.7.2.3).
-use crate::declarator::Declared;
+ghost use Rattle.std.specs.Prelude.{◌≡◌, ◌≢◌, ℕ, ◌∷◌, ◌++◌, [], map, slice_get, true, false, not, is_ok, if◌then◌else◌, Some, None, IfOk, IfErr, OnOk, OnErr};
+ghost use Rattle.std.specs.BTreeSet.{contains};
+ghost use Rattle.std.specs.Ordering.{nat_cmp};
+ghost use Rattle.c_lex.specs.TokenText.{TokenText};
+ghost use Rattle.c_types.specs.Types.{type_of, qualified_of, enumeration};
+ghost use Rattle.c_types.specs.Layout as layout;
+ghost use Rattle.typing_env.specs.Env.{Env, symbol_of};
+ghost use Rattle.typing_env.specs.Names.{tag_seen};
+ghost use Rattle.typing_env.specs.Seen as seen;
+ghost use Rattle.typing_env.specs.Seen.{member_seen};
+ghost use Rattle.typing_words.specs.Tags.{are_distinct, names};
+ghost use Rattle.typing_words.specs.Tags as tags;
+ghost use Rattle.typing_words.specs.Words as spec;
+ghost use Rattle.typing_words.specs.Words.{plain, is_kind, flag_at, flagged};
+ghost use Rattle.type_scope.specs.Known.{Naming, known_by};
+ghost use Rattle.type_scope.specs.Reads.{Reads};
+ghost use Rattle.type_scope.specs.declared.fault.TypeFault.TheVariants as fault;
+ghost use Rattle.type_declarators.specs.Finds.{Finds};
+ghost use Rattle.type_declarators.specs.Keywords.{IsSaid};
+ghost use Rattle.type_declarators.specs.Members.{IsAdded, may_complete, without_members};
+
+use crate::declarator::{Declared, is_complete_qual};
 use crate::words::{Storage, Words};
 use c_ast::{Base, Specs};
 use c_types::{Member, Qual, TagKind, Tags, Ty};
@@ -10,7 +31,9 @@ use type_scope::{Source, State, TagMeaning, TypeFault};
 use ub_base::{Bytes, Items, NoMemory};
 
 /// Of a structure, or of a union where `union` is true.
-pub fn kind_of(union: bool) -> TagKind {
+pub fn kind_of(union: bool) -> TagKind
+    ensures { result ≡ spec.kind_of_tag union }
+{
     if union {
         TagKind::Union
     } else {
@@ -18,24 +41,68 @@ pub fn kind_of(union: bool) -> TagKind {
     }
 }
 
-fn tagged_type(kind: TagKind, number: u32) -> Ty {
+fn tagged_type(kind: TagKind, number: u32) -> Ty
+    ensures { type_of result ≡ spec.tagged kind number }
+{
     match kind {
         TagKind::Struct => Ty::Struct(number),
         TagKind::Union => Ty::Union(number),
     }
 }
 
+fn is_kind(a: TagKind, b: TagKind) -> bool
+    ensures { result ≡ is_kind a b }
+{
+    match a {
+        TagKind::Struct => matches!(b, TagKind::Struct),
+        TagKind::Union => matches!(b, TagKind::Union),
+    }
+}
+
+// A new structure or union of this tag (6.7.2.3p4).
 fn declare_tag(
     source: &Source<'_>,
     state: &mut State,
     at: u32,
     kind: TagKind,
-) -> Result<u32, NoMemory> {
+) -> Result<u32, NoMemory>
+    ensures known { IfOk result (λ number. (n : Naming) (env : Env) → spec.declare_tag at kind (known_by n source.now state.old env) ≡ Some (number, known_by n source.now state.new env)) }
+    ensures rest { state.new ≡ record state.old { names = state.new.names; tags = state.new.tags; tag_rows = state.new.tag_rows } }
+{
     let number = state.add_tag(kind)?;
+    let symbol = source.symbol(at);
     state
         .names
-        .declare_tag(source.symbol(at), TagMeaning::Tagged(kind, number))?;
+        .declare_tag(symbol, TagMeaning::Tagged(kind, number))?;
     Ok(number)
+}
+
+// The structure or union of this tag and kind, or a new one where none is declared; where `here` is true, only this scope counts
+// (6.7.2.3p2, 6.7.2.3p4).
+fn tag_or_new(
+    source: &Source<'_>,
+    state: &mut State,
+    at: u32,
+    kind: TagKind,
+    here: bool,
+) -> Result<u32, TypeFault>
+    ensures reads { (n : Naming) (env : Env) → let k = known_by n source.now state.old env in Reads (λ number. number) (spec.tag_or_new at kind (tag_seen k here (symbol_of k at)) k) result (known_by n source.now state.new env) }
+    ensures rest { state.new ≡ record state.old { names = state.new.names; tags = state.new.tags; tag_rows = state.new.tag_rows } }
+{
+    let symbol = source.symbol(at);
+    match state.names.find_tag(symbol, here) {
+        Some(meaning) => match meaning {
+            TagMeaning::Tagged(known, number) => {
+                if is_kind(known, kind) {
+                    Ok(number)
+                } else {
+                    Err(source.fault(at, Reason::TagKind))
+                }
+            }
+            TagMeaning::Enumerated(_) => Err(source.fault(at, Reason::TagKind)),
+        },
+        None => Ok(declare_tag(source, state, at, kind)?),
+    }
 }
 
 /// A structure or union that is named by its tag alone: one that is in scope, or a new one. Where no declarator follows, only
@@ -47,50 +114,67 @@ pub fn reference(
     tag: Option<u32>,
     at: u32,
     alone: bool,
-) -> Result<Ty, TypeFault> {
-    let Some(tag) = tag else {
-        return Err(source.fault(at, Reason::TypeSpecifiers));
-    };
-    match state.names.find_tag(source.symbol(tag), alone) {
-        Some(TagMeaning::Tagged(known, number)) if known == kind => Ok(tagged_type(kind, number)),
-        Some(_) => Err(source.fault(tag, Reason::TagKind)),
-        None => Ok(tagged_type(kind, declare_tag(source, state, tag, kind)?)),
+) -> Result<Ty, TypeFault>
+    ensures reads { (n : Naming) (env : Env) → Reads (λ ty. plain (type_of ty)) (spec.reference alone kind tag (known_by n source.now state.old env)) result (known_by n source.now state.new env) }
+    ensures rest { state.new ≡ record state.old { names = state.new.names; tags = state.new.tags; tag_rows = state.new.tag_rows } }
+{
+    match tag {
+        None => Err(source.fault(at, Reason::TypeSpecifiers)),
+        Some(tag) => match tag_or_new(source, state, tag, kind, alone) {
+            Ok(number) => Ok(tagged_type(kind, number)),
+            Err(fault) => Err(fault),
+        },
     }
 }
 
-/// Begins the member list of a structure or union; the answer is its number (6.7.2.3p1, 6.7.2.3p4).
+// Whether the structure or union has its members (6.7.2.3p1).
+fn has_members(state: &State, number: u32) -> bool
+    ensures { result ≡ spec.has_members (slice_get (map seen.tag_seen state.now.tags) number) }
+{
+    state.tags.law_extents();
+    state.tags.is_complete(number)
+}
+
+/// Begins the member list of a structure or union that has none; the answer is its number (6.7.2.3p1, 6.7.2.3p4).
 pub fn open(
     source: &Source<'_>,
     state: &mut State,
     kind: TagKind,
     tag: Option<u32>,
-) -> Result<u32, TypeFault> {
-    let Some(tag) = tag else {
-        return Ok(state.add_tag(kind)?);
-    };
-    match state.names.find_tag(source.symbol(tag), true) {
-        Some(TagMeaning::Tagged(known, number))
-            if known == kind && !state.tags.is_complete(number) => { Ok(number) }
-        Some(TagMeaning::Tagged(known, _)) if known == kind => {
-            Err(source.fault(tag, Reason::DefinedTwice))
-        }
-        Some(_) => Err(source.fault(tag, Reason::TagKind)),
-        None => Ok(declare_tag(source, state, tag, kind)?),
+) -> Result<u32, TypeFault>
+    ensures reads { (n : Naming) (env : Env) → Reads (λ number. number) (without_members (spec.open_tag kind tag (known_by n source.now state.old env))) result (known_by n source.now state.new env) }
+    ensures rest { state.new ≡ record state.old { names = state.new.names; tags = state.new.tags; tag_rows = state.new.tag_rows } }
+{
+    match tag {
+        None => Ok(state.add_tag(kind)?),
+        Some(tag) => match tag_or_new(source, state, tag, kind, true) {
+            Ok(number) => {
+                if has_members(state, number) {
+                    Err(source.fault(tag, Reason::DefinedTwice))
+                } else {
+                    Ok(number)
+                }
+            }
+            Err(fault) => Err(fault),
+        },
     }
 }
 
 /// The members of a structure or union so far.
 #[derive(Drop)]
 pub struct MemberList {
-    members: Items<Member>,
-    names: BTreeSet<u32>,
+    pub members: Items<Member>,
+    /// The symbols of their names, those of members of unnamed structures and unions included.
+    pub names: BTreeSet<u32>,
     symbols: Vec<u32>,
     constant: bool,
 }
 
 impl MemberList {
     /// No member.
-    pub fn new(alloc: Global) -> MemberList {
+    pub fn new(alloc: Global) -> MemberList
+        ensures { result.members ≡ [] }
+    {
         MemberList {
             members: Items::new(alloc),
             names: BTreeSet::new(alloc),
@@ -100,12 +184,17 @@ impl MemberList {
     }
 
     // Adds a name; false where it is there already (6.7.2.3p1).
-    fn add_name(&mut self, symbol: u32) -> Result<bool, NoMemory> {
+    fn add_name(&mut self, symbol: u32) -> Result<bool, NoMemory>
+        ensures fresh { IfOk result (λ fresh. fresh ≡ not (contains nat_cmp self.old.names symbol)) }
+        ensures same { self.new.members ≡ self.old.members }
+    {
         self.symbols.push(symbol)?;
         Ok(self.names.insert(symbol)?)
     }
 
-    fn add(&mut self, member: Member, constant: bool) -> Result<(), NoMemory> {
+    fn add(&mut self, member: Member, constant: bool) -> Result<(), NoMemory>
+        ensures { OnOk result (self.new.members ≡ self.old.members ++ member ∷ []) }
+    {
         self.members.push(member)?;
         self.constant = self.constant || constant;
         Ok(())
@@ -113,8 +202,16 @@ impl MemberList {
 }
 
 // Gives a structure or union its members; refused where it is complete already, or would be too large (6.7.2.3p1; own).
-fn completed(tags: &mut Tags, number: u32, members: Items<Member>) -> Result<(), Reason> {
-    if tags.is_complete(number) || number as usize >= tags.len() {
+fn completed(tags: &mut Tags, number: u32, members: Items<Member>) -> Result<(), Reason>
+    ensures value { is_ok result ≡ may_complete tags.old number members }
+    ensures done { OnOk result (tags.new ≡ layout.completed tags.old number members) }
+    ensures unchanged { OnErr result (tags.new ≡ tags.old) }
+{
+    tags.law_extents();
+    if tags.is_complete(number) {
+        return Err(Reason::DefinedTwice);
+    }
+    if number as usize >= tags.len() {
         return Err(Reason::DefinedTwice);
     }
     if tags.complete(number, members) {
@@ -124,7 +221,17 @@ fn completed(tags: &mut Tags, number: u32, members: Items<Member>) -> Result<(),
     }
 }
 
-/// Ends the member list (6.7.2.1p8).
+// Notes what else is known of a structure or union.
+fn note_row(state: &mut State, number: u32, constant: bool, symbols: Vec<u32>)
+    ensures rest { state.new ≡ record state.old { tag_rows = state.new.tag_rows } }
+{
+    if let Some(row) = state.tag_rows.get_mut(number as usize) {
+        row.constant = constant;
+        row.symbols = symbols;
+    }
+}
+
+/// Ends the member list (6.7.2.1p8). No two of the members may have one name.
 pub fn close(
     source: &Source<'_>,
     state: &mut State,
@@ -132,29 +239,40 @@ pub fn close(
     number: u32,
     list: MemberList,
     at: u32,
-) -> Result<Ty, TypeFault> {
+) -> Result<Ty, TypeFault>
+    ensures reads { are_distinct (names (tags.completed (map seen.tag_seen state.old.tags) number (map member_seen list.members)) number) ≡ true → (n : Naming) (env : Env) → Reads (λ ty. plain (type_of ty)) (spec.close_tag kind number (map member_seen list.members) (known_by n source.now state.old env)) result (known_by n source.now state.new env) }
+    ensures rest { state.new ≡ record state.old { tags = state.new.tags; tag_rows = state.new.tag_rows } }
+{
     let MemberList {
         members,
         names: _,
         symbols,
         constant,
     } = list;
-    if let Err(reason) = completed(&mut state.tags, number, members) {
-        return Err(source.fault(at, reason));
+    match completed(&mut state.tags, number, members) {
+        Ok(()) => {
+            note_row(state, number, constant, symbols);
+            Ok(tagged_type(kind, number))
+        }
+        Err(reason) => Err(source.fault(at, reason)),
     }
-    if let Some(row) = state.tag_rows.get_mut(number as usize) {
-        row.constant = constant;
-        row.symbols = symbols;
-    }
-    Ok(tagged_type(kind, number))
+}
+
+fn are_qualified(words: &Words) -> bool
+    ensures { (ws : spec.Words) → IsSaid words.now ws → result ≡ spec.are_qualified ws }
+{
+    words.storage == Storage::None && !words.function
 }
 
 /// The specifiers of members name a type and qualifiers alone (6.7.2.1).
-pub fn check_member_words(source: &Source<'_>, words: &Words, at: u32) -> Result<(), TypeFault> {
-    if words.storage != Storage::None || words.function {
-        return Err(source.fault(at, Reason::MemberSpecifiers));
+pub fn check_member_words(source: &Source<'_>, words: &Words, at: u32) -> Result<(), TypeFault>
+    ensures { (ws : spec.Words) → IsSaid words.now ws → Finds (λ u. u) (if spec.are_qualified ws then Some tt else None) result }
+{
+    if are_qualified(words) {
+        Ok(())
+    } else {
+        Err(source.fault(at, Reason::MemberSpecifiers))
     }
-    Ok(())
 }
 
 // Whether an object of this type has a const part (6.3.2.1p1).
@@ -173,13 +291,16 @@ pub fn add_member(
     member: Declared,
     list: MemberList,
     at: u32,
-) -> Result<MemberList, TypeFault> {
+) -> Result<MemberList, TypeFault>
+    ensures ok { IfOk result (λ l. (n : Naming) (env : Env) → IsAdded (spec.named_member member.name (qualified_of member.qual) (known_by n source.now state.now env)) (known_by n source.now state.now env) list.members l.members) }
+    ensures err { IfErr result (λ e. e ≢ fault.NoMemory → (n : Naming) (env : Env) → (at : ℕ) → member.name ≡ Some at → contains nat_cmp list.names (symbol_of (known_by n source.now state.now env) at) ≡ false → spec.named_member member.name (qualified_of member.qual) (known_by n source.now state.now env) ≡ None) }
+{
     let mut list = list;
     let Declared { name, qual } = member;
     let Some(name) = name else {
         return Err(source.fault(at, Reason::UnnamedMember));
     };
-    if state.tags.extent(&qual.ty).is_none() {
+    if !is_complete_qual(state, &qual) {
         return Err(source.fault(name, Reason::MemberType));
     }
     if !list.add_name(source.symbol(name))? {
@@ -203,7 +324,9 @@ fn is_unnamed(specs: &Specs) -> bool {
 }
 
 // Adds the members of an unnamed structure or union to the names; false where one is there already.
-fn add_names(state: &State, number: u32, list: &mut MemberList) -> Result<bool, NoMemory> {
+fn add_names(state: &State, number: u32, list: &mut MemberList) -> Result<bool, NoMemory>
+    ensures { list.new.members ≡ list.old.members }
+{
     if let Some(row) = state.tag_rows.get(number as usize) {
         for symbol in &row.symbols {
             if !list.add_name(*symbol)? {
@@ -222,7 +345,9 @@ pub fn add_unnamed(
     base: Qual,
     list: MemberList,
     at: u32,
-) -> Result<MemberList, TypeFault> {
+) -> Result<MemberList, TypeFault>
+    ensures { IfOk result (λ l. map member_seen l.members ≡ map member_seen list.members ++ record { name = []; qual = qualified_of base } ∷ []) }
+{
     let mut list = list;
     let number = match &base.ty {
         Ty::Struct(number) | Ty::Union(number) if is_unnamed(specs) => *number,
@@ -237,23 +362,86 @@ pub fn add_unnamed(
     Ok(list)
 }
 
+fn enumeration_type(number: u32) -> Ty
+    ensures { type_of result ≡ enumeration number }
+{
+    Ty::Enum(number)
+}
+
+// Whether the enumeration is complete (6.7.2.2p4).
+fn is_listed(state: &State, number: u32) -> bool
+    ensures { result ≡ flag_at number state.now.enumerations.items }
+{
+    match state.enumerations.get(number as usize) {
+        Some(complete) => *complete,
+        None => false,
+    }
+}
+
 /// An enumeration that is named by its tag alone: one in scope that is complete (6.7.2.3p3).
 pub fn enumeration(
     source: &Source<'_>,
     state: &State,
     tag: Option<u32>,
     at: u32,
-) -> Result<Ty, TypeFault> {
+) -> Result<Ty, TypeFault>
+    ensures { (n : Naming) (env : Env) → Reads (λ ty. plain (type_of ty)) (spec.enumeration_reference tag (known_by n source.now state.now env)) result (known_by n source.now state.now env) }
+{
+    match tag {
+        None => Err(source.fault(at, Reason::TypeSpecifiers)),
+        Some(tag) => enumeration_named(source, state, tag),
+    }
+}
+
+// The enumeration of this tag, which is complete.
+fn enumeration_named(source: &Source<'_>, state: &State, at: u32) -> Result<Ty, TypeFault>
+    ensures { (n : Naming) (env : Env) → Reads (λ ty. plain (type_of ty)) (spec.enumeration_reference (Some at) (known_by n source.now state.now env)) result (known_by n source.now state.now env) }
+{
+    match state.names.find_tag(source.symbol(at), false) {
+        Some(meaning) => match meaning {
+            TagMeaning::Enumerated(number) => {
+                if is_listed(state, number) {
+                    Ok(enumeration_type(number))
+                } else {
+                    Err(source.fault(at, Reason::EnumerationAlone))
+                }
+            }
+            TagMeaning::Tagged(_, _) => Err(source.fault(at, Reason::TagKind)),
+        },
+        None => Err(source.fault(at, Reason::EnumerationAlone)),
+    }
+}
+
+// Why a tag that stands for this can't be that of a new enumeration.
+fn again(meaning: TagMeaning) -> Reason {
+    match meaning {
+        TagMeaning::Enumerated(_) => Reason::DefinedTwice,
+        TagMeaning::Tagged(_, _) => Reason::TagKind,
+    }
+}
+
+// Declares the tag of a new enumeration, where its list has one: it is new in this scope (6.7.2.3p1).
+fn name_enumeration(
+    source: &Source<'_>,
+    state: &mut State,
+    tag: Option<u32>,
+    number: u32,
+) -> Result<(), TypeFault>
+    ensures reads { (n : Naming) (env : Env) → Reads (λ u. u) (spec.name_enumeration tag number (known_by n source.now state.old env)) result (known_by n source.now state.new env) }
+    ensures rest { state.new ≡ record state.old { names = state.new.names } }
+{
     let Some(tag) = tag else {
-        return Err(source.fault(at, Reason::TypeSpecifiers));
+        return Ok(());
     };
-    match state.names.find_tag(source.symbol(tag), false) {
-        Some(TagMeaning::Enumerated(number))
-            if state.enumerations.get(number as usize).copied() == Some(true) => {
-            Ok(Ty::Enum(number))
+    let symbol = source.symbol(tag);
+    match state.names.find_tag(symbol, true) {
+        Some(meaning) => Err(source.fault(tag, again(meaning))),
+        None => {
+            state
+                .names
+                .declare_tag(symbol, TagMeaning::Enumerated(number))?;
+            Ok(())
         }
-        Some(TagMeaning::Tagged(_, _)) => Err(source.fault(tag, Reason::TagKind)),
-        _ => Err(source.fault(tag, Reason::EnumerationAlone)),
     }
 }
 
@@ -262,28 +450,33 @@ pub fn open_enumeration(
     source: &Source<'_>,
     state: &mut State,
     tag: Option<u32>,
-) -> Result<u32, TypeFault> {
+) -> Result<u32, TypeFault>
+    ensures reads { (n : Naming) (env : Env) → Reads (λ number. number) (spec.open_enumeration tag (known_by n source.now state.old env)) result (known_by n source.now state.new env) }
+    ensures rest { state.new ≡ record state.old { names = state.new.names; enumerations = state.new.enumerations } }
+{
     let number = state.add_enumeration()?;
-    if let Some(tag) = tag {
-        let symbol = source.symbol(tag);
-        match state.names.find_tag(symbol, true) {
-            Some(TagMeaning::Enumerated(_)) => {
-                return Err(source.fault(tag, Reason::DefinedTwice));
-            }
-            Some(TagMeaning::Tagged(_, _)) => return Err(source.fault(tag, Reason::TagKind)),
-            None => {}
-        }
-        state
-            .names
-            .declare_tag(symbol, TagMeaning::Enumerated(number))?;
+    match name_enumeration(source, state, tag, number) {
+        Ok(()) => Ok(number),
+        Err(fault) => Err(fault),
     }
-    Ok(number)
+}
+
+// Notes that an enumeration is complete.
+fn complete_enumeration(state: &mut State, number: u32)
+    ensures items { state.new.enumerations.items ≡ flagged number state.old.enumerations.items }
+    ensures rest { state.new ≡ record state.old { enumerations = state.new.enumerations } }
+{
+    match state.enumerations.get_mut(number as usize) {
+        Some(complete) => *complete = true,
+        None => {}
+    }
 }
 
 /// Ends it.
-pub fn close_enumeration(state: &mut State, number: u32) -> Ty {
-    if let Some(complete) = state.enumerations.get_mut(number as usize) {
-        *complete = true;
-    }
-    Ty::Enum(number)
+pub fn close_enumeration(state: &mut State, number: u32) -> Ty
+    ensures known { (n : Naming) (t : TokenText) (env : Env) → spec.close_enumeration number (known_by n t state.old env) ≡ Some (plain (type_of result), known_by n t state.new env) }
+    ensures rest { state.new ≡ record state.old { enumerations = state.new.enumerations } }
+{
+    complete_enumeration(state, number);
+    enumeration_type(number)
 }
