@@ -26,6 +26,7 @@ use ub_base::{Cause, NoMemory, ObjName};
 pub const MOST_CREATED: u64 = 1 << 26;
 
 // The control step of the top frame, in whose full expression no event is left, with the status where it ends the run.
+#[inline(never)]
 pub fn control_step(machine: &mut Machine) -> Result<Option<u8>, Halt>
     ensures step { OnOk result (machine.old.top.stage ≡ None → (m : Meaning) → TakesStep m machine.old.jumps.links.items machine.old.work machine.new.work) }
     ensures answers { AnswersControl machine.old machine.new result }
