@@ -186,12 +186,13 @@ fn follow<'p, 'c>(machine: &mut Machine<'p, 'c>) -> Result<Option<&'c Due<'p>>, 
     ensures named { IfOk result (λ due. IfSome due (λ d. IsDueOf machine.new.code.now.tables d.now)) }
     ensures frame { IfOk result (λ due. (machine.new.top.frame ≡ machine.old.top.frame) × (machine.new.top.turn ≡ machine.old.top.turn)) }
 {
-    let Some(stage) = machine.top.stage else {
+    let Some(stage) = &machine.top.stage else {
         return Ok(None);
     };
     if !stage.straight {
-        return strayed_next(machine, stage);
+        return strayed_next(machine, *stage);
     }
+    let stage = *stage;
     let Some((count, due)) = listed_next(machine, stage)? else {
         return Ok(None);
     };
