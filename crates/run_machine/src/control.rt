@@ -61,6 +61,7 @@ fn take_step<'c>(machine: &mut Machine<'_, 'c>, step: Step<'c>) -> Result<Option
 }
 
 // The frame ends with this step where nothing is left to do in it.
+#[inline(always)]
 fn go_on(machine: &mut Machine) -> Result<Option<u8>, Halt>
     ensures goes { OnOk result ((m : Meaning) → GoesOn m machine.old.work machine.new.work) }
     ensures still { (m : Meaning) → is_nothing (ready_work (todo_of m machine.old.work.now)) ≡ false → GoesStill machine.old machine.new result }

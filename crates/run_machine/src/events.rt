@@ -67,6 +67,7 @@ fn finish_event(
 }
 
 // The choice of an event, where it has one.
+#[inline(always)]
 fn choose_at(machine: &mut Machine, code: &Code, due: &Due) -> Result<(), NoMemory>
     requires named { IsDueOf code.now.tables due.now }
     ensures decides { OnOk result (DecidesBy code.now due.now.choice machine.old machine.new) }
