@@ -7,7 +7,7 @@ use Rattle.run_events.proofs.acts.perform.Goals as goal
 
 pub returns-in-Store-clause-exact : goal.returns-in-Store-clause-exact
 returns-in-Store-clause-exact c = λ rows can given plain.
-    store_performs rows c.args.machine.now c.store_value.new.machine c.args.event can c.args.act.now c.in-Store.store.now c.in-Store.place.now c.in-Store.value.now
+    store_performs rows c.args.machine.now c.store_value.new.machine c.args.event can c.args.act.now c.in-Store.store c.in-Store.place c.in-Store.value
     c.store_value.result c.in-Store.is given (λ place value. c.store_value.ensures.exact can.can can.tables place value)
 
 pub returns-in-Store-clause-changes : goal.returns-in-Store-clause-changes
@@ -19,7 +19,7 @@ returns-in-Store-clause-effect c = λ plain none. ap (λ m. m.values) c.store_va
 
 pub returns-in-Fill-clause-exact : goal.returns-in-Fill-clause-exact
 returns-in-Fill-clause-exact c = λ rows can given plain.
-    fill_performs rows c.args.machine.now c.fill_list.new.machine c.args.event can c.args.act.now c.in-Fill.object.now c.in-Fill.constants.now
+    fill_performs rows c.args.machine.now c.fill_list.new.machine c.args.event can c.args.act.now c.in-Fill.object c.in-Fill.constants
     c.fill_list.result c.in-Fill.is given (λ object. c.fill_list.ensures.exact can.can can.tables object)
 
 pub returns-in-Fill-clause-changes : goal.returns-in-Fill-clause-changes
