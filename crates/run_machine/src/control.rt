@@ -25,7 +25,8 @@ use ub_base::{Cause, NoMemory, ObjName};
 /// How many bytes the created objects may count (own).
 pub const MOST_CREATED: u64 = 1 << 26;
 
-// The control step of the top frame, in whose full expression no event is left, with the status where it ends the run.
+// The control step of the top frame, in whose full expression no event is left, with the status where it ends the run. Not inlined, so that
+// the way of an event is short.
 #[inline(never)]
 pub fn control_step(machine: &mut Machine) -> Result<Option<u8>, Halt>
     ensures step { OnOk result (machine.old.top.stage ≡ None → (m : Meaning) → TakesStep m machine.old.jumps.links.items machine.old.work machine.new.work) }

@@ -25,7 +25,8 @@ fn pass_event(machine: &mut Machine)
     }
 }
 
-// Takes a permitted event of the top frame's full expression.
+// Takes a permitted event of the top frame's full expression. Inlined up to the run, as all that each event goes through is, since each call that hands
+// on a result copies it.
 #[inline(always)]
 pub fn take_event(machine: &mut Machine, due: &Due) -> Result<Pick, Halt>
     requires named { IsDueOf machine.old.code.now.tables due.now }

@@ -200,7 +200,7 @@ fn follow<'p, 'c>(machine: &mut Machine<'p, 'c>) -> Result<Option<&'c Due<'p>>, 
     Ok(Some(due))
 }
 
-// The next event by what is done.
+// The next event by what is done. Not inlined, since few orders leave the canonical one.
 #[inline(never)]
 fn strayed_next<'p, 'c>(
     machine: &Machine<'p, 'c>,
