@@ -201,7 +201,6 @@ fn advance<W: Watch>(
 }
 
 // The end of a run whose next pick isn't taken.
-#[inline(never)]
 fn ended_by(halt: Halt, picks: u64) -> Result<Ran, NoMemory>
     requires { picks < 2 ^ 32 }
     ensures end { IfOk result (λ ran. EndsRun ran picks) }

@@ -17,7 +17,6 @@ pub enum Fault {
 
 impl Fault {
     /// Why the pick isn't taken: the act was that of this event, of a node in this line.
-    #[inline(never)]
     pub fn of(self, event: Event, line: u32) -> Halt
         ensures { result ≡ halt_by event line self }
     {
