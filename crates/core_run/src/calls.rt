@@ -9,11 +9,11 @@ use std::snapshot::Snapshot;
 use ub_base::{Event, Frame};
 
 /// The calls of the watch of a run with what it answered, for a watch that keeps them. Contracts see the list of them, the last
-/// one first; the program keeps only the last one.
+/// one first; the program keeps nothing of them.
 #[cycle(calls)]
 #[derive(Drop)]
 pub struct Calls {
-    last: Last,
+    last: Snapshot<Last>,
 }
 
 // The last call, its answer, and the calls before it.
@@ -34,7 +34,7 @@ impl Model for Calls {
 
     ghost use Rattle.core_run.specs.Record.{heard_in};
 
-    ghost view = { λ c. heard_in c.last };
+    ghost view = { λ c. heard_in c.last.value };
 
     ghost size = { length };
 
@@ -49,7 +49,7 @@ impl Calls {
         ensures { result ≡ [] }
     {
         Calls {
-            last: Last::Nothing,
+            last: Snapshot::of(&Last::Nothing),
         }
     }
 
@@ -57,8 +57,9 @@ impl Calls {
     pub fn picked(&self, event: Option<Event>, items: &Touched, go: Go) -> Calls
         ensures { result ≡ (picked event items.now, go) ∷ self.now }
     {
+        let last = Last::Picked(event, Snapshot::of(items), go, Snapshot::of(self));
         Calls {
-            last: Last::Picked(event, Snapshot::of(items), go, Snapshot::of(self)),
+            last: Snapshot::of(&last),
         }
     }
 
@@ -66,8 +67,9 @@ impl Calls {
     pub fn node_done(&self, frame: Frame, turn: u64, node: u32, go: Go) -> Calls
         ensures { result ≡ (node_done frame turn node, go) ∷ self.now }
     {
+        let last = Last::NodeDone(frame, turn, node, go, Snapshot::of(self));
         Calls {
-            last: Last::NodeDone(frame, turn, node, go, Snapshot::of(self)),
+            last: Snapshot::of(&last),
         }
     }
 
@@ -75,8 +77,9 @@ impl Calls {
     pub fn operands_done(&self, frame: Frame, turn: u64, node: u32, go: Go) -> Calls
         ensures { result ≡ (operands_done frame turn node, go) ∷ self.now }
     {
+        let last = Last::OperandsDone(frame, turn, node, go, Snapshot::of(self));
         Calls {
-            last: Last::OperandsDone(frame, turn, node, go, Snapshot::of(self)),
+            last: Snapshot::of(&last),
         }
     }
 }

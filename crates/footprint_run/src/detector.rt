@@ -60,6 +60,7 @@ impl Detector {
     }
 
     /// A pick and what it touched. Here and below, Stop where a conflict is seen, which is in `seen` then.
+    #[inline(always)]
     pub fn pick(
         &mut self,
         roots: &[&Typed],
@@ -114,6 +115,7 @@ impl Detector {
     }
 
     /// The operands of this node of the top full expression are done.
+    #[inline(always)]
     pub fn operands_done(
         &mut self,
         roots: &[&Typed],
@@ -150,6 +152,7 @@ impl Detector {
     }
 
     /// This node of the top full expression is done.
+    #[inline(always)]
     pub fn node_done(
         &mut self,
         roots: &[&Typed],

@@ -50,6 +50,7 @@ impl<P: Progress> Watch for ToldWatcher<'_, '_, P> {
 
     ghost trees = { λ w. trees_at w.watcher.roots.now };
 
+    #[inline(always)]
     fn pick(&mut self, v: &View, event: Option<Event>, items: &Touched) -> Result<Go, NoMemory> {
         let go = self.watcher.pick(v, event, items)?;
         self.picks = self.picks.wrapping_add(1);
@@ -59,10 +60,12 @@ impl<P: Progress> Watch for ToldWatcher<'_, '_, P> {
         Ok(go)
     }
 
+    #[inline(always)]
     fn node_done(&mut self, v: &View, frame: Frame, turn: u64, node: u32) -> Result<Go, NoMemory> {
         self.watcher.node_done(v, frame, turn, node)
     }
 
+    #[inline(always)]
     fn operands_done(
         &mut self,
         v: &View,

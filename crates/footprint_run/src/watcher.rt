@@ -55,6 +55,7 @@ impl<'p> Watch for Watcher<'p> {
 
     ghost trees = { λ w. trees_at w.roots.now };
 
+    #[inline(always)]
     fn pick(&mut self, v: &View, event: Option<Event>, items: &Touched) -> Result<Go, NoMemory> {
         let go = self
             .detector
@@ -63,6 +64,7 @@ impl<'p> Watch for Watcher<'p> {
         Ok(go)
     }
 
+    #[inline(always)]
     fn node_done(&mut self, v: &View, frame: Frame, turn: u64, node: u32) -> Result<Go, NoMemory> {
         let go = self
             .detector
@@ -71,6 +73,7 @@ impl<'p> Watch for Watcher<'p> {
         Ok(go)
     }
 
+    #[inline(always)]
     fn operands_done(
         &mut self,
         v: &View,

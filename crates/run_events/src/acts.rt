@@ -48,21 +48,22 @@ fn number(value: bool) -> Value
 }
 
 /// Does the act of an event of the top frame's full expression: it touches what the pick touches, and a value goes to the room of the node.
+#[inline(always)]
 pub fn perform(machine: &mut Machine, act: &Act, event: Event) -> Result<Outcome, Fault>
     requires named { IsNamed machine.old.code.now.tables act.now }
     ensures exact { (rows : List Row) → CanPerform rows machine.old → AreGiven machine.old event act.now → is_body_act act.now ≡ false → Performs rows machine.old machine.new event act.now result }
     ensures changes { is_body_act act.now ≡ false → ChangesOnly machine.old machine.new event.node act.now }
     ensures effect { is_body_act act.now ≡ false → gives_value act.now ≡ false → machine.new.values ≡ machine.old.values }
 {
-    match *act {
+    match act {
         Act::Store {
             store,
             place,
             value,
-        } => store_value(machine, store, place, value),
-        Act::Fill { object, constants } => fill_list(machine, object, constants),
-        Act::Call(number) => call_of(machine, number, event),
-        Act::Initialize(number) => initialize(machine, number, event),
+        } => store_value(machine, *store, place, value),
+        Act::Fill { object, constants } => fill_list(machine, object, *constants),
+        Act::Call(number) => call_of(machine, *number, event),
+        Act::Initialize(number) => initialize(machine, *number, event),
         _ => value_act(machine, act, event),
     }
 }
@@ -78,21 +79,22 @@ fn call_of(machine: &mut Machine, number: u32, event: Event) -> Result<Outcome, 
 
 // An act that gives a value. What a function keeps on the stack is set to zero as it begins: so each act stands in one of its own,
 // which isn't inlined and puts the value into the room itself.
+#[inline(always)]
 fn value_act(machine: &mut Machine, act: &Act, event: Event) -> Result<Outcome, Fault>
     ensures exact { CanAct machine.old → AreGiven machine.old event act.now → gives_value act.now ≡ true → Does machine.old machine.new event act.now result }
     ensures changes { ChangesOnly machine.old machine.new event.node act.now }
 {
-    match *act {
-        Act::Load { access, ty, place } => loaded(machine, access, ty, place, event),
+    match act {
+        Act::Load { access, ty, place } => loaded(machine, access, *ty, place, event),
         Act::Same(operand) => same(machine, operand, event),
-        Act::Binary(op, kind, left, right) => arithmetic(machine, op, kind, left, right, event),
-        Act::Convert(conversion, operand) => converted(machine, conversion, operand, event),
-        Act::Unary(op, operand) => unary_value(machine, op, operand, event),
+        Act::Binary(op, kind, left, right) => arithmetic(machine, *op, *kind, left, right, event),
+        Act::Convert(conversion, operand) => converted(machine, *conversion, operand, event),
+        Act::Unary(op, operand) => unary_value(machine, *op, operand, event),
         Act::Logical {
             either,
             first,
             second,
-        } => logical(machine, either, first, second, event),
+        } => logical(machine, *either, first, second, event),
         Act::Selected { test, yes, no } => selected(machine, test, yes, no, event),
         Act::Change {
             change,
@@ -101,13 +103,13 @@ fn value_act(machine: &mut Machine, act: &Act, event: Event) -> Result<Outcome, 
             place,
             operand,
             room,
-        } => update(machine, change, old, ty, event, place, operand, room),
-        Act::Answer { discarded } => answered(machine, discarded, event),
+        } => update(machine, *change, *old, *ty, event, place, operand, *room),
+        Act::Answer { discarded } => answered(machine, *discarded, event),
         Act::Part {
             offset,
             access,
             whole,
-        } => part_of(machine, offset, access, whole, event),
+        } => part_of(machine, *offset, access, whole, event),
         _ => pointer_act(machine, act, event),
     }
 }
@@ -115,27 +117,27 @@ fn value_act(machine: &mut Machine, act: &Act, event: Event) -> Result<Outcome, 
 #[inline(never)]
 fn loaded(
     machine: &mut Machine,
-    access: Access,
+    access: &Access,
     ty: &Ty,
-    place: Operand,
+    place: &Operand,
     event: Event,
 ) -> Result<Outcome, Fault>
-    ensures exact { CanAct machine.old → AreGiven machine.old event (acts.Load access ty.entry place) → Does machine.old machine.new event (acts.Load access ty.entry place) result }
-    ensures changes { ChangesOnly machine.old machine.new event.node (acts.Load access ty.entry place) }
+    ensures exact { CanAct machine.old → AreGiven machine.old event (acts.Load access.now ty.entry place.now) → Does machine.old machine.new event (acts.Load access.now ty.entry place.now) result }
+    ensures changes { ChangesOnly machine.old machine.new event.node (acts.Load access.now ty.entry place.now) }
 {
-    let place = machine.pointer(place);
+    let place = machine.pointer(*place);
     let t = &mut machine.items;
-    let value = load(&mut machine.memory, access, ty, event, place, t)?;
+    let value = load(&mut machine.memory, *access, ty, event, place, t)?;
     machine.keep(event.node, value);
     Ok(Outcome::Done)
 }
 
 #[inline(never)]
-fn same(machine: &mut Machine, operand: Operand, event: Event) -> Result<Outcome, Fault>
-    ensures exact { CanAct machine.old → AreGiven machine.old event (acts.Same operand) → Does machine.old machine.new event (acts.Same operand) result }
-    ensures changes { ChangesOnly machine.old machine.new event.node (acts.Same operand) }
+fn same(machine: &mut Machine, operand: &Operand, event: Event) -> Result<Outcome, Fault>
+    ensures exact { CanAct machine.old → AreGiven machine.old event (acts.Same operand.now) → Does machine.old machine.new event (acts.Same operand.now) result }
+    ensures changes { ChangesOnly machine.old machine.new event.node (acts.Same operand.now) }
 {
-    let value = machine.value(operand)?;
+    let value = machine.value(*operand)?;
     machine.keep(event.node, value);
     Ok(Outcome::Done)
 }
@@ -145,15 +147,15 @@ fn arithmetic(
     machine: &mut Machine,
     op: BinOp,
     kind: IntKind,
-    left: Operand,
-    right: Operand,
+    left: &Operand,
+    right: &Operand,
     event: Event,
 ) -> Result<Outcome, Fault>
-    ensures exact { CanAct machine.old → AreGiven machine.old event (acts.Binary op kind left right) → Does machine.old machine.new event (acts.Binary op kind left right) result }
-    ensures changes { ChangesOnly machine.old machine.new event.node (acts.Binary op kind left right) }
+    ensures exact { CanAct machine.old → AreGiven machine.old event (acts.Binary op kind left.now right.now) → Does machine.old machine.new event (acts.Binary op kind left.now right.now) result }
+    ensures changes { ChangesOnly machine.old machine.new event.node (acts.Binary op kind left.now right.now) }
 {
-    let left = machine.integer(left);
-    let right = machine.integer(right);
+    let left = machine.integer(*left);
+    let right = machine.integer(*right);
     let number = binary(op, kind, left, right)?;
     machine.keep(event.node, Value::Int(number));
     Ok(Outcome::Done)
@@ -163,13 +165,13 @@ fn arithmetic(
 fn converted(
     machine: &mut Machine,
     conversion: Conversion,
-    operand: Operand,
+    operand: &Operand,
     event: Event,
 ) -> Result<Outcome, Fault>
-    ensures exact { CanAct machine.old → AreGiven machine.old event (acts.Convert conversion operand) → Does machine.old machine.new event (acts.Convert conversion operand) result }
-    ensures changes { ChangesOnly machine.old machine.new event.node (acts.Convert conversion operand) }
+    ensures exact { CanAct machine.old → AreGiven machine.old event (acts.Convert conversion operand.now) → Does machine.old machine.new event (acts.Convert conversion operand.now) result }
+    ensures changes { ChangesOnly machine.old machine.new event.node (acts.Convert conversion operand.now) }
 {
-    let operand = machine.value(operand)?;
+    let operand = machine.value(*operand)?;
     let t = &mut machine.items;
     let value = convert(&mut machine.memory, conversion, event, &operand, t)?;
     machine.keep(event.node, value);
@@ -180,39 +182,40 @@ fn converted(
 fn unary_value(
     machine: &mut Machine,
     op: UnOp,
-    operand: Operand,
+    operand: &Operand,
     event: Event,
 ) -> Result<Outcome, Fault>
-    ensures exact { CanAct machine.old → AreGiven machine.old event (acts.Unary op operand) → Does machine.old machine.new event (acts.Unary op operand) result }
-    ensures changes { ChangesOnly machine.old machine.new event.node (acts.Unary op operand) }
+    ensures exact { CanAct machine.old → AreGiven machine.old event (acts.Unary op operand.now) → Does machine.old machine.new event (acts.Unary op operand.now) result }
+    ensures changes { ChangesOnly machine.old machine.new event.node (acts.Unary op operand.now) }
 {
-    let operand = machine.value(operand)?;
+    let operand = machine.value(*operand)?;
     let value = unary(op, &operand)?;
     machine.keep(event.node, value);
     Ok(Outcome::Done)
 }
 
 // The acts on pointers. Lists and isolated initializers have no value.
+#[inline(always)]
 fn pointer_act(machine: &mut Machine, act: &Act, event: Event) -> Result<Outcome, Fault>
     ensures exact { CanAct machine.old → AreGiven machine.old event act.now → is_pointer_act act.now ≡ true → Does machine.old machine.new event act.now result }
     ensures changes { ChangesOnly machine.old machine.new event.node act.now }
 {
-    match *act {
+    match act {
         Act::Move {
             size,
             subtract,
             pointer,
             index,
-        } => move_by(machine, size, subtract, pointer, index, event),
-        Act::Member { offset, pointer } => member_of(machine, offset, pointer, event),
-        Act::Distance { size, left, right } => distance_between(machine, size, left, right, event),
+        } => move_by(machine, *size, *subtract, pointer, index, event),
+        Act::Member { offset, pointer } => member_of(machine, *offset, pointer, event),
+        Act::Distance { size, left, right } => distance_between(machine, *size, left, right, event),
         Act::Related {
             op,
             pointers,
             left,
             right,
-        } => relation(machine, op, pointers, left, right, event),
-        Act::Equal(op, left, right) => equality(machine, op, left, right, event),
+        } => relation(machine, *op, *pointers, left, right, event),
+        Act::Equal(op, left, right) => equality(machine, *op, left, right, event),
         _ => {
             machine.keep(event.node, Value::Nothing);
             Ok(Outcome::Done)
@@ -225,15 +228,15 @@ fn move_by(
     machine: &mut Machine,
     size: u64,
     subtract: bool,
-    pointer: Operand,
-    index: Operand,
+    pointer: &Operand,
+    index: &Operand,
     event: Event,
 ) -> Result<Outcome, Fault>
-    ensures exact { CanAct machine.old → AreGiven machine.old event (acts.Move size subtract pointer index) → Does machine.old machine.new event (acts.Move size subtract pointer index) result }
-    ensures changes { ChangesOnly machine.old machine.new event.node (acts.Move size subtract pointer index) }
+    ensures exact { CanAct machine.old → AreGiven machine.old event (acts.Move size subtract pointer.now index.now) → Does machine.old machine.new event (acts.Move size subtract pointer.now index.now) result }
+    ensures changes { ChangesOnly machine.old machine.new event.node (acts.Move size subtract pointer.now index.now) }
 {
-    let pointer = machine.pointer(pointer);
-    let index = machine.integer(index);
+    let pointer = machine.pointer(*pointer);
+    let index = machine.integer(*index);
     let t = &mut machine.items;
     let moved = moved(&mut machine.memory, pointer, size, subtract, index, t)?;
     machine.keep(event.node, moved.value());
@@ -244,13 +247,13 @@ fn move_by(
 fn member_of(
     machine: &mut Machine,
     offset: u64,
-    pointer: Operand,
+    pointer: &Operand,
     event: Event,
 ) -> Result<Outcome, Fault>
-    ensures exact { CanAct machine.old → AreGiven machine.old event (acts.Member offset pointer) → Does machine.old machine.new event (acts.Member offset pointer) result }
-    ensures changes { ChangesOnly machine.old machine.new event.node (acts.Member offset pointer) }
+    ensures exact { CanAct machine.old → AreGiven machine.old event (acts.Member offset pointer.now) → Does machine.old machine.new event (acts.Member offset pointer.now) result }
+    ensures changes { ChangesOnly machine.old machine.new event.node (acts.Member offset pointer.now) }
 {
-    let pointer = machine.pointer(pointer);
+    let pointer = machine.pointer(*pointer);
     let t = &mut machine.items;
     let member = member(&mut machine.memory, pointer, offset, t)?;
     machine.keep(event.node, member.value());
@@ -261,15 +264,15 @@ fn member_of(
 fn distance_between(
     machine: &mut Machine,
     size: u64,
-    left: Operand,
-    right: Operand,
+    left: &Operand,
+    right: &Operand,
     event: Event,
 ) -> Result<Outcome, Fault>
-    ensures exact { CanAct machine.old → AreGiven machine.old event (acts.Distance size left right) → Does machine.old machine.new event (acts.Distance size left right) result }
-    ensures changes { ChangesOnly machine.old machine.new event.node (acts.Distance size left right) }
+    ensures exact { CanAct machine.old → AreGiven machine.old event (acts.Distance size left.now right.now) → Does machine.old machine.new event (acts.Distance size left.now right.now) result }
+    ensures changes { ChangesOnly machine.old machine.new event.node (acts.Distance size left.now right.now) }
 {
-    let left = machine.pointer(left);
-    let right = machine.pointer(right);
+    let left = machine.pointer(*left);
+    let right = machine.pointer(*right);
     let t = &mut machine.items;
     let value = distance(&mut machine.memory, left, right, size, t)?;
     machine.keep(event.node, value);
@@ -281,15 +284,15 @@ fn relation(
     machine: &mut Machine,
     op: RelOp,
     pointers: bool,
-    left: Operand,
-    right: Operand,
+    left: &Operand,
+    right: &Operand,
     event: Event,
 ) -> Result<Outcome, Fault>
-    ensures exact { CanAct machine.old → AreGiven machine.old event (acts.Related op pointers left right) → Does machine.old machine.new event (acts.Related op pointers left right) result }
-    ensures changes { ChangesOnly machine.old machine.new event.node (acts.Related op pointers left right) }
+    ensures exact { CanAct machine.old → AreGiven machine.old event (acts.Related op pointers left.now right.now) → Does machine.old machine.new event (acts.Related op pointers left.now right.now) result }
+    ensures changes { ChangesOnly machine.old machine.new event.node (acts.Related op pointers left.now right.now) }
 {
-    let left = machine.value(left)?;
-    let right = machine.value(right)?;
+    let left = machine.value(*left)?;
+    let right = machine.value(*right)?;
     let t = &mut machine.items;
     let value = related(&mut machine.memory, op, pointers, &left, &right, t)?;
     machine.keep(event.node, value);
@@ -300,15 +303,15 @@ fn relation(
 fn equality(
     machine: &mut Machine,
     op: EqOp,
-    left: Operand,
-    right: Operand,
+    left: &Operand,
+    right: &Operand,
     event: Event,
 ) -> Result<Outcome, Fault>
-    ensures exact { CanAct machine.old → AreGiven machine.old event (acts.Equal op left right) → Does machine.old machine.new event (acts.Equal op left right) result }
-    ensures changes { ChangesOnly machine.old machine.new event.node (acts.Equal op left right) }
+    ensures exact { CanAct machine.old → AreGiven machine.old event (acts.Equal op left.now right.now) → Does machine.old machine.new event (acts.Equal op left.now right.now) result }
+    ensures changes { ChangesOnly machine.old machine.new event.node (acts.Equal op left.now right.now) }
 {
-    let left = machine.value(left)?;
-    let right = machine.value(right)?;
+    let left = machine.value(*left)?;
+    let right = machine.value(*right)?;
     let value = equal(op, &left, &right);
     machine.keep(event.node, value);
     Ok(Outcome::Done)
@@ -319,17 +322,25 @@ fn equality(
 fn part_of(
     machine: &mut Machine,
     offset: u64,
-    access: Access,
-    whole: Operand,
+    access: &Access,
+    whole: &Operand,
     event: Event,
 ) -> Result<Outcome, Fault>
-    ensures exact { CanAct machine.old → AreGiven machine.old event (acts.Part offset access whole) → Does machine.old machine.new event (acts.Part offset access whole) result }
-    ensures changes { ChangesOnly machine.old machine.new event.node (acts.Part offset access whole) }
+    ensures exact { CanAct machine.old → AreGiven machine.old event (acts.Part offset access.now whole.now) → Does machine.old machine.new event (acts.Part offset access.now whole.now) result }
+    ensures changes { ChangesOnly machine.old machine.new event.node (acts.Part offset access.now whole.now) }
 {
     let alloc = machine.alloc;
-    let whole = machine.value(whole)?;
+    let whole = machine.value(*whole)?;
     let t = &mut machine.items;
-    let value = part(alloc, &mut machine.memory, access, event, &whole, offset, t)?;
+    let value = part(
+        alloc,
+        &mut machine.memory,
+        *access,
+        event,
+        &whole,
+        offset,
+        t,
+    )?;
     machine.keep(event.node, value);
     Ok(Outcome::Done)
 }
@@ -338,40 +349,40 @@ fn part_of(
 fn logical(
     machine: &mut Machine,
     either: bool,
-    first: Operand,
-    second: Operand,
+    first: &Operand,
+    second: &Operand,
     event: Event,
 ) -> Result<Outcome, Fault>
-    ensures exact { CanAct machine.old → AreGiven machine.old event (acts.Logical either first second) → Does machine.old machine.new event (acts.Logical either first second) result }
-    ensures changes { ChangesOnly machine.old machine.new event.node (acts.Logical either first second) }
+    ensures exact { CanAct machine.old → AreGiven machine.old event (acts.Logical either first.now second.now) → Does machine.old machine.new event (acts.Logical either first.now second.now) result }
+    ensures changes { ChangesOnly machine.old machine.new event.node (acts.Logical either first.now second.now) }
 {
     let value = number(logical_truth(machine, either, first, second));
     machine.keep(event.node, value);
     Ok(Outcome::Done)
 }
 
-fn logical_truth(machine: &Machine, either: bool, first: Operand, second: Operand) -> bool
-    ensures { IsGiven machine.now first → (model.truth (given_by machine.now first) ≡ not either → IsGiven machine.now second) → result ≡ either_truth either (model.truth (given_by machine.now first)) (model.truth (given_by machine.now second)) }
+fn logical_truth(machine: &Machine, either: bool, first: &Operand, second: &Operand) -> bool
+    ensures { IsGiven machine.now first.now → (model.truth (given_by machine.now first.now) ≡ not either → IsGiven machine.now second.now) → result ≡ either_truth either (model.truth (given_by machine.now first.now)) (model.truth (given_by machine.now second.now)) }
 {
     if either {
-        machine.truth(first) || machine.truth(second)
+        machine.truth(*first) || machine.truth(*second)
     } else {
-        machine.truth(first) && machine.truth(second)
+        machine.truth(*first) && machine.truth(*second)
     }
 }
 
 // The operand that a `?:` gives (6.5.15p4).
 fn selected(
     machine: &mut Machine,
-    test: Operand,
-    yes: Operand,
-    no: Operand,
+    test: &Operand,
+    yes: &Operand,
+    no: &Operand,
     event: Event,
 ) -> Result<Outcome, Fault>
-    ensures exact { CanAct machine.old → AreGiven machine.old event (acts.Selected test yes no) → Does machine.old machine.new event (acts.Selected test yes no) result }
-    ensures changes { ChangesOnly machine.old machine.new event.node (acts.Selected test yes no) }
+    ensures exact { CanAct machine.old → AreGiven machine.old event (acts.Selected test.now yes.now no.now) → Does machine.old machine.new event (acts.Selected test.now yes.now no.now) result }
+    ensures changes { ChangesOnly machine.old machine.new event.node (acts.Selected test.now yes.now no.now) }
 {
-    if machine.truth(test) {
+    if machine.truth(*test) {
         same(machine, yes, event)
     } else {
         same(machine, no, event)
@@ -419,15 +430,15 @@ fn update(
     old: bool,
     ty: &Ty,
     event: Event,
-    place: Operand,
-    operand: Operand,
+    place: &Operand,
+    operand: &Operand,
     room: u32,
 ) -> Result<Outcome, Fault>
-    ensures exact { CanAct machine.old → AreGiven machine.old event (acts.Change change old ty.entry place operand room) → Does machine.old machine.new event (acts.Change change old ty.entry place operand room) result }
-    ensures changes { ChangesOnly machine.old machine.new event.node (acts.Change change old ty.entry place operand room) }
+    ensures exact { CanAct machine.old → AreGiven machine.old event (acts.Change change old ty.entry place.now operand.now room) → Does machine.old machine.new event (acts.Change change old ty.entry place.now operand.now room) result }
+    ensures changes { ChangesOnly machine.old machine.new event.node (acts.Change change old ty.entry place.now operand.now room) }
 {
-    let place = machine.pointer(place);
-    let operand = machine.integer(operand);
+    let place = machine.pointer(*place);
+    let operand = machine.integer(*operand);
     let (t, spare) = (&mut machine.items, &mut machine.spare);
     let memory = &mut machine.memory;
     let both = changed(memory, change, ty, event, place, operand, t, spare)?;
@@ -468,14 +479,14 @@ fn in_room(values: &Vec<Value>, first: usize, room: u32) -> Result<&Value, NoMem
 fn store_value(
     machine: &mut Machine,
     number: u32,
-    place: Operand,
-    value: Operand,
+    place: &Operand,
+    value: &Operand,
 ) -> Result<Outcome, Fault>
-    ensures exact { CanAct machine.old → StandsTables machine.old → IsGiven machine.old place → IsGiven machine.old value → Effects machine.old machine.new (stored_by machine.old.memory.rows (slice_get machine.old.code.now.tables.stores.items number) (model.pointer_of (given_by machine.old place)) (given_by machine.old value)) result }
+    ensures exact { CanAct machine.old → StandsTables machine.old → IsGiven machine.old place.now → IsGiven machine.old value.now → Effects machine.old machine.new (stored_by machine.old.memory.rows (slice_get machine.old.code.now.tables.stores.items number) (model.pointer_of (given_by machine.old place.now)) (given_by machine.old value.now)) result }
     ensures rest { TouchesMemory machine.old machine.new }
 {
-    let place = machine.pointer(place);
-    match value {
+    let place = machine.pointer(*place);
+    match *value {
         Operand::Done(room) => store_room(machine, number, place, room),
         _ => store_quiet(machine, number, place, value),
     }
@@ -515,14 +526,14 @@ fn store_quiet(
     machine: &mut Machine,
     number: u32,
     place: Pointer,
-    value: Operand,
+    value: &Operand,
 ) -> Result<Outcome, Fault>
-    ensures exact { CanAct machine.old → StandsTables machine.old → IsMade machine.old.memory place.prov → IsGiven machine.old value → Effects machine.old machine.new (stored_by machine.old.memory.rows (slice_get machine.old.code.now.tables.stores.items number) (pointer_at place) (given_by machine.old value)) result }
+    ensures exact { CanAct machine.old → StandsTables machine.old → IsMade machine.old.memory place.prov → IsGiven machine.old value.now → Effects machine.old machine.new (stored_by machine.old.memory.rows (slice_get machine.old.code.now.tables.stores.items number) (pointer_at place) (given_by machine.old value.now)) result }
     ensures rest { TouchesMemory machine.old machine.new }
 {
     let found = target_of(machine, number)?;
     let (target, via) = found;
-    let value = machine.value(value)?;
+    let value = machine.value(*value)?;
     let (access, initializing) = (target.access, target.initializing);
     let t = &mut machine.items;
     store(
@@ -577,11 +588,11 @@ fn fillings_of(fillings: &Vec<Items<Filling>>, number: u32) -> Result<&[Filling]
 
 // The effect of a List: its constant bytes go to its object.
 #[inline(never)]
-fn fill_list(machine: &mut Machine, object: Operand, constants: u32) -> Result<Outcome, Fault>
-    ensures exact { CanAct machine.old → StandsTables machine.old → IsGiven machine.old object → Effects machine.old machine.new (filled_from machine.old.memory.rows (slice_get machine.old.code.now.tables.constants.items constants) (model.pointer_of (given_by machine.old object))) result }
+fn fill_list(machine: &mut Machine, object: &Operand, constants: u32) -> Result<Outcome, Fault>
+    ensures exact { CanAct machine.old → StandsTables machine.old → IsGiven machine.old object.now → Effects machine.old machine.new (filled_from machine.old.memory.rows (slice_get machine.old.code.now.tables.constants.items constants) (model.pointer_of (given_by machine.old object.now))) result }
     ensures rest { TouchesMemory machine.old machine.new }
 {
-    let object = machine.pointer(object);
+    let object = machine.pointer(*object);
     let fillings = fillings_of(&machine.fillings, constants)?;
     let (t, spare) = (&mut machine.items, &mut machine.spare);
     fill(&mut machine.memory, fillings, object, t, spare)?;

@@ -37,6 +37,7 @@ fn skipped(taken: &Taken, node: u32, operand: u32, count: usize) -> usize
 
 /// The first event of these entries by the operands that are chosen, and how many entries stand before it. It costs a look at
 /// each operand before it: what isn't chosen is passed over at once.
+#[inline(always)]
 pub fn next<'c, 'p>(entries: &'c [Listed<'p>], taken: &Taken) -> Option<(usize, &'c Due<'p>)>
     ensures { Next (taken_in taken.now) entries.now result }
 {

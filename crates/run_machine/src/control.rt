@@ -25,7 +25,9 @@ use ub_base::{Cause, NoMemory, ObjName};
 /// How many bytes the created objects may count (own).
 pub const MOST_CREATED: u64 = 1 << 26;
 
-// The control step of the top frame, in whose full expression no event is left, with the status where it ends the run.
+// The control step of the top frame, in whose full expression no event is left, with the status where it ends the run. Not inlined, so that
+// the way of an event is short.
+#[inline(never)]
 pub fn control_step(machine: &mut Machine) -> Result<Option<u8>, Halt>
     ensures step { OnOk result (machine.old.top.stage ≡ None → (m : Meaning) → TakesStep m machine.old.jumps.links.items machine.old.work machine.new.work) }
     ensures answers { AnswersControl machine.old machine.new result }
@@ -60,6 +62,7 @@ fn take_step<'c>(machine: &mut Machine<'_, 'c>, step: Step<'c>) -> Result<Option
 }
 
 // The frame ends with this step where nothing is left to do in it.
+#[inline(always)]
 fn go_on(machine: &mut Machine) -> Result<Option<u8>, Halt>
     ensures goes { OnOk result ((m : Meaning) → GoesOn m machine.old.work machine.new.work) }
     ensures still { (m : Meaning) → is_nothing (ready_work (todo_of m machine.old.work.now)) ≡ false → GoesStill machine.old machine.new result }

@@ -3,7 +3,7 @@ ghost use Rattle.std.specs.Prelude.{◌≡◌, Some, IfOk, OnOk};
 ghost use Rattle.run_code.specs.Named.{IsDueOf};
 ghost use Rattle.run_machine.specs.Ending.{Notes};
 ghost use Rattle.run_machine.specs.Picks.{event_at, IsOfEvent};
-ghost use Rattle.run_machine.specs.Taking.{passed_stage, past_event, AnswersEvent, DecidesBy, FollowsEvent};
+ghost use Rattle.run_machine.specs.Taking.{past_event, AnswersEvent, DecidesBy, FollowsEvent};
 
 use crate::laws::law_events;
 use crate::pick::Pick;
@@ -11,39 +11,23 @@ use crate::picks::completed;
 use c_typed::Place;
 use run_code::{Code, Due};
 use run_events::{Outcome, choose, perform};
-use run_state::{Halt, Machine, Stage};
+use run_state::{Halt, Machine};
 use ub_base::{Event, NoMemory};
 
 // The cursor passes the event that is taken.
-fn passed(stage: Option<Stage>) -> Option<Stage>
-    ensures { result ≡ passed_stage stage }
-{
-    match stage {
-        Some(stage) => Some(advanced(stage)),
-        None => None,
-    }
-}
-
-fn advanced(stage: Stage) -> Stage
-    ensures { Some result ≡ passed_stage (Some stage) }
-{
-    if stage.straight {
-        Stage {
-            cursor: stage.cursor.saturating_add(1),
-            ..stage
-        }
-    } else {
-        stage
-    }
-}
-
 fn pass_event(machine: &mut Machine)
     ensures { machine.new ≡ past_event machine.old }
 {
-    machine.top.stage = passed(machine.top.stage);
+    if let Some(stage) = &mut machine.top.stage {
+        if stage.straight {
+            stage.cursor = stage.cursor.saturating_add(1);
+        }
+    }
 }
 
-// Takes a permitted event of the top frame's full expression.
+// Takes a permitted event of the top frame's full expression. Inlined up to the run, as all that each event goes through is, since each call that hands
+// on a result copies it.
+#[inline(always)]
 pub fn take_event(machine: &mut Machine, due: &Due) -> Result<Pick, Halt>
     requires named { IsDueOf machine.old.code.now.tables due.now }
     ensures event { IfOk result (IsOfEvent (event_at machine.old due.now.place)) }
@@ -67,6 +51,7 @@ pub fn take_event(machine: &mut Machine, due: &Due) -> Result<Pick, Halt>
 }
 
 // The act of an event is done: it is noted, and its choice is made.
+#[inline(always)]
 fn finish_event(
     machine: &mut Machine,
     code: &Code,
@@ -83,6 +68,7 @@ fn finish_event(
 }
 
 // The choice of an event, where it has one.
+#[inline(always)]
 fn choose_at(machine: &mut Machine, code: &Code, due: &Due) -> Result<(), NoMemory>
     requires named { IsDueOf code.now.tables due.now }
     ensures decides { OnOk result (DecidesBy code.now due.now.choice machine.old machine.new) }
@@ -94,6 +80,7 @@ fn choose_at(machine: &mut Machine, code: &Code, due: &Due) -> Result<(), NoMemo
 }
 
 // An event of the top frame's full expression is done. On the canonical way the cursor says so.
+#[inline(always)]
 pub fn note(machine: &mut Machine, place: Place) -> Result<(), NoMemory>
     ensures work { machine.new.work ≡ machine.old.work }
     ensures notes { OnOk result (Notes machine.old place machine.new) }

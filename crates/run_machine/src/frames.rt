@@ -14,6 +14,7 @@ use ub_base::Kind;
 
 // The top frame, in which nothing is left to do, ends: its body is done in the frame below and leaves its result there.
 // The end of the first frame is that of the run, with this status.
+#[inline(never)]
 pub fn end_frame(machine: &mut Machine) -> Result<Option<u8>, Halt>
     requires over { machine.old.work.now ≡ [] }
     ensures work { OnOk result (Closes machine.old.work.below true machine.new.work) }

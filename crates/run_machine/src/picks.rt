@@ -30,6 +30,7 @@ use std::alloc::Global;
 use ub_base::NoMemory;
 
 /// Takes the canonical pick: the control step, or the next event of the top frame's full expression.
+#[inline(always)]
 pub fn canonical(machine: &mut Machine) -> Result<Pick, Halt>
     ensures takes { (world : World) (meaning : Option ℕ → Meaning) (st : State) → Stands world meaning machine.old st
         → IfOk result (IsPick world st (canonical_pick world st.top st.top.begun)) }
@@ -46,6 +47,7 @@ pub fn canonical(machine: &mut Machine) -> Result<Pick, Halt>
 }
 
 // The control step is taken.
+#[inline(always)]
 fn take_control(machine: &mut Machine) -> Result<Pick, Halt>
     ensures step { IfOk result IsStep }
     ensures answers { TakesControl machine.old machine.new result }
@@ -178,17 +180,19 @@ fn passed_events(machine: &Machine, stage: Stage) -> Result<Done, NoMemory>
 }
 
 // Goes on to the next event of the top frame's full expression in canonical order; None where none is left or none has begun.
+#[inline(always)]
 fn follow<'p, 'c>(machine: &mut Machine<'p, 'c>) -> Result<Option<&'c Due<'p>>, NoMemory>
     ensures follows { IfOk result (Follows machine.old machine.new) }
     ensures named { IfOk result (λ due. IfSome due (λ d. IsDueOf machine.new.code.now.tables d.now)) }
     ensures frame { IfOk result (λ due. (machine.new.top.frame ≡ machine.old.top.frame) × (machine.new.top.turn ≡ machine.old.top.turn)) }
 {
-    let Some(stage) = machine.top.stage else {
+    let Some(stage) = &machine.top.stage else {
         return Ok(None);
     };
     if !stage.straight {
-        return strayed_next(machine, stage);
+        return strayed_next(machine, *stage);
     }
+    let stage = *stage;
     let Some((count, due)) = listed_next(machine, stage)? else {
         return Ok(None);
     };
@@ -196,7 +200,8 @@ fn follow<'p, 'c>(machine: &mut Machine<'p, 'c>) -> Result<Option<&'c Due<'p>>, 
     Ok(Some(due))
 }
 
-// The next event by what is done.
+// The next event by what is done. Not inlined, since few orders leave the canonical one.
+#[inline(never)]
 fn strayed_next<'p, 'c>(
     machine: &Machine<'p, 'c>,
     stage: Stage,
@@ -216,6 +221,7 @@ fn strayed_next<'p, 'c>(
 }
 
 // The next event of the listing from the cursor on, and how many entries behind the cursor it stands.
+#[inline(always)]
 fn listed_next<'p, 'c>(
     machine: &Machine<'p, 'c>,
     stage: Stage,
@@ -230,13 +236,16 @@ fn listed_next<'p, 'c>(
 
 // The cursor moves on by so many entries.
 fn move_on(machine: &mut Machine, stage: Stage, count: usize)
+    requires { machine.old.top.stage ≡ Some stage }
     ensures { machine.new ≡ at_cursor machine.old stage (min (stage.cursor + count) (2 ^ 64 - 1)) }
 {
-    let cursor = stage.cursor.saturating_add(count);
-    machine.top.stage = Some(Stage { cursor, ..stage });
+    if let Some(open) = &mut machine.top.stage {
+        open.cursor = stage.cursor.saturating_add(count);
+    }
 }
 
 // What the event completes: its node, and where the next event is the parent's own, all below the parent.
+#[inline(always)]
 pub fn completed(machine: &Machine, due: &Due) -> Result<Completed, NoMemory> {
     let (Some(stage), true) = (machine.top.stage, due.completes) else {
         return Ok(Completed::Nothing);

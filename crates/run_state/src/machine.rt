@@ -117,12 +117,14 @@ impl<'p, 'c> Machine<'p, 'c> {
     }
 
     // The value of a node of the open full expression.
+    #[inline(always)]
     fn done(&self, node: u32) -> Option<&Value>
         ensures { option_copied result ≡ slice_get self.now.values.items (self.now.top.base + node) }
     {
         self.values.get(self.top.base.saturating_add(node as usize))
     }
 
+    #[inline(always)]
     pub fn local(&self, object: u32, offset: u64) -> Pointer
         ensures { (h : Kept_value) → operand_in self.now (operands.Local object offset) ≡ Some h → (m : Kept) → pointer_at result ≡ pointer_of (value_in m h) }
     {
@@ -135,6 +137,7 @@ impl<'p, 'c> Machine<'p, 'c> {
         }
     }
 
+    #[inline(always)]
     pub fn pointer(&self, operand: Operand) -> Pointer
         ensures { (h : Kept_value) → operand_in self.now operand ≡ Some h → (m : Kept) → pointer_at result ≡ pointer_of (value_in m h) }
     {
@@ -154,6 +157,7 @@ impl<'p, 'c> Machine<'p, 'c> {
         }
     }
 
+    #[inline(always)]
     pub fn integer(&self, operand: Operand) -> i128
         ensures { (h : Kept_value) → operand_in self.now operand ≡ Some h → (m : Kept) → result ≡ integer_of (value_in m h) }
     {
@@ -167,6 +171,7 @@ impl<'p, 'c> Machine<'p, 'c> {
         }
     }
 
+    #[inline(always)]
     pub fn truth(&self, operand: Operand) -> bool
         ensures { (h : Kept_value) → operand_in self.now operand ≡ Some h → (m : Kept) → result ≡ model.truth (value_in m h) }
     {

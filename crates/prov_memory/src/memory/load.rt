@@ -104,6 +104,7 @@ impl Memory {
     }
 
     /// Loads an integer (6.3.2.1p2).
+    #[inline(always)]
     pub fn load_int(
         &mut self,
         kind: IntKind,
@@ -236,6 +237,7 @@ impl Memory {
     }
 
     /// Loads a pointer to an object: the value of its eight pieces, or else what an integer cast of its bytes gives.
+    #[inline(always)]
     pub fn load_ptr(
         &mut self,
         ty: &Ty,

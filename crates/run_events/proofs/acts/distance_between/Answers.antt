@@ -12,29 +12,29 @@ returns-in_err-value-clause-exact c =
     let p = err_from_is_err_and c.from_residual.result c.from_residual.ensures.1 in
     rw (p.1, p.2) (λ can given.
     let m = c.args.machine.now in
-    let made1 = pointer_made m c.args.left c.pointer-left.result c.pointer-left.ensures given.0 in
-    let made2 = pointer_made m c.args.right c.pointer-right.result c.pointer-right.ensures given.1 in
-    by_script m (nodes.difference c.args.size (pointer_at c.pointer-left.result) (pointer_at c.pointer-right.result)) _ _ (places_same m c.args.left
-    c.args.right c.pointer-left.result c.pointer-right.result (λ q r. nodes.difference c.args.size q r) c.pointer-left.ensures
+    let made1 = pointer_made m c.args.left.now c.pointer-left.result c.pointer-left.ensures given.0 in
+    let made2 = pointer_made m c.args.right.now c.pointer-right.result c.pointer-right.ensures given.1 in
+    by_script m (nodes.difference c.args.size (pointer_at c.pointer-left.result) (pointer_at c.pointer-right.result)) _ _ (places_same m c.args.left.now
+    c.args.right.now c.pointer-left.result c.pointer-right.result (λ q r. nodes.difference c.args.size q r) c.pointer-left.ensures
     c.pointer-right.ensures given.0 given.1)
     (c.in_err-value.ensures.exact made1 made2 m.streams))
 
 pub returns-in_err-value-clause-changes : goal.returns-in_err-value-clause-changes
 returns-in_err-value-clause-changes c =
     let m = c.args.machine.now in
-    touches_all m (record m { memory = c.distance.new.m; items = c.distance.new.t }) c.args.event.node (act.Distance c.args.size c.args.left
-    c.args.right) refl
+    touches_all m (record m { memory = c.distance.new.m; items = c.distance.new.t }) c.args.event.node (act.Distance c.args.size c.args.left.now
+    c.args.right.now) refl
 
 pub returns-clause-exact : goal.returns-clause-exact
 returns-clause-exact c = λ can given.
     let m = c.args.machine.now in
-    let made1 = pointer_made m c.args.left c.pointer-left.result c.pointer-left.ensures given.0 in
-    let made2 = pointer_made m c.args.right c.pointer-right.result c.pointer-right.ensures given.1 in
+    let made1 = pointer_made m c.args.left.now c.pointer-left.result c.pointer-left.ensures given.0 in
+    let made2 = pointer_made m c.args.right.now c.pointer-right.result c.pointer-right.ensures given.1 in
     room_done m c.distance.new.m c.distance.new.t m.spare c.keep.new.self c.args.event.node c.in_ok-value.value c.keep.ensures.rest
     c.keep.ensures.room c.keep.ensures.others
-    c.args.event (act.Distance c.args.size c.args.left c.args.right) refl refl
-    (by_script m (nodes.difference c.args.size (pointer_at c.pointer-left.result) (pointer_at c.pointer-right.result)) _ _ (places_same m c.args.left
-    c.args.right c.pointer-left.result c.pointer-right.result (λ q r. nodes.difference c.args.size q r) c.pointer-left.ensures
+    c.args.event (act.Distance c.args.size c.args.left.now c.args.right.now) refl refl
+    (by_script m (nodes.difference c.args.size (pointer_at c.pointer-left.result) (pointer_at c.pointer-right.result)) _ _ (places_same m c.args.left.now
+    c.args.right.now c.pointer-left.result c.pointer-right.result (λ q r. nodes.difference c.args.size q r) c.pointer-left.ensures
     c.pointer-right.ensures given.0 given.1)
     (c.in_ok-value.ensures.exact made1 made2 m.streams))
     c.in_ok-value.ensures.made
@@ -45,4 +45,4 @@ returns-clause-changes c =
     let m = c.args.machine.now in
     room_changes m c.distance.new.m c.distance.new.t m.spare c.keep.new.self c.args.event.node c.in_ok-value.value c.keep.ensures.rest
     c.keep.ensures.room c.keep.ensures.others
-    (act.Distance c.args.size c.args.left c.args.right)
+    (act.Distance c.args.size c.args.left.now c.args.right.now)

@@ -17,7 +17,7 @@ returns-in_err-left-clause-exact c =
     rw (p.1, p.2) (λ can given. tt)
 
 pub returns-in_err-left-clause-changes : goal.returns-in_err-left-clause-changes
-returns-in_err-left-clause-changes c = touches_all c.args.machine.now c.args.machine.now c.args.event.node (act.Equal c.args.op c.args.left c.args.right) refl
+returns-in_err-left-clause-changes c = touches_all c.args.machine.now c.args.machine.now c.args.event.node (act.Equal c.args.op c.args.left.now c.args.right.now) refl
 
 pub returns-in_err-right-clause-exact : goal.returns-in_err-right-clause-exact
 returns-in_err-right-clause-exact c =
@@ -25,8 +25,8 @@ returns-in_err-right-clause-exact c =
     rw (p.1, p.2) (λ can given. tt)
 
 pub returns-in_err-right-clause-changes : goal.returns-in_err-right-clause-changes
-returns-in_err-right-clause-changes c = touches_all c.args.machine.now c.args.machine.now c.args.event.node (act.Equal c.args.op c.args.left
-    c.args.right) refl
+returns-in_err-right-clause-changes c = touches_all c.args.machine.now c.args.machine.now c.args.event.node (act.Equal c.args.op c.args.left.now
+    c.args.right.now) refl
 
 pub returns-clause-exact : goal.returns-clause-exact
 returns-clause-exact c = λ can given.
@@ -34,11 +34,11 @@ returns-clause-exact c = λ can given.
     let v = c.equal-value.result in
     let is = c.equal-value.ensures m.memory in
     let int = equal_int c.args.op (value_in m.memory c.in_ok-left.left) (value_in m.memory c.in_ok-right.right) in
-    let same = ap₂ (λ x y. nodes.equal c.args.op x y) (given_copy m c.args.left c.in_ok-left.left c.in_ok-left.ensures given.0)
-    (given_copy m c.args.right c.in_ok-right.right c.in_ok-right.ensures given.1) in
+    let same = ap₂ (λ x y. nodes.equal c.args.op x y) (given_copy m c.args.left.now c.in_ok-left.left c.in_ok-left.ensures given.0)
+    (given_copy m c.args.right.now c.in_ok-right.right c.in_ok-right.ensures given.1) in
     room_done m m.memory m.items m.spare c.keep.new.self c.args.event.node v c.keep.ensures.rest c.keep.ensures.room c.keep.ensures.others
-    c.args.event (act.Equal c.args.op c.args.left c.args.right) refl refl
-    (at_once m (Give (nodes.equal c.args.op (given_by m c.args.left) (given_by m c.args.right))) _ (value_in m.memory v) can refl (is ∙ same))
+    c.args.event (act.Equal c.args.op c.args.left.now c.args.right.now) refl refl
+    (at_once m (Give (nodes.equal c.args.op (given_by m c.args.left.now) (given_by m c.args.right.now))) _ (value_in m.memory v) can refl (is ∙ same))
     (int_of m.memory v int.0 (is ∙ int.1)) (keeps_none m.memory)
 
 pub returns-clause-changes : goal.returns-clause-changes
@@ -46,4 +46,4 @@ returns-clause-changes c =
     let m = c.args.machine.now in
     room_changes m m.memory m.items m.spare c.keep.new.self c.args.event.node c.equal-value.result c.keep.ensures.rest c.keep.ensures.room
     c.keep.ensures.others
-    (act.Equal c.args.op c.args.left c.args.right)
+    (act.Equal c.args.op c.args.left.now c.args.right.now)

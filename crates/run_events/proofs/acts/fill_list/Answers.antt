@@ -14,12 +14,12 @@ returns-in_err-fill-clause-exact c =
     let p = err_from_is_err_and c.from_residual-in_err-fill.result c.from_residual-in_err-fill.ensures.1 in
     rw (p.1, p.2) (λ can tables given.
     let m = c.args.machine.now in
-    fill_failed m c.args.constants c.in_ok-fillings.fillings.now c.args.object c.pointer-object.result c.fill.new.m c.fill.new.t c.fill.new.spare can
+    fill_failed m c.args.constants c.in_ok-fillings.fillings.now c.args.object.now c.pointer-object.result c.fill.new.m c.fill.new.t c.fill.new.spare can
     tables c.in_ok-fillings.ensures c.pointer-object.ensures given c.in_err-fill.field-0.0 (fault_of c.in_err-fill.field-0.0)
     (record m { memory = c.fill.new.m; items = c.fill.new.t; spare = c.fill.new.spare }) refl c.in_err-fill.ensures.raises)
 
 pub returns-clause-exact : goal.returns-clause-exact
 returns-clause-exact c = λ can tables given.
     let m = c.args.machine.now in
-    fill_done m c.args.constants c.in_ok-fillings.fillings.now c.args.object c.pointer-object.result c.fill.new.m c.fill.new.t c.fill.new.spare can
+    fill_done m c.args.constants c.in_ok-fillings.fillings.now c.args.object.now c.pointer-object.result c.fill.new.m c.fill.new.t c.fill.new.spare can
     tables c.in_ok-fillings.ensures c.pointer-object.ensures given c.in_ok-fill.ensures.exact c.in_ok-fill.ensures.kept

@@ -14,9 +14,9 @@ pub returns-clause-exact : goal.returns-clause-exact
 returns-clause-exact c = λ can given.
     let m = c.args.machine.now in
     let v = c.number-value.result in
-    let t = either_truth c.args.either (truth (given_by m c.args.first)) (truth (given_by m c.args.second)) in
+    let t = either_truth c.args.either (truth (given_by m c.args.first.now)) (truth (given_by m c.args.second.now)) in
     room_done m m.memory m.items m.spare c.keep.new.self c.args.event.node v c.keep.ensures.rest c.keep.ensures.room c.keep.ensures.others
-    c.args.event (act.Logical c.args.either c.args.first c.args.second) refl refl
+    c.args.event (act.Logical c.args.either c.args.first.now c.args.second.now) refl refl
     (at_once m (Give (bool_value t)) (bool_value t) (value_in m.memory v) can refl
     (c.number-value.ensures.seen m.memory ∙ ap bool_value (c.logical_truth.ensures given.0 given.1)))
     (c.number-value.ensures.made m.memory) (keeps_none m.memory)
@@ -26,4 +26,4 @@ returns-clause-changes c =
     let m = c.args.machine.now in
     room_changes m m.memory m.items m.spare c.keep.new.self c.args.event.node c.number-value.result c.keep.ensures.rest c.keep.ensures.room
     c.keep.ensures.others
-    (act.Logical c.args.either c.args.first c.args.second)
+    (act.Logical c.args.either c.args.first.now c.args.second.now)

@@ -21,13 +21,13 @@ returns-in_err-moved-clause-exact c =
     let p = err_from_is_err_and c.from_residual.result c.from_residual.ensures.1 in
     rw (p.1, p.2) (λ can given.
     let m = c.args.machine.now in
-    let made = pointer_made m c.args.pointer c.pointer-pointer.result c.pointer-pointer.ensures given.0 in
-    let number : to_z w128 (of_z w128 c.integer-index.result) ≡ integer_of (given_by m c.args.index) =
+    let made = pointer_made m c.args.pointer.now c.pointer-pointer.result c.pointer-pointer.ensures given.0 in
+    let number : to_z w128 (of_z w128 c.integer-index.result) ≡ integer_of (given_by m c.args.index.now) =
     to_z-of_z w128 c.integer-index.result (search rules)
-    ∙ given_as m c.args.index integer_of c.integer-index.result c.integer-index.ensures given.1 in
+    ∙ given_as m c.args.index.now integer_of c.integer-index.result c.integer-index.ensures given.1 in
     let near = subst (λ (i : ℤ). IsNear c.args.size i) (sym number) given.2 in
     let same = ap₂ (λ (q : model.Pointer) (i : ℤ). nodes.shifted m.memory.rows q (nodes.distance c.args.size c.args.subtract i))
-    (given_as m c.args.pointer pointer_of (pointer_at c.pointer-pointer.result) c.pointer-pointer.ensures given.0) number in
+    (given_as m c.args.pointer.now pointer_of (pointer_at c.pointer-pointer.result) c.pointer-pointer.ensures given.0) number in
     by_script m (nodes.shifted m.memory.rows (pointer_at c.pointer-pointer.result) (nodes.distance c.args.size c.args.subtract (to_z w128 (of_z w128
     c.integer-index.result)))) _ _ same
     (c.in_err-moved.ensures.exact near made m.streams))
@@ -35,23 +35,23 @@ returns-in_err-moved-clause-exact c =
 pub returns-in_err-moved-clause-changes : goal.returns-in_err-moved-clause-changes
 returns-in_err-moved-clause-changes c =
     let m = c.args.machine.now in
-    touches_all m (record m { memory = c.moved.new.m; items = c.moved.new.t }) c.args.event.node (act.Move c.args.size c.args.subtract c.args.pointer
-    c.args.index) refl
+    touches_all m (record m { memory = c.moved.new.m; items = c.moved.new.t }) c.args.event.node (act.Move c.args.size c.args.subtract c.args.pointer.now
+    c.args.index.now) refl
 
 pub returns-clause-exact : goal.returns-clause-exact
 returns-clause-exact c = λ can given.
     let m = c.args.machine.now in
-    let made = pointer_made m c.args.pointer c.pointer-pointer.result c.pointer-pointer.ensures given.0 in
-    let number : to_z w128 (of_z w128 c.integer-index.result) ≡ integer_of (given_by m c.args.index) =
+    let made = pointer_made m c.args.pointer.now c.pointer-pointer.result c.pointer-pointer.ensures given.0 in
+    let number : to_z w128 (of_z w128 c.integer-index.result) ≡ integer_of (given_by m c.args.index.now) =
     to_z-of_z w128 c.integer-index.result (search rules)
-    ∙ given_as m c.args.index integer_of c.integer-index.result c.integer-index.ensures given.1 in
+    ∙ given_as m c.args.index.now integer_of c.integer-index.result c.integer-index.ensures given.1 in
     let near = subst (λ (i : ℤ). IsNear c.args.size i) (sym number) given.2 in
     let same = ap₂ (λ (q : model.Pointer) (i : ℤ). nodes.shifted m.memory.rows q (nodes.distance c.args.size c.args.subtract i))
-    (given_as m c.args.pointer pointer_of (pointer_at c.pointer-pointer.result) c.pointer-pointer.ensures given.0) number in
+    (given_as m c.args.pointer.now pointer_of (pointer_at c.pointer-pointer.result) c.pointer-pointer.ensures given.0) number in
     let seen = ap (λ (v : Value). Done v c.moved.new.t (store_of c.moved.new.m m.streams)) (sym (c.value.ensures c.moved.new.m)) in
     room_done m c.moved.new.m c.moved.new.t m.spare c.keep.new.self c.args.event.node c.value.result c.keep.ensures.rest c.keep.ensures.room
     c.keep.ensures.others
-    c.args.event (act.Move c.args.size c.args.subtract c.args.pointer c.args.index) refl refl
+    c.args.event (act.Move c.args.size c.args.subtract c.args.pointer.now c.args.index.now) refl refl
     (by_script m (nodes.shifted m.memory.rows (pointer_at c.pointer-pointer.result) (nodes.distance c.args.size c.args.subtract (to_z w128 (of_z w128
     c.integer-index.result)))) _ _ same
     (c.in_ok-moved.ensures.exact near made m.streams ∙ seen))
@@ -63,4 +63,4 @@ returns-clause-changes c =
     let m = c.args.machine.now in
     room_changes m c.moved.new.m c.moved.new.t m.spare c.keep.new.self c.args.event.node c.value.result c.keep.ensures.rest c.keep.ensures.room
     c.keep.ensures.others
-    (act.Move c.args.size c.args.subtract c.args.pointer c.args.index)
+    (act.Move c.args.size c.args.subtract c.args.pointer.now c.args.index.now)

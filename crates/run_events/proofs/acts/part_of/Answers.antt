@@ -13,34 +13,34 @@ returns-in_err-whole-clause-exact c =
     rw (p.1, p.2) (λ can given. tt)
 
 pub returns-in_err-whole-clause-changes : goal.returns-in_err-whole-clause-changes
-returns-in_err-whole-clause-changes c = touches_all c.args.machine.now c.args.machine.now c.args.event.node (act.Part c.args.offset c.args.access
-    c.args.whole) refl
+returns-in_err-whole-clause-changes c = touches_all c.args.machine.now c.args.machine.now c.args.event.node (act.Part c.args.offset c.args.access.now
+    c.args.whole.now) refl
 
 pub returns-in_err-value-clause-exact : goal.returns-in_err-value-clause-exact
 returns-in_err-value-clause-exact c =
     let p = err_from_is_err_and c.from_residual-in_err-value.result c.from_residual-in_err-value.ensures.1 in
     rw (p.1, p.2) (λ can given.
     let m = c.args.machine.now in
-    mem_fails m (record m { memory = c.part.new.m; items = c.part.new.t }) c.args.event (act.Part c.args.offset c.args.access c.args.whole)
-    (nodes.part_of c.args.event c.args.offset c.args.access (value_in m.memory c.in_ok-whole.whole)) c.in_err-value.field-0.0
-    (copy_same m c.args.whole c.in_ok-whole.whole (λ w. nodes.part_of c.args.event c.args.offset c.args.access w) c.in_ok-whole.ensures given)
+    mem_fails m (record m { memory = c.part.new.m; items = c.part.new.t }) c.args.event (act.Part c.args.offset c.args.access.now c.args.whole.now)
+    (nodes.part_of c.args.event c.args.offset c.args.access.now (value_in m.memory c.in_ok-whole.whole)) c.in_err-value.field-0.0
+    (copy_same m c.args.whole.now c.in_ok-whole.whole (λ w. nodes.part_of c.args.event c.args.offset c.args.access.now w) c.in_ok-whole.ensures given)
     c.in_err-value.ensures.raises)
 
 pub returns-in_err-value-clause-changes : goal.returns-in_err-value-clause-changes
 returns-in_err-value-clause-changes c =
     let m = c.args.machine.now in
-    touches_all m (record m { memory = c.part.new.m; items = c.part.new.t }) c.args.event.node (act.Part c.args.offset c.args.access c.args.whole) refl
+    touches_all m (record m { memory = c.part.new.m; items = c.part.new.t }) c.args.event.node (act.Part c.args.offset c.args.access.now c.args.whole.now) refl
 
 pub returns-clause-exact : goal.returns-clause-exact
 returns-clause-exact c = λ can given.
     let m = c.args.machine.now in
     room_done m c.part.new.m c.part.new.t m.spare c.keep.new.self c.args.event.node c.in_ok-value.value c.keep.ensures.rest c.keep.ensures.room
     c.keep.ensures.others
-    c.args.event (act.Part c.args.offset c.args.access c.args.whole) refl refl
-    (by_script m (nodes.part_of c.args.event c.args.offset c.args.access (value_in m.memory c.in_ok-whole.whole)) _ _ (copy_same m c.args.whole
-    c.in_ok-whole.whole (λ w. nodes.part_of c.args.event c.args.offset c.args.access w) c.in_ok-whole.ensures given)
+    c.args.event (act.Part c.args.offset c.args.access.now c.args.whole.now) refl refl
+    (by_script m (nodes.part_of c.args.event c.args.offset c.args.access.now (value_in m.memory c.in_ok-whole.whole)) _ _ (copy_same m c.args.whole.now
+    c.in_ok-whole.whole (λ w. nodes.part_of c.args.event c.args.offset c.args.access.now w) c.in_ok-whole.ensures given)
     (c.in_ok-value.ensures.exact can.sound.known m.streams))
-    (c.in_ok-value.ensures.made can.sound (copy_of m c.args.whole c.in_ok-whole.whole c.in_ok-whole.ensures given))
+    (c.in_ok-value.ensures.made can.sound (copy_of m c.args.whole.now c.in_ok-whole.whole c.in_ok-whole.ensures given))
     c.in_ok-value.ensures.kept
 
 pub returns-clause-changes : goal.returns-clause-changes
@@ -48,4 +48,4 @@ returns-clause-changes c =
     let m = c.args.machine.now in
     room_changes m c.part.new.m c.part.new.t m.spare c.keep.new.self c.args.event.node c.in_ok-value.value c.keep.ensures.rest c.keep.ensures.room
     c.keep.ensures.others
-    (act.Part c.args.offset c.args.access c.args.whole)
+    (act.Part c.args.offset c.args.access.now c.args.whole.now)

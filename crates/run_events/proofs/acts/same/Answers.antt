@@ -17,21 +17,21 @@ returns-in_err-value-clause-exact c =
     rw (p.1, p.2) (λ can given. tt)
 
 pub returns-in_err-value-clause-changes : goal.returns-in_err-value-clause-changes
-returns-in_err-value-clause-changes c = touches_all c.args.machine.now c.args.machine.now c.args.event.node (act.Same c.args.operand) refl
+returns-in_err-value-clause-changes c = touches_all c.args.machine.now c.args.machine.now c.args.event.node (act.Same c.args.operand.now) refl
 
 pub returns-clause-exact : goal.returns-clause-exact
 returns-clause-exact c = λ can given.
     let m = c.args.machine.now in
     let v = c.in_ok-value.value in
     room_done m m.memory m.items m.spare c.keep.new.self c.args.event.node v c.keep.ensures.rest c.keep.ensures.room c.keep.ensures.others
-    c.args.event (act.Same c.args.operand) refl refl
-    (at_once m (Give (given_by m c.args.operand)) (given_by m c.args.operand) (value_in m.memory v) can refl
-    (given_copy m c.args.operand v c.in_ok-value.ensures given))
-    (copy_of m c.args.operand v c.in_ok-value.ensures given) (keeps_none m.memory)
+    c.args.event (act.Same c.args.operand.now) refl refl
+    (at_once m (Give (given_by m c.args.operand.now)) (given_by m c.args.operand.now) (value_in m.memory v) can refl
+    (given_copy m c.args.operand.now v c.in_ok-value.ensures given))
+    (copy_of m c.args.operand.now v c.in_ok-value.ensures given) (keeps_none m.memory)
 
 pub returns-clause-changes : goal.returns-clause-changes
 returns-clause-changes c =
     let m = c.args.machine.now in
     room_changes m m.memory m.items m.spare c.keep.new.self c.args.event.node c.in_ok-value.value c.keep.ensures.rest c.keep.ensures.room
     c.keep.ensures.others
-    (act.Same c.args.operand)
+    (act.Same c.args.operand.now)

@@ -19,7 +19,7 @@ returns-in_err-store-clause-exact c =
     let p = err_from_is_err_and c.from_residual-in_err-store.result c.from_residual-in_err-store.ensures.1 in
     rw (p.1, p.2) (λ can tables made given.
     let m = c.args.machine.now in
-    store_raised m c.args.number c.in_ok-found.found.0 c.in_ok-found.found.1 c.args.place c.in_ok-value.value c.args.value c.store.new.m c.store.new.t
+    store_raised m c.args.number c.in_ok-found.found.0 c.in_ok-found.found.1 c.args.place c.in_ok-value.value c.args.value.now c.store.new.m c.store.new.t
     can tables c.in_ok-found.ensures.store c.in_ok-found.ensures.via made given c.in_ok-value.ensures
     c.in_err-store.field-0.0 (fault.Raise c.in_err-store.field-0.0)
     (record m { memory = c.store.new.m; items = c.store.new.t }) refl c.in_err-store.ensures.raises)
@@ -27,6 +27,6 @@ returns-in_err-store-clause-exact c =
 pub returns-clause-exact : goal.returns-clause-exact
 returns-clause-exact c = λ can tables made given.
     let m = c.args.machine.now in
-    store_done m c.args.number c.in_ok-found.found.0 c.in_ok-found.found.1 c.args.place c.in_ok-value.value c.args.value c.store.new.m c.store.new.t
+    store_done m c.args.number c.in_ok-found.found.0 c.in_ok-found.found.1 c.args.place c.in_ok-value.value c.args.value.now c.store.new.m c.store.new.t
     can tables c.in_ok-found.ensures.store c.in_ok-found.ensures.via made given c.in_ok-value.ensures
     c.in_ok-store.ensures.exact c.in_ok-store.ensures.kept

@@ -17,19 +17,19 @@ returns-in_err-operand-clause-exact c =
     rw (p.1, p.2) (λ can given. tt)
 
 pub returns-in_err-operand-clause-changes : goal.returns-in_err-operand-clause-changes
-returns-in_err-operand-clause-changes c = touches_all c.args.machine.now c.args.machine.now c.args.event.node (act.Unary c.args.op c.args.operand) refl
+returns-in_err-operand-clause-changes c = touches_all c.args.machine.now c.args.machine.now c.args.event.node (act.Unary c.args.op c.args.operand.now) refl
 
 pub returns-in_err-value-clause-exact : goal.returns-in_err-value-clause-exact
 returns-in_err-value-clause-exact c =
     let p = err_from_is_err_and c.from_residual-in_err-value.result c.from_residual-in_err-value.ensures.1 in
     rw (p.1, p.2) (λ can given.
     let m = c.args.machine.now in
-    by_script m (nodes.unary_value c.args.op (value_in m.memory c.in_ok-operand.operand)) _ _ (copy_same m c.args.operand c.in_ok-operand.operand (λ
+    by_script m (nodes.unary_value c.args.op (value_in m.memory c.in_ok-operand.operand)) _ _ (copy_same m c.args.operand.now c.in_ok-operand.operand (λ
     w. nodes.unary_value c.args.op w) c.in_ok-operand.ensures given)
     (c.in_err-value.ensures m.memory m.memory.rows (store_in m)))
 
 pub returns-in_err-value-clause-changes : goal.returns-in_err-value-clause-changes
-returns-in_err-value-clause-changes c = touches_all c.args.machine.now c.args.machine.now c.args.event.node (act.Unary c.args.op c.args.operand) refl
+returns-in_err-value-clause-changes c = touches_all c.args.machine.now c.args.machine.now c.args.event.node (act.Unary c.args.op c.args.operand.now) refl
 
 pub returns-clause-exact : goal.returns-clause-exact
 returns-clause-exact c = λ can given.
@@ -38,10 +38,10 @@ returns-clause-exact c = λ can given.
     let done = c.in_ok-value.ensures m.memory m.memory.rows (store_in m) in
     let int = unary_int m.memory.rows c.args.op (value_in m.memory c.in_ok-operand.operand) (store_in m) (store_in m) (value_in m.memory v) _ done in
     room_done m m.memory m.items m.spare c.keep.new.self c.args.event.node v c.keep.ensures.rest c.keep.ensures.room c.keep.ensures.others
-    c.args.event (act.Unary c.args.op c.args.operand) refl refl
-    (with_none m (nodes.unary_value c.args.op (given_by m c.args.operand)) (value_in m.memory v) can (by_script m (nodes.unary_value c.args.op
+    c.args.event (act.Unary c.args.op c.args.operand.now) refl refl
+    (with_none m (nodes.unary_value c.args.op (given_by m c.args.operand.now)) (value_in m.memory v) can (by_script m (nodes.unary_value c.args.op
     (value_in m.memory c.in_ok-operand.operand)) _ _ (copy_same m
-    c.args.operand c.in_ok-operand.operand (λ w. nodes.unary_value c.args.op w) c.in_ok-operand.ensures given) done))
+    c.args.operand.now c.in_ok-operand.operand (λ w. nodes.unary_value c.args.op w) c.in_ok-operand.ensures given) done))
     (int_of m.memory v int.0 int.1) (keeps_none m.memory)
 
 pub returns-clause-changes : goal.returns-clause-changes
@@ -49,4 +49,4 @@ returns-clause-changes c =
     let m = c.args.machine.now in
     room_changes m m.memory m.items m.spare c.keep.new.self c.args.event.node c.in_ok-value.value c.keep.ensures.rest c.keep.ensures.room
     c.keep.ensures.others
-    (act.Unary c.args.op c.args.operand)
+    (act.Unary c.args.op c.args.operand.now)

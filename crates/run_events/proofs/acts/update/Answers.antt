@@ -16,7 +16,7 @@ returns-in_err-both-clause-exact c =
     let p = err_from_is_err_and c.from_residual.result c.from_residual.ensures.1 in
     rw (p.1, p.2) (λ can given.
     let m = c.args.machine.now in
-    update_fails m c.args.event c.args.change c.args.ty c.args.place c.args.operand c.pointer-place.result (to_z w128 (of_z w128
+    update_fails m c.args.event c.args.change c.args.ty c.args.place.now c.args.operand.now c.pointer-place.result (to_z w128 (of_z w128
     c.integer-operand.result)) c.changed.new.m c.changed.new.t c.changed.new.spare
     kept.Nothing kept.Nothing c.pointer-place.ensures (λ h e k. to_z-of_z w128 c.integer-operand.result (search rules) ∙ c.integer-operand.ensures h e k)
     can given.0 given.1 given.2
@@ -27,15 +27,15 @@ pub returns-in_err-both-clause-changes : goal.returns-in_err-both-clause-changes
 returns-in_err-both-clause-changes c =
     let m = c.args.machine.now in
     touches_all m (record m { memory = c.changed.new.m; items = c.changed.new.t; spare = c.changed.new.spare }) c.args.event.node (act.Change
-    c.args.change c.args.old c.args.ty c.args.place c.args.operand c.args.room) refl
+    c.args.change c.args.old c.args.ty c.args.place.now c.args.operand.now c.args.room) refl
 
 pub returns-then-old-clause-exact : goal.returns-then-old-clause-exact
 returns-then-old-clause-exact c = λ can given.
     let m = c.args.machine.now in
-    subst (λ (b : Bool). Does m c.keep-then-old.new.self c.args.event (act.Change c.args.change b c.args.ty c.args.place c.args.operand c.args.room) (Ok
+    subst (λ (b : Bool). Does m c.keep-then-old.new.self c.args.event (act.Change c.args.change b c.args.ty c.args.place.now c.args.operand.now c.args.room) (Ok
     outcome.Done))
     (sym c.if-old.true)
-    (both_done m c.args.event c.args.change c.args.ty c.args.place c.args.operand c.pointer-place.result (to_z w128 (of_z w128
+    (both_done m c.args.event c.args.change c.args.ty c.args.place.now c.args.operand.now c.pointer-place.result (to_z w128 (of_z w128
     c.integer-operand.result)) c.changed.new.m c.changed.new.t c.changed.new.spare c.in_ok-both.both.0 c.in_ok-both.both.1 c.pointer-place.ensures
     (λ h e k. to_z-of_z w128 c.integer-operand.result (search rules) ∙ c.integer-operand.ensures h e k)
     c.keep.new.self c.keep-then-old.new.self c.args.room c.keep.ensures.rest c.keep.ensures.room c.keep.ensures.others c.keep-then-old.ensures.rest
@@ -45,10 +45,10 @@ returns-then-old-clause-exact c = λ can given.
 pub returns-then-old-clause-changes : goal.returns-then-old-clause-changes
 returns-then-old-clause-changes c =
     let m = c.args.machine.now in
-    subst (λ (b : Bool). ChangesOnly m c.keep-then-old.new.self c.args.event.node (act.Change c.args.change b c.args.ty c.args.place c.args.operand
+    subst (λ (b : Bool). ChangesOnly m c.keep-then-old.new.self c.args.event.node (act.Change c.args.change b c.args.ty c.args.place.now c.args.operand.now
     c.args.room))
     (sym c.if-old.true)
-    (both_change m c.args.event c.args.change c.args.ty c.args.place c.args.operand c.pointer-place.result (to_z w128 (of_z w128
+    (both_change m c.args.event c.args.change c.args.ty c.args.place.now c.args.operand.now c.pointer-place.result (to_z w128 (of_z w128
     c.integer-operand.result)) c.changed.new.m c.changed.new.t c.changed.new.spare c.in_ok-both.both.0 c.in_ok-both.both.1 c.pointer-place.ensures
     (λ h e k. to_z-of_z w128 c.integer-operand.result (search rules) ∙ c.integer-operand.ensures h e k)
     c.keep.new.self c.keep-then-old.new.self c.args.room c.keep.ensures.rest c.keep.ensures.room c.keep.ensures.others c.keep-then-old.ensures.rest
@@ -58,14 +58,14 @@ returns-then-old-clause-changes c =
 pub returns-else-old-clause-exact : goal.returns-else-old-clause-exact
 returns-else-old-clause-exact c = λ can given.
     let m = c.args.machine.now in
-    subst (λ (b : Bool). Does m c.keep-else-old.new.self c.args.event (act.Change c.args.change b c.args.ty c.args.place c.args.operand c.args.room)
+    subst (λ (b : Bool). Does m c.keep-else-old.new.self c.args.event (act.Change c.args.change b c.args.ty c.args.place.now c.args.operand.now c.args.room)
     (Ok outcome.Done))
     (sym c.if-old.false)
     (room_done m c.changed.new.m c.changed.new.t c.changed.new.spare c.keep-else-old.new.self c.args.event.node c.in_ok-both.both.1
     c.keep-else-old.ensures.rest
     c.keep-else-old.ensures.room c.keep-else-old.ensures.others
-    c.args.event (act.Change c.args.change false c.args.ty c.args.place c.args.operand c.args.room) refl refl
-    (update_did m c.args.event c.args.change c.args.ty c.args.place c.args.operand c.pointer-place.result (to_z w128 (of_z w128
+    c.args.event (act.Change c.args.change false c.args.ty c.args.place.now c.args.operand.now c.args.room) refl refl
+    (update_did m c.args.event c.args.change c.args.ty c.args.place.now c.args.operand.now c.pointer-place.result (to_z w128 (of_z w128
     c.integer-operand.result)) c.changed.new.m c.changed.new.t c.changed.new.spare c.in_ok-both.both.0 c.in_ok-both.both.1 c.pointer-place.ensures
     (λ h e k. to_z-of_z w128 c.integer-operand.result (search rules) ∙ c.integer-operand.ensures h e k)
     can given.0 given.1 given.2 false c.in_ok-both.ensures.exact)
@@ -74,9 +74,9 @@ returns-else-old-clause-exact c = λ can given.
 pub returns-else-old-clause-changes : goal.returns-else-old-clause-changes
 returns-else-old-clause-changes c =
     let m = c.args.machine.now in
-    subst (λ (b : Bool). ChangesOnly m c.keep-else-old.new.self c.args.event.node (act.Change c.args.change b c.args.ty c.args.place c.args.operand
+    subst (λ (b : Bool). ChangesOnly m c.keep-else-old.new.self c.args.event.node (act.Change c.args.change b c.args.ty c.args.place.now c.args.operand.now
     c.args.room))
     (sym c.if-old.false)
     (room_changes m c.changed.new.m c.changed.new.t c.changed.new.spare c.keep-else-old.new.self c.args.event.node c.in_ok-both.both.1
     c.keep-else-old.ensures.rest
-    c.keep-else-old.ensures.room c.keep-else-old.ensures.others (act.Change c.args.change false c.args.ty c.args.place c.args.operand c.args.room))
+    c.keep-else-old.ensures.room c.keep-else-old.ensures.others (act.Change c.args.change false c.args.ty c.args.place.now c.args.operand.now c.args.room))
