@@ -1,5 +1,6 @@
 mod Answered
 mod Behind
+mod Bodies
 mod Creating
 mod Deciding
 mod Given
@@ -17,6 +18,7 @@ mod Results
 mod Returning
 mod Rooms
 mod Standing
+mod Started
 mod Staying
 mod Steering
 mod Still

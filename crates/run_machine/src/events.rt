@@ -3,14 +3,17 @@ ghost use Rattle.std.specs.Prelude.{◌≡◌, Some, IfOk, OnOk};
 ghost use Rattle.run_code.specs.Named.{IsDueOf};
 ghost use Rattle.run_machine.specs.Ending.{Notes};
 ghost use Rattle.run_machine.specs.Picks.{event_at, IsOfEvent};
+ghost use Rattle.run_machine.specs.Starting.{AnswersBody};
 ghost use Rattle.run_machine.specs.Taking.{passed_stage, past_event, AnswersEvent, DecidesBy, FollowsEvent};
 
 use crate::laws::law_events;
 use crate::pick::Pick;
 use crate::picks::completed;
 use c_typed::Place;
+use program_view::law_view;
 use run_code::{Code, Due};
 use run_events::{Outcome, choose, perform};
+use run_listing::law_cursor;
 use run_state::{Halt, Machine, Stage};
 use ub_base::{Event, NoMemory};
 
@@ -48,8 +51,11 @@ pub fn take_event(machine: &mut Machine, due: &Due) -> Result<Pick, Halt>
     requires named { IsDueOf machine.old.code.now.tables due.now }
     ensures event { IfOk result (IsOfEvent (event_at machine.old due.now.place)) }
     ensures answers { AnswersEvent due.now machine.old machine.new result }
+    ensures bodies { AnswersBody due.now machine.old machine.new result }
 {
     law_events();
+    law_view();
+    law_cursor();
     let code = machine.code;
     let event = Event {
         frame: machine.top.frame,

@@ -1,0 +1,101 @@
+-- The event that is taken is a body that starts a frame: what is asked of the machine, and what it stands for then (6.7.9p23).
+use Rattle.std.specs.Prelude.{◌≡◌, ◌+◌, ◌^◌, ◌<◌, ℕ, true, List, [], Option, Some, None, Result, Ok, Err, slice_get}
+use Rattle.std.specs.Borrow.{Bor}
+use Rattle.ub_base.specs.declared.clause.Kind.TheVariants.{Body}
+use Rattle.ub_base.specs.declared.names.Frame.{Frame}
+use Rattle.c_types.specs.Types.{CType}
+use Rattle.c_typed.specs.declared.tree.Place.{Place}
+use Rattle.c_model.specs.Program.{Expr, expr, Exprs, Isolated}
+use Rattle.c_model.specs.Runs.{Outcome, Running, State, canonical_pick, step}
+use Rattle.c_model.specs.Steps.{Begun, Ev, at_node}
+use Rattle.c_model.specs.World.{World}
+use Rattle.program_view.specs.Trees.{expr_of}
+use Rattle.run_control.specs.View.{Meaning}
+use Rattle.run_code.specs.declared.steps.Act.TheVariants as act
+use Rattle.run_code.specs.declared.steps.Due.{Due}
+use Rattle.run_code.specs.declared.steps.Expression.{Expression}
+use Rattle.run_code.specs.declared.whole.Code.{Code}
+use Rattle.run_state.specs.declared.halt.Halt.{Halt}
+use Rattle.run_state.specs.declared.machine.Machine.{Machine}
+use Rattle.run_state.specs.declared.machine.Stage.{Stage}
+use Rattle.run_state.specs.Stands.{Stands}
+use Rattle.run_machine.specs.declared.pick.Pick.{Pick}
+use Rattle.run_machine.specs.declared.pick.Pick.TheVariants as pick
+use Rattle.run_machine.specs.Answering.{Answers, IsWithin, newest_items}
+use Rattle.run_machine.specs.Picks.{ComesNext}
+use Rattle.run_machine.specs.Taking.{IsAt, StandsOpen}
+
+-- 1. A frame that has started.
+
+-- the machine whose top frame has been given this number
+abbrev pub numbered : Machine → Frame → Machine
+numbered m n = record m { top = record m.top { frame = n } }
+
+-- The definitions go on to a state in which a frame has started, with the items of the pick. Once that frame has the number that the world gives it, the
+-- machine stands for the state.
+abbrev pub ComesToStart : World → (Option ℕ → Meaning) → Machine → Outcome → Type 0
+ComesToStart world meaning m o =
+    (st : State) × (o ≡ Running st) × (newest_items st.trace ≡ m.items)
+    × ((n : Frame) → n.0 ≡ world.number st.top.scene.path → Stands world meaning (numbered m n) st)
+
+-- 2. What is asked of an event that is the body of an isolated initializer.
+
+-- so it is in code that was laid out of a program: it has the full expression of the initializer, by the number that the act names
+pub record IsInitializer (code : Code) (e : Begun) (d : Due) : Type 0 where
+  pub number : ℕ
+  pub act : d.act ≡ act.Initialize number
+  pub body : d.place.kind ≡ Body
+  pub tree : Expr
+  pub ty : CType
+  pub line : ℕ
+  pub operands : Exprs
+  pub node : at_node 0 e.root d.place.node ≡ Some (expr (Isolated tree) ty line operands)
+  pub laid : Expression
+  pub at : slice_get code.expressions.items number ≡ Some laid
+  pub root : expr_of laid.root.now ≡ tree
+
+-- The machine has touched nothing yet, stands for a state within the limits, with a full expression open in its top frame, and has gone on to the event.
+-- Places in listings, and of values, are below 2^64.
+pub record MayStart (world : World) (meaning : Option ℕ → Meaning) (m : Machine) (st : State) (e : Begun) (s : Stage) (d : Due) (now : Machine)
+    : Type 0 where
+  pub stood : StandsOpen world meaning m st e
+  pub within : IsWithin world st
+  pub items : m.items ≡ []
+  pub stage : m.top.stage ≡ Some s
+  pub end : s.end < 2 ^ 64
+  pub room : m.top.base + m.top.rooms < 2 ^ 64
+  pub event : IsInitializer m.code.now e d
+  pub goes : IsAt s.straight m s d now
+
+-- 3. What is answered.
+
+-- a frame starts as the definitions say, or what they raise or pass is answered; there may be want of memory
+abbrev pub AnswersStart : World → (Option ℕ → Meaning) → Result Pick Halt → Machine → Outcome → Type 0
+AnswersStart world meaning (Ok (pick.Starts event)) m o = ComesToStart world meaning m o
+AnswersStart world meaning (Ok (pick.Event event completed status)) m o = ⊥
+AnswersStart world meaning (Ok (pick.Step status)) m o = ⊥
+AnswersStart world meaning (Err e) m o = Answers world meaning (Err e) m o
+
+abbrev pub AnswersBody : Due → (old new : Machine) → Result Pick Halt → Type 0
+AnswersBody d old new result =
+    (world : World) (meaning : Option ℕ → Meaning) (m : Machine) (st : State) (e : Begun) (s : Stage)
+    → MayStart world meaning m st e s d old → AnswersStart world meaning result new (step world st (Ev d.place))
+
+-- 4. The next event along the canonical way.
+
+-- a machine that stands so, in whose full expression the event that comes next is such a body
+pub record MayStartNext (world : World) (meaning : Option ℕ → Meaning) (m : Machine) (st : State) (e : Begun) (s : Stage) : Type 0 where
+  pub stood : StandsOpen world meaning m st e
+  pub within : IsWithin world st
+  pub stage : m.top.stage ≡ Some s
+  pub straight : s.straight ≡ true
+  pub end : s.end < 2 ^ 64
+  pub room : m.top.base + m.top.rooms < 2 ^ 64
+  pub each : (next : ℕ × Bor Due) → ComesNext m s (Some next) → IsInitializer m.code.now e next.1.now
+
+-- a canonical pick that is an event
+abbrev pub AnswersNextBody : (old new : Machine) → Result Pick Halt → Type 0
+AnswersNextBody old new result =
+    (world : World) (meaning : Option ℕ → Meaning) (st : State) (e : Begun) (s : Stage) (u : Place)
+    → MayStartNext world meaning old st e s → canonical_pick world st.top st.top.begun ≡ Ev u
+    → AnswersStart world meaning result new (step world st (Ev u))
