@@ -31,6 +31,7 @@ use Rattle.run_machine.specs.Taking.{at_next, past_event}
 use Rattle.run_machine.proofs.Answered.{passes_so}
 use Rattle.run_machine.proofs.Onward.{at_ready, came_next, cleared_open, ev_place}
 use Rattle.run_machine.proofs.Started.{initializer_started}
+use Rattle.run_machine.proofs.Waiting.{waits_there}
 
 stops_so : (world : World) (meaning : Option ℕ → Meaning) (old new : Machine) (number line : ℕ) (who : Event) (o : Outcome) (x : Fault) →
     OpensInitializer old number who new (Err x) → Answers world meaning (Err (halt_by who line x)) new o
@@ -52,8 +53,9 @@ module _ (trees : TreesAreKept) (starts : StandsAtStart) (d : Due) (now start do
 
   pub body_started : p ≡ Ok outcome.Started → (event : Event) → AnswersBody d now done (Ok (pick.Starts event))
   body_started same event = λ world meaning m st e s t.
-      initializer_started trees starts world meaning m (past_event now) st e s d t.stood t.stage t.room t.event
-      (passes_so m now s d s.straight refl t.stage t.end t.goes) who node done
+      initializer_started world meaning m (past_event now) st e d t.stood
+      (waits_there trees starts world meaning m (past_event now) st e s d t.stood t.stage (passes_so m now s d s.straight refl t.stage t.end t.goes))
+      t.room t.event who node done
       (opens_so (Ok outcome.Started) same world meaning m st e s t) t.within t.items
 
   pub body_done : (new : Machine) (r : Result Pick Halt) → p ≡ Ok outcome.Done → AnswersBody d now new r

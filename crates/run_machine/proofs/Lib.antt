@@ -10,6 +10,7 @@ mod Laying
 mod Leaving
 mod Left
 mod Lives
+mod Objects
 mod Onward
 mod Opened
 mod Parts
@@ -24,3 +25,4 @@ mod Steering
 mod Still
 mod Taken
 mod Unwriting
+mod Waiting
