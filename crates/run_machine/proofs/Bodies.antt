@@ -53,7 +53,7 @@ module _ (trees : TreesAreKept) (starts : StandsAtStart) (d : Due) (now start do
 
   pub body_started : p ≡ Ok outcome.Started → (event : Event) → AnswersBody d now done (Ok (pick.Starts event))
   body_started same event = λ world meaning m st e s t.
-      initializer_started world meaning m (past_event now) st e d t.stood
+      initializer_started world meaning m (past_event now) st e s d t.stood
       (waits_there trees starts world meaning m (past_event now) st e s d t.stood t.stage (passes_so m now s d s.straight refl t.stage t.end t.goes))
       t.room t.event who node done
       (opens_so (Ok outcome.Started) same world meaning m st e s t) t.within t.items

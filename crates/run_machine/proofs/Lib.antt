@@ -1,6 +1,7 @@
 mod Answered
 mod Behind
 mod Bodies
+mod Called
 mod Creating
 mod Deciding
 mod Given

@@ -21,11 +21,13 @@ use Rattle.run_control.specs.View.{Meaning}
 use Rattle.run_code.specs.declared.steps.Due.{Due}
 use Rattle.run_state.specs.declared.machine.Machine.{Machine}
 use Rattle.run_state.specs.declared.machine.Open.{Open}
+use Rattle.run_state.specs.declared.machine.Stage.{Stage}
 use Rattle.run_state.specs.Stands.{StandFrames, StandLocals, Stands, StandsFrame, StandsOn, frames_of, result_seen}
 use Rattle.run_events.specs.Opens.{StartsInitializer, started_on}
 use Rattle.run_machine.specs.Answering.{IsWithin}
-use Rattle.run_machine.specs.Starting.{ComesToStart, IsInitializer, numbered}
-use Rattle.run_machine.specs.Taking.{StandsOpen, staged}
+use Rattle.run_machine.specs.Picks.{at_cursor}
+use Rattle.run_machine.specs.Starting.{ComesToStart, IsInitializer, numbered, started_state}
+use Rattle.run_machine.specs.Taking.{StandsOpen}
 use Rattle.run_machine.proofs.Opened.{top_frame}
 use Rattle.run_machine.proofs.Still.{frames_aside, tables_aside}
 use Rattle.run_machine.proofs.Waiting.{Waits}
@@ -44,10 +46,6 @@ initializer_frame f n tree = record {
   begun = None;
   result = Some Nothing;
 }
-
-abbrev pub started_state : World → State → Place → Local → State
-started_state world st u g =
-    record { top = g; held = (st.top, u) ∷ st.held; store = st.store; trace = entry_of world st.top (Ev u) [] ∷ st.trace }
 
 initializer_steps : (world : World) (st : State) (e : Begun) (n : ℕ) (tree : Expr) (ty : CType) (line : ℕ) (os : Exprs) → st.top.begun ≡ Some e →
     at_node 0 e.root n ≡ Some (expr (Isolated tree) ty line os) →
@@ -74,13 +72,13 @@ initializer_within world st u n tree is =
     ∙ ap (λ (l : Option _). within l (Running after)) is
 
 -- ---- the frame has started
-module _ (world : World) (meaning : Option ℕ → Meaning) (old past : Machine) (st : State) (e : Begun) (d : Due) (stood : StandsOpen world meaning old st e)
-    (w : Waits world meaning old past st d.place) (few : old.top.base + old.top.rooms < 2 ^ 64) (event : IsInitializer old.code.now e d) where
+module _ (world : World) (meaning : Option ℕ → Meaning) (old past : Machine) (st : State) (e : Begun) (s : Stage) (d : Due)
+    (stood : StandsOpen world meaning old st e) (w : Waits world meaning old past st s d.place) (few : old.top.base + old.top.rooms < 2 ^ 64) (event : IsInitializer old.code.now e d) where
   frame : StandsFrame world (meaning old.top.function) old (length old.below.items) old.top old.work.now old.left st.top None
   frame = top_frame world meaning old st stood.stands
 
   abbrev there : Open
-  there = record old.top { stage = w.stage }
+  there = record old.top { stage = Some (record s { cursor = w.cursor }) }
 
   -- the frame that starts
   abbrev then_frame : Local
@@ -89,7 +87,7 @@ module _ (world : World) (meaning : Option ℕ → Meaning) (old past : Machine)
   abbrev then_state : State
   then_state = started_state world st d.place then_frame
 
-  module _ (who : Event) (node : who.node ≡ d.place.node) (new : Machine) (opens : StartsInitializer (staged old w.stage) event.number who new) where
+  module _ (who : Event) (node : who.node ≡ d.place.node) (new : Machine) (opens : StartsInitializer (at_cursor old s w.cursor) event.number who new) where
     abbrev top_then : Frame → Open
     top_then n = record (started_on there who None there.blocks there.locals there.above) { frame = n }
 

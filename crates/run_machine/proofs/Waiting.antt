@@ -19,7 +19,7 @@ use Rattle.run_state.specs.declared.machine.Stage.{Stage}
 use Rattle.run_state.specs.declared.watch.Begun.{Begun as Shown}
 use Rattle.run_state.specs.Stands.{IsAbove, StandFrames, StandsBegun, StandsDone, StandsExpression, StandsFrame, result_seen}
 use Rattle.run_machine.specs.Picks.{at_cursor, top_of}
-use Rattle.run_machine.specs.Taking.{IsPast, StandsOpen, staged}
+use Rattle.run_machine.specs.Taking.{IsPast, StandsOpen}
 use Rattle.run_machine.proofs.Opened.{Opened, opened, top_frame}
 use Rattle.run_machine.proofs.Still.{above_same}
 
@@ -59,11 +59,11 @@ passed_to starts world old s f e d height shown top listed stage false past p do
 }
 
 -- in the top frame the body waits; the machine has changed nothing else yet
-pub record Waits (world : World) (meaning : Option ℕ → Meaning) (old past : Machine) (st : State) (u : Place) : Type 0 where
-  pub stage : Option Stage
-  pub is : past ≡ staged old stage
-  pub frames : StandFrames world meaning old None (record old.top { stage = stage } ∷ reverse old.below.items) (old.work.now ∷ old.work.below)
-      ((st.top, Some u) ∷ map (λ h. (h.0, Some h.1)) st.held)
+pub record Waits (world : World) (meaning : Option ℕ → Meaning) (old past : Machine) (st : State) (s : Stage) (u : Place) : Type 0 where
+  pub cursor : ℕ
+  pub is : past ≡ at_cursor old s cursor
+  pub frames : StandFrames world meaning old None (record old.top { stage = Some (record s { cursor = cursor }) } ∷ reverse old.below.items)
+      (old.work.now ∷ old.work.below) ((st.top, Some u) ∷ map (λ h. (h.0, Some h.1)) st.held)
 
 module _ (trees : TreesAreKept) (starts : StandsAtStart) (world : World) (meaning : Option ℕ → Meaning) (old past : Machine) (st : State) (e : Begun)
     (s : Stage) (d : Due) (stood : StandsOpen world meaning old st e) (stage : old.top.stage ≡ Some s) (passes : IsPast s.straight old s d past) where
@@ -122,9 +122,9 @@ module _ (trees : TreesAreKept) (starts : StandsAtStart) (world : World) (meanin
         (sym stood.begun) waits_in;
   }
 
-  pub waits_there : Waits world meaning old past st d.place
+  pub waits_there : Waits world meaning old past st s d.place
   waits_there = record {
-    stage = Some (record s { cursor = way.cursor });
+    cursor = way.cursor;
     is = way.is;
     frames = (
       subst (λ (k : ℕ). StandsFrame world (meaning old.top.function) old k there old.work.now None st.top (Some d.place))

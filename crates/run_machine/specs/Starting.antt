@@ -1,29 +1,35 @@
 -- The event that is taken is a body that starts a frame: what is asked of the machine, and what it stands for then (6.7.9p23).
-use Rattle.std.specs.Prelude.{◌≡◌, ◌+◌, ◌^◌, ◌<◌, ℕ, true, List, [], Option, Some, None, Result, Ok, Err, slice_get}
+use Rattle.std.specs.Prelude.{◌≡◌, ◌+◌, ◌^◌, ◌<◌, ℕ, true, List, [], ◌∷◌, length, Option, Some, None, Result, Ok, Err, slice_get}
 use Rattle.std.specs.Borrow.{Bor}
 use Rattle.ub_base.specs.declared.clause.Kind.TheVariants.{Body}
+use Rattle.ub_base.specs.declared.names.Event.{Event}
 use Rattle.ub_base.specs.declared.names.Frame.{Frame}
 use Rattle.c_types.specs.Types.{CType}
 use Rattle.c_typed.specs.declared.tree.Place.{Place}
-use Rattle.c_model.specs.Program.{Expr, expr, Exprs, Isolated}
-use Rattle.c_model.specs.Runs.{Outcome, Running, State, canonical_pick, step}
-use Rattle.c_model.specs.Steps.{Begun, Ev, at_node}
+use Rattle.c_model.specs.Control.{To_do}
+use Rattle.c_model.specs.Program.{Expr, expr, Exprs, Isolated, Stmt}
+use Rattle.c_model.specs.Runs.{Outcome, Running, State, canonical_pick, entry_of, step}
+use Rattle.c_model.specs.Steps.{Begun, Ev, Local, Scene, at_node, body_of}
+use Rattle.c_model.specs.Values.{Value}
 use Rattle.c_model.specs.World.{World}
 use Rattle.program_view.specs.Trees.{expr_of}
 use Rattle.run_control.specs.View.{Meaning}
 use Rattle.run_code.specs.declared.steps.Act.TheVariants as act
 use Rattle.run_code.specs.declared.steps.Due.{Due}
 use Rattle.run_code.specs.declared.steps.Expression.{Expression}
+use Rattle.run_code.specs.declared.steps.Operand.{Operand}
 use Rattle.run_code.specs.declared.whole.Code.{Code}
 use Rattle.run_state.specs.declared.halt.Halt.{Halt}
 use Rattle.run_state.specs.declared.machine.Machine.{Machine}
 use Rattle.run_state.specs.declared.machine.Stage.{Stage}
+use Rattle.run_state.specs.Operands.{Gives}
 use Rattle.run_state.specs.Stands.{Stands}
+use Rattle.run_events.specs.Opens.{IsBefore, StartsFunction}
 use Rattle.run_machine.specs.declared.pick.Pick.{Pick}
 use Rattle.run_machine.specs.declared.pick.Pick.TheVariants as pick
 use Rattle.run_machine.specs.Answering.{Answers, IsWithin, newest_items}
-use Rattle.run_machine.specs.Picks.{ComesNext}
-use Rattle.run_machine.specs.Taking.{IsAt, StandsOpen}
+use Rattle.run_machine.specs.Picks.{ComesNext, whole_part}
+use Rattle.run_machine.specs.Taking.{HasRooms, IsAt, IsPast, StandsOpen}
 
 -- 1. A frame that has started.
 
@@ -37,6 +43,11 @@ abbrev pub ComesToStart : World → (Option ℕ → Meaning) → Machine → Out
 ComesToStart world meaning m o =
     (st : State) × (o ≡ Running st) × (newest_items st.trace ≡ m.items)
     × ((n : Frame) → n.0 ≡ world.number st.top.scene.path → Stands world meaning (numbered m n) st)
+
+-- the state in which this frame has started, at the body of the event; nothing is touched
+abbrev pub started_state : World → State → Place → Local → State
+started_state world st u g =
+    record { top = g; held = (st.top, u) ∷ st.held; store = st.store; trace = entry_of world st.top (Ev u) [] ∷ st.trace }
 
 -- 2. What is asked of an event that is the body of an isolated initializer.
 
@@ -99,3 +110,47 @@ AnswersNextBody old new result =
     (world : World) (meaning : Option ℕ → Meaning) (st : State) (e : Begun) (s : Stage) (u : Place)
     → MayStartNext world meaning old st e s → canonical_pick world st.top st.top.begun ≡ Ev u
     → AnswersStart world meaning result new (step world st (Ev u))
+
+-- 5. The frame of a function.
+
+-- it is to do this body, and takes these arguments as its body block is entered (6.5.2.2p4, p10)
+abbrev pub function_frame : Scene → (node number : ℕ) → Stmt → List Value → Local
+function_frame f node number body vs = record {
+  scene = record { path = (f.turn, node) ∷ f.path; home = (f.turn, node) ∷ f.path; turn = 0; blocks = [] };
+  function = Some number;
+  arguments = vs;
+  todo = To_do body ∷ [];
+  begun = None;
+  result = None;
+}
+
+-- operands that give these values, each from before the rooms of the frame that starts
+abbrev pub ArePassed : Machine → List Operand → List Value → Type 0
+ArePassed m [] [] = Unit {0}
+ArePassed m (o ∷ os) (v ∷ vs) = (IsBefore m.top.base (m.top.base + m.top.rooms) o × Gives m o v) × ArePassed m os vs
+ArePassed m _ _ = ⊥
+
+-- A function's frame has started at a body, which the cursor has passed, of a machine that stands so, with a full expression open in its top frame; the
+-- operands of the call give these values. There is a room for each node, and places of values are below 2^64.
+pub record StartsCall (world : World) (meaning : Option ℕ → Meaning) (old : Machine) (st : State) (e : Begun) (s : Stage) (d : Due) (number : ℕ) (body : Stmt)
+    (os : List Operand) (vs : List Value) (new : Machine) : Type 0 where
+  pub stood : StandsOpen world meaning old st e
+  pub stage : old.top.stage ≡ Some s
+  pub rooms : HasRooms (whole_part old s) old.top.rooms e
+  pub few : old.top.base + old.top.rooms + length os < 2 ^ 64
+  pub kind : d.place.kind ≡ Body
+  pub has : body_of world (Some number) ≡ Some body
+  pub past : Machine
+  pub passes : IsPast s.straight old s d past
+  pub passed : ArePassed past os vs
+  pub who : Event
+  pub node : who.node ≡ d.place.node
+  pub starts : StartsFunction past number os who new
+
+-- Once the frame has the number that the world gives it, the machine stands for the state of the definitions in which the function's frame has started.
+abbrev pub FunctionStands : Type 0
+FunctionStands =
+    (world : World) (meaning : Option ℕ → Meaning) (old : Machine) (st : State) (e : Begun) (s : Stage) (d : Due) (number : ℕ) (body : Stmt)
+    (os : List Operand) (vs : List Value) (new : Machine) (n : Frame) → StartsCall world meaning old st e s d number body os vs new
+    → n.0 ≡ world.number ((st.top.scene.turn, d.place.node) ∷ st.top.scene.path)
+    → Stands world meaning (numbered new n) (started_state world st d.place (function_frame st.top.scene d.place.node number body vs))
