@@ -81,7 +81,7 @@ same_there xs ys j lt kept = (let g = got xs j lt in kept g.0 g.1 ∙ sym g.1)
 
 -- ---- the arguments stand in the first rooms
 -- so many operands behind the first ones
-Behind : List Operand → List Operand → ℕ → Type 0
+abbrev Behind : List Operand → List Operand → ℕ → Type 0
 Behind all os i = (k : ℕ) (o : Operand) → slice_get os k ≡ Some o → slice_get all (i + k) ≡ Some o
 
 one_behind : (all os : List Operand) (o : Operand) (i : ℕ) → Behind all (o ∷ os) i → Behind all os (suc i)

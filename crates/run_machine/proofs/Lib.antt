@@ -2,6 +2,7 @@ mod Answered
 mod Behind
 mod Bodies
 mod Called
+mod Calling
 mod Creating
 mod Deciding
 mod Given

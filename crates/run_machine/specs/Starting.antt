@@ -1,5 +1,5 @@
 -- The event that is taken is a body that starts a frame: what is asked of the machine, and what it stands for then (6.7.9p23).
-use Rattle.std.specs.Prelude.{◌≡◌, ◌+◌, ◌^◌, ◌<◌, ℕ, true, List, [], ◌∷◌, length, Option, Some, None, Result, Ok, Err, slice_get}
+use Rattle.std.specs.Prelude.{◌≡◌, ◌+◌, ◌^◌, ◌<◌, ℕ, suc, Bool, true, List, [], ◌∷◌, length, Option, Some, None, Result, Ok, Err, slice_get}
 use Rattle.std.specs.Borrow.{Bor}
 use Rattle.ub_base.specs.declared.clause.Kind.TheVariants.{Body}
 use Rattle.ub_base.specs.declared.names.Event.{Event}
@@ -7,10 +7,10 @@ use Rattle.ub_base.specs.declared.names.Frame.{Frame}
 use Rattle.c_types.specs.Types.{CType}
 use Rattle.c_typed.specs.declared.tree.Place.{Place}
 use Rattle.c_model.specs.Control.{To_do}
-use Rattle.c_model.specs.Program.{Expr, expr, Exprs, Isolated, Stmt}
-use Rattle.c_model.specs.Runs.{Outcome, Running, State, canonical_pick, entry_of, step}
-use Rattle.c_model.specs.Steps.{Begun, Ev, Local, Scene, at_node, body_of}
-use Rattle.c_model.specs.Values.{Value}
+use Rattle.c_model.specs.Program.{Call, Expr, expr, Exprs, Function, Isolated, Stmt}
+use Rattle.c_model.specs.Runs.{Outcome, Running, State, canonical_pick, depth_of, entry_of, step}
+use Rattle.c_model.specs.Steps.{Begun, Ev, Local, Scene, at_node, body_of, called_by, first_type, function_type, target, values_of}
+use Rattle.c_model.specs.Values.{Value, later_values}
 use Rattle.c_model.specs.World.{World}
 use Rattle.program_view.specs.Trees.{expr_of}
 use Rattle.run_control.specs.View.{Meaning}
@@ -154,3 +154,28 @@ FunctionStands =
     (os : List Operand) (vs : List Value) (new : Machine) (n : Frame) → StartsCall world meaning old st e s d number body os vs new
     → n.0 ≡ world.number ((st.top.scene.turn, d.place.node) ∷ st.top.scene.path)
     → Stands world meaning (numbered new n) (started_state world st d.place (function_frame st.top.scene d.place.node number body vs))
+
+-- The body is that of a call, by its operands, of a function that the program defines, with a type that is compatible with that of the call (6.5.2.2p9); it
+-- passes these values.
+pub record IsCallOf (world : World) (f : Scene) (e : Begun) (u : Place) (number : ℕ) (body : Stmt) (vs : List Value) : Type 0 where
+  pub kind : u.kind ≡ Body
+  pub discarded : Bool
+  pub ty : CType
+  pub line : ℕ
+  pub operands : Exprs
+  pub node : at_node 0 e.root u.node ≡ Some (expr (Call discarded) ty line operands)
+  pub through : CType
+  pub typed : function_type (target (first_type operands)) ≡ Some through
+  pub called : Function
+  pub calls : called_by world (values_of world f e.given (suc u.node) operands) ≡ Some (number, called)
+  pub agrees : world.agree called.ty through ≡ true
+  pub none : called.library ≡ None
+  pub defines : called.body ≡ Some body
+  pub passes : later_values (values_of world f e.given (suc u.node) operands) ≡ vs
+
+-- Within the limits, with fewer frames of functions open than they allow, the function's frame starts in the definitions.
+abbrev pub FunctionSteps : Type 0
+FunctionSteps =
+    (world : World) (st : State) (e : Begun) (u : Place) (number : ℕ) (body : Stmt) (vs : List Value) → st.top.begun ≡ Some e
+    → IsCallOf world st.top.scene e u number body vs → IsWithin world st → depth_of st.top st.held < world.limits.depth
+    → step world st (Ev u) ≡ Running (started_state world st u (function_frame st.top.scene u.node number body vs))

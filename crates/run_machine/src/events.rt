@@ -3,7 +3,7 @@ ghost use Rattle.std.specs.Prelude.{◌≡◌, Some, IfOk, OnOk};
 ghost use Rattle.run_code.specs.Named.{IsDueOf};
 ghost use Rattle.run_machine.specs.Ending.{Notes};
 ghost use Rattle.run_machine.specs.Picks.{event_at, IsOfEvent};
-ghost use Rattle.run_machine.specs.Starting.{AnswersBody};
+ghost use Rattle.run_machine.specs.Starting.{AnswersBody, FunctionStands, FunctionSteps};
 ghost use Rattle.run_machine.specs.Taking.{passed_stage, past_event, AnswersEvent, DecidesBy, FollowsEvent};
 
 use crate::laws::law_events;
@@ -16,6 +16,17 @@ use run_events::{Outcome, choose, perform};
 use run_listing::law_cursor;
 use run_state::{Halt, Machine, Stage};
 use ub_base::{Event, NoMemory};
+
+/// Where a function's frame has started at a body, with the arguments in its first rooms, the machine stands for the state of the definitions in which it has
+/// started, once the frame has its number (`stands`). This is the definitions' next state, within the limits, where the body is that of a call that may call
+/// the function (`steps`).
+pub fn law_calls()
+    ensures stands { FunctionStands }
+    ensures steps { FunctionSteps }
+{
+    law_view();
+    law_cursor();
+}
 
 // The cursor passes the event that is taken.
 fn passed(stage: Option<Stage>) -> Option<Stage>
