@@ -77,3 +77,10 @@ one_passed old m new os room k at next o v rest before here lt gives further cou
     by i z h false is less at_i stands given p filled others_so =
         let lt_k : i < k = less_or_same i k false is (omega (arith, less)) refl in
         others_so (room + i) (apart room i k lt_k) ∙ p.passed i z h lt_k at_i stands given
+
+-- all of them have
+pub all_passed : (old new : Machine) (os : List Operand) (room k at : ℕ) → length os ≤ k → PassesFirst old os room k at new →
+    PassesFirst old os room (length os) (room + length os) new
+all_passed old new os room k at le before few =
+    let p = before few in
+    record { comes = refl; there = p.there; before = p.before; passed = λ i o h lt. p.passed i o h (omega (arith, lt, le)) }
