@@ -54,8 +54,8 @@ module _ (trees : TreesAreKept) (starts : StandsAtStart) (d : Due) (now start do
   pub body_started : p ≡ Ok outcome.Started → (event : Event) → AnswersBody d now done (Ok (pick.Starts event))
   body_started same event = λ world meaning m st e s t.
       initializer_started world meaning m (past_event now) st e s d t.stood
-      (waits_there trees starts world meaning m (past_event now) st e s d t.stood t.stage (passes_so m now s d s.straight refl t.stage t.end t.goes))
-      t.room t.event who node done
+      (waits_there trees starts world meaning m (past_event now) st e s d t.stood t.stage t.rooms (passes_so m now s d s.straight refl t.stage t.end t.goes))
+      t.few t.event who node done
       (opens_so (Ok outcome.Started) same world meaning m st e s t) t.within t.items
 
   pub body_done : (new : Machine) (r : Result Pick Halt) → p ≡ Ok outcome.Done → AnswersBody d now new r
@@ -88,7 +88,8 @@ next_bodies old mid new is next due r f some none canonical answers = λ world m
       items = refl;
       stage = asks.stage;
       end = asks.end;
-      room = asks.room;
+      rooms = asks.rooms;
+      few = asks.few;
       event = asks.each (came.count, due) came.comes;
       goes = at_ready old s due came.count s.straight asks.straight came.comes;
     })))

@@ -10,7 +10,6 @@ use Rattle.std.proofs.Common.{
   ◌<◌,
   ◌≤◌,
   min,
-  true,
   refl,
   sym,
   ap,
@@ -29,40 +28,36 @@ use Rattle.std.proofs.Common.{
   None,
   slice_get,
 }
-use Rattle.std.specs.Prelude.{is_some}
 use Rattle.std.proofs.lemmas.List.{length-reverse, reverse-append}
-use Rattle.ub_base.specs.declared.clause.Kind.TheVariants.{Val, Body}
+use Rattle.ub_base.specs.declared.clause.Kind.TheVariants.{Body}
 use Rattle.ub_base.specs.declared.names.Event.{Event}
 use Rattle.ub_base.specs.declared.names.Frame.{Frame}
 use Rattle.c_typed.specs.declared.tree.Place.{Place}
 use Rattle.c_typed.specs.Order.{place}
-use Rattle.c_model.proofs.Decided.{has_due}
-use Rattle.c_model.specs.ChoiceLaws.{IsClosed}
 use Rattle.c_model.specs.Control.{To_do, ready_work}
-use Rattle.c_model.specs.Program.{Stmt, tree_of}
+use Rattle.c_model.specs.Program.{Stmt}
 use Rattle.c_model.specs.Runs.{State, depth_of}
-use Rattle.c_model.specs.Steps.{Begun, Local, taken_by}
+use Rattle.c_model.specs.Steps.{Begun, Local}
 use Rattle.c_model.specs.Values.{Value}
 use Rattle.c_model.specs.World.{World}
 use Rattle.program_view.specs.Laws.{TreesAreKept}
 use Rattle.prov_memory.proofs.KeepLemmas.{keeps_none}
-use Rattle.prov_memory.specs.Memory.{Kept}
 use Rattle.prov_memory.specs.declared.value.Value.{Value as Kept_value}
 use Rattle.run_control.specs.declared.work.Work.TheVariants as work
 use Rattle.run_control.specs.Stacked.{Stacked}
 use Rattle.run_control.specs.View.{Meaning, stmt_of}
 use Rattle.run_code.specs.declared.steps.Due.{Due}
 use Rattle.run_code.specs.declared.steps.Operand.{Operand}
+use Rattle.run_code.specs.declared.whole.Code.{Code}
 use Rattle.run_listing.specs.Cursor.{StandsAtStart}
 use Rattle.run_state.specs.declared.machine.Machine.{Machine}
 use Rattle.run_state.specs.declared.machine.Open.{Open}
 use Rattle.run_state.specs.declared.machine.Stage.{Stage}
-use Rattle.run_state.specs.Stands.{Holds, HoldsAll, StandFrames, Stands, StandsFrame, StandsOn, frames_of, result_seen}
+use Rattle.run_state.specs.Stands.{HoldsAll, StandFrames, Stands, StandsFrame, StandsOn, frames_of, result_seen}
 use Rattle.run_events.specs.Opens.{HasPassed, IsBefore, StartsFunction, started_on}
-use Rattle.run_machine.specs.Ending.{IsInRooms, KeepsTo, stage_part}
+use Rattle.run_machine.specs.Ending.{KeepToRooms}
 use Rattle.run_machine.specs.Picks.{at_cursor}
-use Rattle.run_machine.specs.Starting.{ArePassed, FunctionStands, StartsCall, function_frame, numbered, started_state}
-use Rattle.run_machine.proofs.Giving.{node_within}
+use Rattle.run_machine.specs.Starting.{ArePassed, FunctionStands, StandsStarted, StartsCall, function_frame, numbered, started_state}
 use Rattle.run_machine.proofs.Objects.{frames_more, with_locals}
 use Rattle.run_machine.proofs.Standing.{frames_under, moved_on}
 use Rattle.run_machine.proofs.Started.{place_is}
@@ -121,28 +116,12 @@ module _ (m new : Machine) (all : List Operand) (room next : ℕ) (is : room ≡
       none_on : (room : ℕ) → room + 0 ≡ room
       none_on room = omega arith
 
--- ---- what is kept of the full expression stands in the rooms of its frame
+-- ---- the frame has started
 module _ (trees : TreesAreKept) (starts : StandsAtStart) (world : World) (meaning : Option ℕ → Meaning) (old : Machine) (st : State) (e : Begun) (s : Stage)
-    (d : Due) (number : ℕ) (body : Stmt) (os : List Operand) (vs : List Value) (new : Machine) (n : Frame)
-    (t : StartsCall world meaning old st e s d number body os vs new)
-    (is : n.0 ≡ world.number ((st.top.scene.turn, d.place.node) ∷ st.top.scene.path)) where
-  given_within : (u : Place) → is_some (e.given u) ≡ true → u.node < old.top.rooms
-  given_within u given =
-      let inside =
-      node_within (taken_by world st.top.scene e) (tree_of e.root) u
-      (has_due (taken_by world st.top.scene e) (tree_of e.root) 0 u ∙ (t.stood.reached u given).due) in
-      let nodes = t.rooms.nodes in
-      omega (arith, inside, nodes)
-
-  in_rooms : IsInRooms (stage_part old.code.now s) old.top.rooms e
-  in_rooms = record {
-    val = λ k given. given_within (place k Val) given;
-    body = λ k given. given_within (place k Body) given;
-    update = t.rooms.within;
-  }
-
+    (d : Due) (number : ℕ) (body : Stmt) (os : List Operand) (vs : List Value) (new : Machine)
+    (t : StartsCall world meaning old st e s d number body os vs new) where
   w : Waits world meaning old t.past st s d.place
-  w = waits_there trees starts world meaning old t.past st e s d t.stood t.stage t.passes
+  w = waits_there trees starts world meaning old t.past st e s d t.stood t.stage t.rooms t.passes
 
   abbrev there : Open
   there = record old.top { stage = Some (record s { cursor = w.cursor }) }
@@ -171,30 +150,6 @@ module _ (trees : TreesAreKept) (starts : StandsAtStart) (world : World) (meanin
   passes : HasPassed before os first (length os) (first + length os) passed
   passes = starts_so.passes (let few = t.few in omega (arith, few))
 
-  -- the machine then
-  abbrev top_then : Open
-  top_then = record (started_on there t.who (Some number) starts_so.opens.code.blocks there.above
-      (min (there.above + starts_so.opens.code.objects) (2 ^ 64 - 1))) { frame = n }
-
-  abbrev with_values : Machine
-  with_values = record old { values = passed.values }
-
-  abbrev moved_values : Machine
-  moved_values = moved_on old with_values top_then
-
-  abbrev with_objects : Machine
-  with_objects = record old { locals = opened.locals }
-
-  abbrev there_then : Machine
-  there_then = record old {
-    below = opened.below;
-    top = top_then;
-    work = opened.work;
-    depth = old.depth + 1;
-    values = passed.values;
-    locals = opened.locals;
-  }
-
   abbrev then_frame : Local
   then_frame = function_frame st.top.scene d.place.node number body vs
 
@@ -204,41 +159,6 @@ module _ (trees : TreesAreKept) (starts : StandsAtStart) (world : World) (meanin
   -- the frames below
   abbrev held : List (Local × Place)
   held = (st.top, d.place) ∷ st.held
-
-  on_it : StandsOn top_then then_frame there st.top (Some d.place)
-  on_it = record {
-    waits = ap (λ (u : Place). Some u) (place_is d.place Body t.kind) ∙ ap (λ (k : ℕ). Some (place k Body)) (sym t.node);
-    path = ap (λ (k : ℕ). (st.top.scene.turn, k) ∷ st.top.scene.path) (sym t.node);
-    rooms = first_is;
-    locals = (refl, refl);
-  }
-
-  rooms_same : (j : ℕ) → j < old.top.base + old.top.rooms → slice_get passed.values.items j ≡ slice_get old.values.items j
-  rooms_same j lt =
-      same_there old.values.items passed.values.items j (let r = t.stood.rooms in omega (arith, lt, r))
-      (λ h at. passes.before j h (let f = first_is in omega (arith, lt, f)) at)
-
-  keeps_below : KeepsTo old.code.now there.rooms there.stage st.top st.top.begun
-  keeps_below =
-      subst (λ (b : Option Begun). KeepsTo old.code.now there.rooms there.stage st.top b) (sym t.stood.begun) (t.stood.arguments, in_rooms)
-
-  held_moved : StandFrames world meaning moved_values None (there ∷ reverse old.below.items) (old.work.now ∷ old.work.below)
-      (map (λ h. (h.0, Some h.1)) held)
-  held_moved =
-      frames_under world old with_values top_then (keeps_none old.memory) (old.top.base + old.top.rooms) (suc (length old.below.items)) rooms_same
-      (λ j b ne at. at) (λ j ne. refl) meaning top_then then_frame (there ∷ reverse old.below.items) (old.work.now ∷ old.work.below) held
-      (let l = length-reverse old.below.items in omega (arith, l)) (omega arith) on_it (keeps_below, t.stood.below) w.frames
-
-  locals_kept : (j : ℕ) (l : _) → slice_get old.locals.items j ≡ Some l → slice_get opened.locals.items j ≡ Some l
-  locals_kept j l at = starts_so.opens.locals j l (ap (λ (k : Machine). slice_get k.locals.items j) starts_so.rest ∙ at)
-
-  held_stand : StandFrames world meaning there_then None (there ∷ reverse old.below.items) (old.work.now ∷ old.work.below)
-      (map (λ h. (h.0, Some h.1)) held)
-  held_stand =
-      frames_aside world meaning (with_locals moved_values with_objects) there_then None (there ∷ reverse old.below.items)
-      (old.work.now ∷ old.work.below) (map (λ h. (h.0, Some h.1)) held)
-      (frames_more world moved_values with_objects locals_kept meaning None (there ∷ reverse old.below.items) (old.work.now ∷ old.work.below)
-      (map (λ h. (h.0, Some h.1)) held) held_moved)
 
   -- the function's own
   does_body : stmt_of (meaning (Some number)) starts_so.opens.body.now ≡ body
@@ -253,25 +173,6 @@ module _ (trees : TreesAreKept) (starts : StandsAtStart) (world : World) (meanin
       there_code =
           ap (λ (k : Machine). slice_get k.code.now.functions.items number) (sym starts_so.rest) ∙ starts_so.opens.there
 
-  top_stands : (height : ℕ) → StandsFrame world (meaning (Some number)) there_then height top_then (work.ToDo starts_so.opens.body ∷ []) old.left then_frame None
-  top_stands height = record {
-    number = is;
-    turn = refl;
-    function = refl;
-    arguments = hold_all before passed os first (first + length os) first_is passes vs given_so;
-    locals = tt;
-    result = sym (ap (result_seen old.memory (Some number)) t.stood.result);
-    control = record {
-      ready = ap (λ (b : Stmt). ready_work (To_do b ∷ [])) does_body;
-      behind = λ open. ap (λ (b : Stmt). To_do b ∷ []) does_body;
-    };
-    begun = refl;
-  }
-
-  -- the frames, from the top one down
-  abbrev Frames : List Open → Stacked → Type 0
-  Frames rest left = StandFrames world meaning there_then old.left (top_then ∷ rest) (left.now ∷ left.below) (frames_of then_state)
-
   turned : reverse opened.below.items ≡ there ∷ reverse old.below.items
   turned =
       ap reverse (starts_so.opens.below ∙ ap (λ (k : Machine). k.below.items ++ k.top ∷ []) starts_so.rest)
@@ -282,26 +183,6 @@ module _ (trees : TreesAreKept) (starts : StandsAtStart) (world : World) (meanin
     where
       left_by : Stacked → Stacked
       left_by k = record { below = k.now ∷ k.below; now = work.ToDo starts_so.opens.body ∷ [] }
-
-  frames_then : Frames (reverse opened.below.items) opened.work
-  frames_then =
-      subst (λ (left : Stacked). Frames (reverse opened.below.items) left) (sym left_so)
-      (subst (λ (rest : List Open). Frames rest (record { below = old.work.now ∷ old.work.below; now = work.ToDo starts_so.opens.body ∷ [] })) (sym turned)
-      (top_stands (length (there ∷ reverse old.below.items)), on_it, held_stand))
-
-  stands_then : Stands world meaning there_then then_state
-  stands_then = record {
-    program = t.stood.stands.program;
-    code = t.stood.stands.code;
-    listed = t.stood.stands.listed;
-    memory = t.stood.stands.memory;
-    tables = record { places = t.stood.stands.tables.places; vias = t.stood.stands.tables.vias; fillings = t.stood.stands.tables.fillings };
-    frames = frames_then;
-    depth = deeper old.depth (depth_of st.top st.held) t.stood.stands.depth;
-  }
-    where
-      deeper : (a b : ℕ) → a ≡ b → a + 1 ≡ 1 + b
-      deeper a b same = omega (arith, same)
 
   -- the machine is so
   opened_is : opened ≡ record before {
@@ -320,14 +201,125 @@ module _ (trees : TreesAreKept) (starts : StandsAtStart) (world : World) (meanin
         locals = opened.locals;
       }) starts_so.rest
 
-  new_is : numbered new n ≡ there_then
-  new_is =
-      ap (λ (k : Machine). numbered k n) starts_so.counted
-      ∙ ap (λ (k : Machine). numbered (record k { depth = old.depth + 1 }) n) opened_is
+  rooms_same : (j : ℕ) → j < old.top.base + old.top.rooms → slice_get passed.values.items j ≡ slice_get old.values.items j
+  rooms_same j lt =
+      same_there old.values.items passed.values.items j (let r = t.stood.rooms in omega (arith, lt, r))
+      (λ h at. passes.before j h (let f = first_is in omega (arith, lt, f)) at)
 
-  pub function_stands_so : Stands world meaning (numbered new n) then_state
-  function_stands_so = subst (λ (k : Machine). Stands world meaning k then_state) (sym new_is) stands_then
+  locals_kept : (j : ℕ) (l : _) → slice_get old.locals.items j ≡ Some l → slice_get opened.locals.items j ≡ Some l
+  locals_kept j l at = starts_so.opens.locals j l (ap (λ (k : Machine). slice_get k.locals.items j) starts_so.rest ∙ at)
+
+  -- .. once it has its number
+  module _ (n : Frame) (is : n.0 ≡ world.number ((st.top.scene.turn, d.place.node) ∷ st.top.scene.path)) where
+    -- the machine then
+    abbrev top_then : Open
+    top_then = record (started_on there t.who (Some number) starts_so.opens.code.blocks there.above
+        (min (there.above + starts_so.opens.code.objects) (2 ^ 64 - 1))) { frame = n }
+
+    abbrev with_values : Machine
+    with_values = record old { values = passed.values }
+
+    abbrev moved_values : Machine
+    moved_values = moved_on old with_values top_then
+
+    abbrev with_objects : Machine
+    with_objects = record old { locals = opened.locals }
+
+    abbrev there_then : Machine
+    there_then = record old {
+      below = opened.below;
+      top = top_then;
+      work = opened.work;
+      depth = old.depth + 1;
+      values = passed.values;
+      locals = opened.locals;
+    }
+
+    on_it : StandsOn top_then then_frame there st.top (Some d.place)
+    on_it = record {
+      waits = ap (λ (u : Place). Some u) (place_is d.place Body t.kind) ∙ ap (λ (k : ℕ). Some (place k Body)) (sym t.node);
+      path = ap (λ (k : ℕ). (st.top.scene.turn, k) ∷ st.top.scene.path) (sym t.node);
+      rooms = first_is;
+      locals = (refl, refl);
+    }
+
+    held_moved : StandFrames world meaning moved_values None (there ∷ reverse old.below.items) (old.work.now ∷ old.work.below)
+        (map (λ h. (h.0, Some h.1)) held)
+    held_moved =
+        frames_under world old with_values top_then (keeps_none old.memory) (old.top.base + old.top.rooms) (suc (length old.below.items)) rooms_same
+        (λ j b ne at. at) (λ j ne. refl) meaning top_then then_frame (there ∷ reverse old.below.items) (old.work.now ∷ old.work.below) held
+        (let l = length-reverse old.below.items in omega (arith, l)) (omega arith) on_it w.keeps w.frames
+
+    held_stand : StandFrames world meaning there_then None (there ∷ reverse old.below.items) (old.work.now ∷ old.work.below)
+        (map (λ h. (h.0, Some h.1)) held)
+    held_stand =
+        frames_aside world meaning (with_locals moved_values with_objects) there_then None (there ∷ reverse old.below.items)
+        (old.work.now ∷ old.work.below) (map (λ h. (h.0, Some h.1)) held)
+        (frames_more world moved_values with_objects locals_kept meaning None (there ∷ reverse old.below.items) (old.work.now ∷ old.work.below)
+        (map (λ h. (h.0, Some h.1)) held) held_moved)
+
+    top_stands : (height : ℕ) → StandsFrame world (meaning (Some number)) there_then height top_then (work.ToDo starts_so.opens.body ∷ []) old.left then_frame None
+    top_stands height = record {
+      number = is;
+      turn = refl;
+      function = refl;
+      arguments = hold_all before passed os first (first + length os) first_is passes vs given_so;
+      locals = tt;
+      result = sym (ap (result_seen old.memory (Some number)) t.stood.result);
+      control = record {
+        ready = ap (λ (b : Stmt). ready_work (To_do b ∷ [])) does_body;
+        behind = λ open. ap (λ (b : Stmt). To_do b ∷ []) does_body;
+      };
+      begun = refl;
+    }
+
+    -- the frames, from the top one down
+    abbrev Frames : List Open → Stacked → Type 0
+    Frames rest left = StandFrames world meaning there_then old.left (top_then ∷ rest) (left.now ∷ left.below) (frames_of then_state)
+
+    frames_then : Frames (reverse opened.below.items) opened.work
+    frames_then =
+        subst (λ (left : Stacked). Frames (reverse opened.below.items) left) (sym left_so)
+        (subst (λ (rest : List Open). Frames rest (record { below = old.work.now ∷ old.work.below; now = work.ToDo starts_so.opens.body ∷ [] })) (sym turned)
+        (top_stands (length (there ∷ reverse old.below.items)), on_it, held_stand))
+
+    stands_then : Stands world meaning there_then then_state
+    stands_then = record {
+      program = t.stood.stands.program;
+      code = t.stood.stands.code;
+      listed = t.stood.stands.listed;
+      memory = t.stood.stands.memory;
+      tables = record { places = t.stood.stands.tables.places; vias = t.stood.stands.tables.vias; fillings = t.stood.stands.tables.fillings };
+      frames = frames_then;
+      depth = deeper old.depth (depth_of st.top st.held) t.stood.stands.depth;
+    }
+      where
+        deeper : (a b : ℕ) → a ≡ b → a + 1 ≡ 1 + b
+        deeper a b same = omega (arith, same)
+
+    new_is : numbered new n ≡ there_then
+    new_is =
+        ap (λ (k : Machine). numbered k n) starts_so.counted
+        ∙ ap (λ (k : Machine). numbered (record k { depth = old.depth + 1 }) n) opened_is
+
+    stands_numbered : Stands world meaning (numbered new n) then_state
+    stands_numbered = subst (λ (k : Machine). Stands world meaning k then_state) (sym new_is) stands_then
+
+  -- the code is as it was
+  code_same : new.code.now ≡ old.code.now
+  code_same = ap (λ (k : Machine). k.code.now) starts_so.counted ∙ ap (λ (k : Machine). k.code.now) opened_is
+
+  below_same : new.below.items ≡ opened.below.items
+  below_same = ap (λ (k : Machine). k.below.items) starts_so.counted
+
+  pub function_stands_so : StandsStarted world meaning new then_state
+  function_stands_so = record {
+    stands = stands_numbered;
+    rooms = subst (λ (c : Code). KeepToRooms c (reverse new.below.items) held) (sym code_same)
+        (subst (λ (rest : List Open). KeepToRooms old.code.now rest held) (sym (ap reverse below_same ∙ turned)) w.keeps);
+    result = ap (λ (k : Machine). k.left) starts_so.counted ∙ ap (λ (k : Machine). k.left) opened_is ∙ t.stood.result;
+  }
 
 pub function_stands : TreesAreKept → StandsAtStart → FunctionStands
-function_stands trees starts world meaning old st e s d number body os vs new n t is =
-    function_stands_so trees starts world meaning old st e s d number body os vs new n t is
+function_stands trees starts world meaning old st e s d number body os vs new t =
+    function_stands_so trees starts world meaning old st e s d number body os vs new t

@@ -19,14 +19,16 @@ use Rattle.run_control.specs.declared.work.Work.TheVariants as work
 use Rattle.run_control.specs.Stacked.{Stacked}
 use Rattle.run_control.specs.View.{Meaning}
 use Rattle.run_code.specs.declared.steps.Due.{Due}
+use Rattle.run_code.specs.declared.whole.Code.{Code}
 use Rattle.run_state.specs.declared.machine.Machine.{Machine}
 use Rattle.run_state.specs.declared.machine.Open.{Open}
 use Rattle.run_state.specs.declared.machine.Stage.{Stage}
 use Rattle.run_state.specs.Stands.{StandFrames, StandLocals, Stands, StandsFrame, StandsOn, frames_of, result_seen}
 use Rattle.run_events.specs.Opens.{StartsInitializer, started_on}
 use Rattle.run_machine.specs.Answering.{IsWithin}
+use Rattle.run_machine.specs.Ending.{KeepToRooms}
 use Rattle.run_machine.specs.Picks.{at_cursor}
-use Rattle.run_machine.specs.Starting.{ComesToStart, IsInitializer, numbered, started_state}
+use Rattle.run_machine.specs.Starting.{ComesToStart, IsInitializer, StandsStarted, numbered, started_state}
 use Rattle.run_machine.specs.Taking.{StandsOpen}
 use Rattle.run_machine.proofs.Opened.{top_frame}
 use Rattle.run_machine.proofs.Still.{frames_aside, tables_aside}
@@ -170,13 +172,20 @@ module _ (world : World) (meaning : Option ℕ → Meaning) (old past : Machine)
         (initializer_steps world st e d.place.node event.tree event.ty event.line event.operands stood.begun event.node
         ∙ initializer_within world st (place d.place.node Body) d.place.node event.tree is)
 
+    code_same : new.code.now ≡ old.code.now
+    code_same = ap (λ (k : Machine). k.code.now) opens.rest
+
+    stands_started : StandsStarted world meaning new then_state
+    stands_started = record {
+      stands = λ n is.
+          subst (λ (k : Machine). Stands world meaning k then_state) (sym (ap (λ (k : Machine). numbered k n) opens.rest)) (stands_then n is);
+      rooms = subst (λ (c : Code). KeepToRooms c (reverse new.below.items) then_state.held) (sym code_same)
+          (subst (λ (os : List Open). KeepToRooms old.code.now os then_state.held) (sym turned) w.keeps);
+      result = ap (λ (k : Machine). k.left) opens.rest ∙ stood.result;
+    }
+
     initializer_comes : IsWithin world st → old.items ≡ [] → ComesToStart world meaning new (step world st (Ev d.place))
-    initializer_comes is items = (
-      then_state,
-      steps_to is,
-      sym (ap (λ (k : Machine). k.items) opens.rest ∙ items),
-      λ n number. subst (λ (k : Machine). Stands world meaning k then_state) (sym (ap (λ (k : Machine). numbered k n) opens.rest)) (stands_then n number),
-    )
+    initializer_comes is items = (then_state, steps_to is, sym (ap (λ (k : Machine). k.items) opens.rest ∙ items), stands_started)
 
   pub initializer_started : (who : Event) → who.node ≡ d.place.node → (new : Machine) → StartsInitializer past event.number who new → IsWithin world st →
       old.items ≡ [] → ComesToStart world meaning new (step world st (Ev d.place))

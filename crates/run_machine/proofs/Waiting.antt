@@ -1,10 +1,15 @@
 -- The frame in which a body waits: the cursor has passed the event, and the frame stands as it stood.
-use Rattle.std.proofs.Common.{◌≡◌, ℕ, suc, ◌+◌, Bool, true, false, refl, sym, ap, ◌∙◌, subst, List, [], ◌∷◌, length, map, reverse, Option, Some, None}
+use Rattle.std.proofs.Common.{◌≡◌, ℕ, suc, ◌+◌, ◌<◌, Bool, true, false, refl, sym, ap, ◌∙◌, subst, arith, List, [], ◌∷◌, length, map, reverse, Option, Some, None}
+use Rattle.std.specs.Prelude.{is_some}
 use Rattle.std.proofs.lemmas.List.{length-reverse}
 use Rattle.std.proofs.lemmas.Option.{same_Some}
+use Rattle.ub_base.specs.declared.clause.Kind.TheVariants.{Val, Body}
 use Rattle.c_typed.specs.declared.tree.Place.{Place}
+use Rattle.c_typed.specs.Order.{place}
+use Rattle.c_model.proofs.Decided.{has_due}
+use Rattle.c_model.specs.Program.{tree_of}
 use Rattle.c_model.specs.Runs.{State}
-use Rattle.c_model.specs.Steps.{Begun, Local, Scene}
+use Rattle.c_model.specs.Steps.{Begun, Local, Scene, taken_by}
 use Rattle.c_model.specs.World.{World}
 use Rattle.program_view.specs.Laws.{TreesAreKept}
 use Rattle.seq_order.specs.Marked.{taken_in}
@@ -18,8 +23,10 @@ use Rattle.run_state.specs.declared.machine.Open.{Open}
 use Rattle.run_state.specs.declared.machine.Stage.{Stage}
 use Rattle.run_state.specs.declared.watch.Begun.{Begun as Shown}
 use Rattle.run_state.specs.Stands.{IsAbove, StandFrames, StandsBegun, StandsDone, StandsExpression, StandsFrame, result_seen}
-use Rattle.run_machine.specs.Picks.{at_cursor, top_of}
-use Rattle.run_machine.specs.Taking.{IsPast, StandsOpen}
+use Rattle.run_machine.specs.Ending.{IsInRooms, KeepsTo, KeepToRooms, stage_part}
+use Rattle.run_machine.specs.Picks.{at_cursor, top_of, whole_part}
+use Rattle.run_machine.specs.Taking.{HasRooms, IsPast, StandsOpen}
+use Rattle.run_machine.proofs.Giving.{node_within}
 use Rattle.run_machine.proofs.Opened.{Opened, opened, top_frame}
 use Rattle.run_machine.proofs.Still.{above_same}
 
@@ -64,9 +71,11 @@ pub record Waits (world : World) (meaning : Option ℕ → Meaning) (old past : 
   pub is : past ≡ at_cursor old s cursor
   pub frames : StandFrames world meaning old None (record old.top { stage = Some (record s { cursor = cursor }) } ∷ reverse old.below.items)
       (old.work.now ∷ old.work.below) ((st.top, Some u) ∷ map (λ h. (h.0, Some h.1)) st.held)
+  pub keeps : KeepToRooms old.code.now (record old.top { stage = Some (record s { cursor = cursor }) } ∷ reverse old.below.items) ((st.top, u) ∷ st.held)
 
 module _ (trees : TreesAreKept) (starts : StandsAtStart) (world : World) (meaning : Option ℕ → Meaning) (old past : Machine) (st : State) (e : Begun)
-    (s : Stage) (d : Due) (stood : StandsOpen world meaning old st e) (stage : old.top.stage ≡ Some s) (passes : IsPast s.straight old s d past) where
+    (s : Stage) (d : Due) (stood : StandsOpen world meaning old st e) (stage : old.top.stage ≡ Some s)
+    (rooms : HasRooms (whole_part old s) old.top.rooms e) (passes : IsPast s.straight old s d past) where
   abbrev height : ℕ
   height = length old.below.items
 
@@ -122,6 +131,25 @@ module _ (trees : TreesAreKept) (starts : StandsAtStart) (world : World) (meanin
         (sym stood.begun) waits_in;
   }
 
+  -- what is kept of the full expression stands in the rooms of its frame
+  given_within : (u : Place) → is_some (e.given u) ≡ true → u.node < old.top.rooms
+  given_within u given =
+      let inside =
+      node_within (taken_by world st.top.scene e) (tree_of e.root) u
+      (has_due (taken_by world st.top.scene e) (tree_of e.root) 0 u ∙ (stood.reached u given).due) in
+      let nodes = rooms.nodes in
+      omega (arith, inside, nodes)
+
+  in_rooms : IsInRooms (stage_part old.code.now s) old.top.rooms e
+  in_rooms = record {
+    val = λ k given. given_within (place k Val) given;
+    body = λ k given. given_within (place k Body) given;
+    update = rooms.within;
+  }
+
+  keeps_there : KeepsTo old.code.now there.rooms there.stage st.top st.top.begun
+  keeps_there = subst (λ (b : Option Begun). KeepsTo old.code.now there.rooms there.stage st.top b) (sym stood.begun) (stood.arguments, in_rooms)
+
   pub waits_there : Waits world meaning old past st s d.place
   waits_there = record {
     cursor = way.cursor;
@@ -134,4 +162,5 @@ module _ (trees : TreesAreKept) (starts : StandsAtStart) (world : World) (meanin
           (record { path = refl; home = refl; blocks = refl }) stood.stands.frames.1,
       stood.stands.frames.2,
     );
+    keeps = (keeps_there, stood.below);
   }

@@ -1,5 +1,5 @@
 -- The event that is taken is a body that starts a frame: what is asked of the machine, and what it stands for then (6.7.9p23).
-use Rattle.std.specs.Prelude.{◌≡◌, ◌+◌, ◌^◌, ◌<◌, ℕ, suc, Bool, true, List, [], ◌∷◌, length, Option, Some, None, Result, Ok, Err, slice_get}
+use Rattle.std.specs.Prelude.{◌≡◌, ◌+◌, ◌^◌, ◌<◌, ℕ, suc, Bool, true, List, [], ◌∷◌, length, reverse, Option, Some, None, Result, Ok, Err, slice_get}
 use Rattle.std.specs.Borrow.{Bor}
 use Rattle.ub_base.specs.declared.clause.Kind.TheVariants.{Body}
 use Rattle.ub_base.specs.declared.names.Event.{Event}
@@ -28,6 +28,7 @@ use Rattle.run_events.specs.Opens.{IsBefore, StartsFunction}
 use Rattle.run_machine.specs.declared.pick.Pick.{Pick}
 use Rattle.run_machine.specs.declared.pick.Pick.TheVariants as pick
 use Rattle.run_machine.specs.Answering.{Answers, IsWithin, newest_items}
+use Rattle.run_machine.specs.Ending.{KeepToRooms}
 use Rattle.run_machine.specs.Picks.{ComesNext, whole_part}
 use Rattle.run_machine.specs.Taking.{HasRooms, IsAt, IsPast, StandsOpen}
 
@@ -37,12 +38,16 @@ use Rattle.run_machine.specs.Taking.{HasRooms, IsAt, IsPast, StandsOpen}
 abbrev pub numbered : Machine → Frame → Machine
 numbered m n = record m { top = record m.top { frame = n } }
 
--- The definitions go on to a state in which a frame has started, with the items of the pick. Once that frame has the number that the world gives it, the
--- machine stands for the state.
+-- Once the frame has the number that the world gives it, the machine stands for the state. The frames below keep their values in their rooms, and there is
+-- no result yet.
+pub record StandsStarted (world : World) (meaning : Option ℕ → Meaning) (m : Machine) (st : State) : Type 0 where
+  pub stands : (n : Frame) → n.0 ≡ world.number st.top.scene.path → Stands world meaning (numbered m n) st
+  pub rooms : KeepToRooms m.code.now (reverse m.below.items) st.held
+  pub result : m.left ≡ None
+
+-- the definitions go on to such a state, with the items of the pick
 abbrev pub ComesToStart : World → (Option ℕ → Meaning) → Machine → Outcome → Type 0
-ComesToStart world meaning m o =
-    (st : State) × (o ≡ Running st) × (newest_items st.trace ≡ m.items)
-    × ((n : Frame) → n.0 ≡ world.number st.top.scene.path → Stands world meaning (numbered m n) st)
+ComesToStart world meaning m o = (st : State) × (o ≡ Running st) × (newest_items st.trace ≡ m.items) × StandsStarted world meaning m st
 
 -- the state in which this frame has started, at the body of the event; nothing is touched
 abbrev pub started_state : World → State → Place → Local → State
@@ -66,7 +71,7 @@ pub record IsInitializer (code : Code) (e : Begun) (d : Due) : Type 0 where
   pub root : expr_of laid.root.now ≡ tree
 
 -- The machine has touched nothing yet, stands for a state within the limits, with a full expression open in its top frame, and has gone on to the event.
--- Places in listings, and of values, are below 2^64.
+-- There is a room for each node; places in listings, and of values, are below 2^64.
 pub record MayStart (world : World) (meaning : Option ℕ → Meaning) (m : Machine) (st : State) (e : Begun) (s : Stage) (d : Due) (now : Machine)
     : Type 0 where
   pub stood : StandsOpen world meaning m st e
@@ -74,7 +79,8 @@ pub record MayStart (world : World) (meaning : Option ℕ → Meaning) (m : Mach
   pub items : m.items ≡ []
   pub stage : m.top.stage ≡ Some s
   pub end : s.end < 2 ^ 64
-  pub room : m.top.base + m.top.rooms < 2 ^ 64
+  pub rooms : HasRooms (whole_part m s) m.top.rooms e
+  pub few : m.top.base + m.top.rooms < 2 ^ 64
   pub event : IsInitializer m.code.now e d
   pub goes : IsAt s.straight m s d now
 
@@ -101,7 +107,8 @@ pub record MayStartNext (world : World) (meaning : Option ℕ → Meaning) (m : 
   pub stage : m.top.stage ≡ Some s
   pub straight : s.straight ≡ true
   pub end : s.end < 2 ^ 64
-  pub room : m.top.base + m.top.rooms < 2 ^ 64
+  pub rooms : HasRooms (whole_part m s) m.top.rooms e
+  pub few : m.top.base + m.top.rooms < 2 ^ 64
   pub each : (next : ℕ × Bor Due) → ComesNext m s (Some next) → IsInitializer m.code.now e next.1.now
 
 -- a canonical pick that is an event
@@ -147,13 +154,12 @@ pub record StartsCall (world : World) (meaning : Option ℕ → Meaning) (old : 
   pub node : who.node ≡ d.place.node
   pub starts : StartsFunction past number os who new
 
--- Once the frame has the number that the world gives it, the machine stands for the state of the definitions in which the function's frame has started.
+-- The machine then stands for the state of the definitions in which the function's frame has started.
 abbrev pub FunctionStands : Type 0
 FunctionStands =
     (world : World) (meaning : Option ℕ → Meaning) (old : Machine) (st : State) (e : Begun) (s : Stage) (d : Due) (number : ℕ) (body : Stmt)
-    (os : List Operand) (vs : List Value) (new : Machine) (n : Frame) → StartsCall world meaning old st e s d number body os vs new
-    → n.0 ≡ world.number ((st.top.scene.turn, d.place.node) ∷ st.top.scene.path)
-    → Stands world meaning (numbered new n) (started_state world st d.place (function_frame st.top.scene d.place.node number body vs))
+    (os : List Operand) (vs : List Value) (new : Machine) → StartsCall world meaning old st e s d number body os vs new
+    → StandsStarted world meaning new (started_state world st d.place (function_frame st.top.scene d.place.node number body vs))
 
 -- The body is that of a call, by its operands, of a function that the program defines, with a type that is compatible with that of the call (6.5.2.2p9); it
 -- passes these values.
