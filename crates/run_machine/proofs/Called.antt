@@ -111,10 +111,13 @@ module _ (m new : Machine) (all : List Operand) (room next : ℕ) (is : room ≡
       one_on room i = omega arith
 
   hold_all : (vs : List Value) → ArePassed m all vs → HoldsAll m.memory new.values.items room vs
-  hold_all vs a = subst (λ (r : ℕ). HoldsAll m.memory new.values.items r vs) (none_on room) (hold_from all vs 0 (λ k o there. there) (omega arith) a)
+  hold_all vs a = subst (λ (r : ℕ). HoldsAll m.memory new.values.items r vs) (none_on room) (hold_from all vs 0 (λ k o there. ap (slice_get all) (none_before k) ∙ there) (omega arith) a)
     where
       none_on : (room : ℕ) → room + 0 ≡ room
       none_on room = omega arith
+
+      none_before : (k : ℕ) → 0 + k ≡ k
+      none_before k = omega arith
 
 -- ---- the frame has started
 module _ (trees : TreesAreKept) (starts : StandsAtStart) (world : World) (meaning : Option ℕ → Meaning) (old : Machine) (st : State) (e : Begun) (s : Stage)
@@ -268,7 +271,7 @@ module _ (trees : TreesAreKept) (starts : StandsAtStart) (world : World) (meanin
       result = sym (ap (result_seen old.memory (Some number)) t.stood.result);
       control = record {
         ready = ap (λ (b : Stmt). ready_work (To_do b ∷ [])) does_body;
-        behind = λ open. ap (λ (b : Stmt). To_do b ∷ []) does_body;
+        behind = λ begun. ap (λ (b : Stmt). To_do b ∷ []) does_body;
       };
       begun = refl;
     }

@@ -115,7 +115,7 @@ module _ (world : World) (meaning : Option ℕ → Meaning) (old past : Machine)
       result = sym (ap (result_seen old.memory None) stood.result);
       control = record {
         ready = ap (λ (r : Expr). ready_work (Begin r Unused ∷ [])) begins;
-        behind = λ open. ap (λ (r : Expr). Begin r Unused ∷ []) begins;
+        behind = λ begun. ap (λ (r : Expr). Begin r Unused ∷ []) begins;
       };
       begun = refl;
     }
