@@ -1,10 +1,10 @@
 -- What is answered to an event that is a body: the frame that the definitions start.
-use Rattle.std.proofs.Common.{◌≡◌, ◌+◌, ◌-◌, ◌^◌, min, ℕ, refl, sym, ap, ◌∙◌, subst, List, [], Option, Some, None, Result, Ok, Err}
+use Rattle.std.proofs.Common.{◌≡◌, ℕ, refl, sym, ap, ◌∙◌, subst, List, [], Option, Some, None, Result, Ok, Err}
 use Rattle.std.specs.Borrow.{Bor}
 use Rattle.ub_base.specs.declared.names.Event.{Event}
 use Rattle.ub_base.specs.declared.names.Item.{Item}
 use Rattle.c_typed.specs.declared.tree.Place.{Place}
-use Rattle.c_model.specs.Runs.{Outcome, State, canonical_pick, chosen_pick, step}
+use Rattle.c_model.specs.Runs.{Outcome, State, chosen_pick, step}
 use Rattle.c_model.specs.Steps.{Begun, Control, Ev}
 use Rattle.c_model.specs.World.{World}
 use Rattle.program_view.specs.Laws.{TreesAreKept}
@@ -26,7 +26,7 @@ use Rattle.run_machine.specs.declared.pick.Pick.{Pick}
 use Rattle.run_machine.specs.declared.pick.Pick.TheVariants as pick
 use Rattle.run_machine.specs.Answering.{Answers}
 use Rattle.run_machine.specs.Picks.{top_of, Follows, TakesCanonical}
-use Rattle.run_machine.specs.Starting.{AnswersBody, AnswersNextBody, AnswersStart, MayStart, MayStartNext}
+use Rattle.run_machine.specs.Starting.{AnswersBody, AnswersNextBody, AnswersStart, MayStart}
 use Rattle.run_machine.specs.Taking.{at_next, past_event}
 use Rattle.run_machine.proofs.Answered.{passes_so}
 use Rattle.run_machine.proofs.Onward.{at_ready, came_next, cleared_open, ev_place}

@@ -30,7 +30,6 @@ use Rattle.std.proofs.Common.{
 }
 use Rattle.std.proofs.lemmas.List.{length-reverse, reverse-append}
 use Rattle.ub_base.specs.declared.clause.Kind.TheVariants.{Body}
-use Rattle.ub_base.specs.declared.names.Event.{Event}
 use Rattle.ub_base.specs.declared.names.Frame.{Frame}
 use Rattle.c_typed.specs.declared.tree.Place.{Place}
 use Rattle.c_typed.specs.Order.{place}
@@ -42,7 +41,6 @@ use Rattle.c_model.specs.Values.{Value}
 use Rattle.c_model.specs.World.{World}
 use Rattle.program_view.specs.Laws.{TreesAreKept}
 use Rattle.prov_memory.proofs.KeepLemmas.{keeps_none}
-use Rattle.prov_memory.specs.declared.value.Value.{Value as Kept_value}
 use Rattle.run_control.specs.declared.work.Work.TheVariants as work
 use Rattle.run_control.specs.Stacked.{Stacked}
 use Rattle.run_control.specs.View.{Meaning, stmt_of}
@@ -61,7 +59,7 @@ use Rattle.run_machine.specs.Starting.{ArePassed, FunctionStands, StandsStarted,
 use Rattle.run_machine.proofs.Objects.{frames_more, with_locals}
 use Rattle.run_machine.proofs.Standing.{frames_under, moved_on}
 use Rattle.run_machine.proofs.Started.{place_is}
-use Rattle.run_machine.proofs.Still.{frames_aside, tables_aside}
+use Rattle.run_machine.proofs.Still.{frames_aside}
 use Rattle.run_machine.proofs.Waiting.{Waits, waits_there}
 
 -- ---- places of lists

@@ -1,8 +1,7 @@
 -- What the definitions do at the body of a call of a function that the program defines.
-use Rattle.std.proofs.Common.{◌≡◌, ℕ, suc, ◌+◌, ◌<◌, ◌≤◌, Bool, true, false, refl, sym, ap, ◌∙◌, subst, arith, List, [], ◌∷◌, Option, Some, None}
+use Rattle.std.proofs.Common.{◌≡◌, ℕ, suc, ◌+◌, ◌<◌, Bool, true, false, refl, sym, ap, ◌∙◌, subst, arith, List, [], ◌∷◌, Option, Some, None}
 use Rattle.std.specs.Prelude.{◌||◌, is_some, if◌then◌else◌, nat_lt}
 use Rattle.std.proofs.lemmas.Bool.Decides.{nat_tests}
-use Rattle.ub_base.specs.declared.clause.Cause.{Cause}
 use Rattle.ub_base.specs.declared.clause.Clause.TheVariants.{IncompatibleCall, InvalidPointer}
 use Rattle.ub_base.specs.declared.clause.Kind.TheVariants.{Body}
 use Rattle.ub_base.specs.declared.names.Event.{Event}
@@ -11,32 +10,9 @@ use Rattle.c_types.specs.Types.{CType}
 use Rattle.c_typed.specs.declared.tree.Place.{Place}
 use Rattle.c_typed.specs.Order.{place}
 use Rattle.c_model.specs.Moves.{Move, Start}
-use Rattle.c_model.specs.Program.{Call, Expr, expr, Exprs, Function, Stmt}
-use Rattle.c_model.specs.Runs.{Outcome, Running, State, acted, depth_of, entry_of, limit_passed, limited, moved, step, within}
-use Rattle.c_model.specs.Steps.{
-  Begun,
-  Ev,
-  Local,
-  Scene,
-  argument_types,
-  at_node,
-  body_frame,
-  call_by,
-  call_through,
-  called_by,
-  does,
-  event_act,
-  event_of,
-  first_type,
-  function_type,
-  library_act,
-  move,
-  move_of,
-  own_body,
-  start_call,
-  target,
-  values_of,
-}
+use Rattle.c_model.specs.Program.{Call, expr, Exprs, Function, Stmt}
+use Rattle.c_model.specs.Runs.{Running, State, acted, depth_of, entry_of, limit_passed, limited, moved, step, within}
+use Rattle.c_model.specs.Steps.{Begun, Ev, Local, argument_types, at_node, body_frame, call_by, call_through, called_by, does, event_act, event_of, first_type, function_type, library_act, move, move_of, own_body, start_call, target, values_of}
 use Rattle.c_model.specs.Values.{Nothing, Value, later_values}
 use Rattle.c_model.specs.World.{World}
 use Rattle.mem_spec.specs.Script.{Give, Script, require, run, ◌>>◌}

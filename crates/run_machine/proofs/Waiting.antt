@@ -1,5 +1,5 @@
 -- The frame in which a body waits: the cursor has passed the event, and the frame stands as it stood.
-use Rattle.std.proofs.Common.{◌≡◌, ℕ, suc, ◌+◌, ◌<◌, Bool, true, false, refl, sym, ap, ◌∙◌, subst, arith, List, [], ◌∷◌, length, map, reverse, Option, Some, None}
+use Rattle.std.proofs.Common.{◌≡◌, ℕ, suc, ◌+◌, ◌<◌, Bool, true, false, refl, sym, ap, ◌∙◌, subst, arith, ◌∷◌, length, map, reverse, Option, Some, None}
 use Rattle.std.specs.Prelude.{is_some}
 use Rattle.std.proofs.lemmas.List.{length-reverse}
 use Rattle.std.proofs.lemmas.Option.{same_Some}
@@ -9,7 +9,7 @@ use Rattle.c_typed.specs.Order.{place}
 use Rattle.c_model.proofs.Decided.{has_due}
 use Rattle.c_model.specs.Program.{tree_of}
 use Rattle.c_model.specs.Runs.{State}
-use Rattle.c_model.specs.Steps.{Begun, Local, Scene, taken_by}
+use Rattle.c_model.specs.Steps.{Begun, Scene, taken_by}
 use Rattle.c_model.specs.World.{World}
 use Rattle.program_view.specs.Laws.{TreesAreKept}
 use Rattle.seq_order.specs.Marked.{taken_in}
@@ -22,7 +22,7 @@ use Rattle.run_state.specs.declared.machine.Machine.{Machine}
 use Rattle.run_state.specs.declared.machine.Open.{Open}
 use Rattle.run_state.specs.declared.machine.Stage.{Stage}
 use Rattle.run_state.specs.declared.watch.Begun.{Begun as Shown}
-use Rattle.run_state.specs.Stands.{IsAbove, StandFrames, StandsBegun, StandsDone, StandsExpression, StandsFrame, result_seen}
+use Rattle.run_state.specs.Stands.{StandFrames, StandsBegun, StandsDone, StandsExpression, StandsFrame, result_seen}
 use Rattle.run_machine.specs.Ending.{IsInRooms, KeepsTo, KeepToRooms, stage_part}
 use Rattle.run_machine.specs.Picks.{at_cursor, top_of, whole_part}
 use Rattle.run_machine.specs.Taking.{HasRooms, IsPast, StandsOpen}
