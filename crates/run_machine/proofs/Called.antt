@@ -109,7 +109,9 @@ module _ (m new : Machine) (all : List Operand) (room next : ℕ) (is : room ≡
       one_on room i = omega arith
 
   hold_all : (vs : List Value) → ArePassed m all vs → HoldsAll m.memory new.values.items room vs
-  hold_all vs a = subst (λ (r : ℕ). HoldsAll m.memory new.values.items r vs) (none_on room) (hold_from all vs 0 (λ k o there. ap (slice_get all) (none_before k) ∙ there) (omega arith) a)
+  hold_all vs a =
+      subst (λ (r : ℕ). HoldsAll m.memory new.values.items r vs) (none_on room)
+      (hold_from all vs 0 (λ k o there. ap (slice_get all) (none_before k) ∙ there) (omega arith) a)
     where
       none_on : (room : ℕ) → room + 0 ≡ room
       none_on room = omega arith
@@ -259,7 +261,8 @@ module _ (trees : TreesAreKept) (starts : StandsAtStart) (world : World) (meanin
         (frames_more world moved_values with_objects locals_kept meaning None (there ∷ reverse old.below.items) (old.work.now ∷ old.work.below)
         (map (λ h. (h.0, Some h.1)) held) held_moved)
 
-    top_stands : (height : ℕ) → StandsFrame world (meaning (Some number)) there_then height top_then (work.ToDo starts_so.opens.body ∷ []) old.left then_frame None
+    top_stands : (height : ℕ) →
+        StandsFrame world (meaning (Some number)) there_then height top_then (work.ToDo starts_so.opens.body ∷ []) old.left then_frame None
     top_stands height = record {
       number = is;
       turn = refl;

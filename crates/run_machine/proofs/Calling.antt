@@ -12,7 +12,29 @@ use Rattle.c_typed.specs.Order.{place}
 use Rattle.c_model.specs.Moves.{Move, Start}
 use Rattle.c_model.specs.Program.{Call, expr, Exprs, Function, Stmt}
 use Rattle.c_model.specs.Runs.{Running, State, acted, depth_of, entry_of, limit_passed, limited, moved, step, within}
-use Rattle.c_model.specs.Steps.{Begun, Ev, Local, argument_types, at_node, body_frame, call_by, call_through, called_by, does, event_act, event_of, first_type, function_type, library_act, move, move_of, own_body, start_call, target, values_of}
+use Rattle.c_model.specs.Steps.{
+  Begun,
+  Ev,
+  Local,
+  argument_types,
+  at_node,
+  body_frame,
+  call_by,
+  call_through,
+  called_by,
+  does,
+  event_act,
+  event_of,
+  first_type,
+  function_type,
+  library_act,
+  move,
+  move_of,
+  own_body,
+  start_call,
+  target,
+  values_of,
+}
 use Rattle.c_model.specs.Values.{Nothing, Value, later_values}
 use Rattle.c_model.specs.World.{World}
 use Rattle.mem_spec.specs.Script.{Give, Script, require, run, ◌>>◌}

@@ -75,7 +75,8 @@ initializer_within world st u n tree is =
 
 -- ---- the frame has started
 module _ (world : World) (meaning : Option ℕ → Meaning) (old past : Machine) (st : State) (e : Begun) (s : Stage) (d : Due)
-    (stood : StandsOpen world meaning old st e) (w : Waits world meaning old past st s d.place) (few : old.top.base + old.top.rooms < 2 ^ 64) (event : IsInitializer old.code.now e d) where
+    (stood : StandsOpen world meaning old st e) (w : Waits world meaning old past st s d.place) (few : old.top.base + old.top.rooms < 2 ^ 64)
+    (event : IsInitializer old.code.now e d) where
   frame : StandsFrame world (meaning old.top.function) old (length old.below.items) old.top old.work.now old.left st.top None
   frame = top_frame world meaning old st stood.stands
 
