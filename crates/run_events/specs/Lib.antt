@@ -6,3 +6,4 @@ pub mod Nodes
 pub mod Takes
 pub mod Choices
 pub mod Ways
+pub mod Opens

@@ -14,6 +14,7 @@ ghost use Rattle.run_code.specs.declared.steps.Act.TheVariants as acts;
 ghost use Rattle.run_code.specs.declared.steps.Operand.TheVariants as operands;
 ghost use Rattle.run_state.specs.Stands.{StandsTables};
 ghost use Rattle.run_events.specs.Acts.{either_truth, filled_from, given_by, stored_by, is_body_act, AreGiven, IsGiven};
+ghost use Rattle.run_events.specs.Opens.{Opens};
 ghost use Rattle.run_events.specs.Performs.{gives_value, is_pointer_act, CanAct, CanPerform, CanPut, ChangesOnly, Does, Effects, Performs, Puts, TouchesMemory, TouchesSpare};
 
 use crate::fault::Fault;
@@ -54,6 +55,7 @@ pub fn perform(machine: &mut Machine, act: &Act, event: Event) -> Result<Outcome
     ensures exact { (rows : List Row) → CanPerform rows machine.old → AreGiven machine.old event act.now → is_body_act act.now ≡ false → Performs rows machine.old machine.new event act.now result }
     ensures changes { is_body_act act.now ≡ false → ChangesOnly machine.old machine.new event.node act.now }
     ensures effect { is_body_act act.now ≡ false → gives_value act.now ≡ false → machine.new.values ≡ machine.old.values }
+    ensures bodies { Opens machine.old act.now event machine.new result }
 {
     match act {
         Act::Store {

@@ -1,5 +1,7 @@
 // The bodies of calls, and the frames that they start.
+ghost use Rattle.std.specs.Prelude.{OnOk};
 ghost use Rattle.run_events.specs.Depth.{StartsWithin};
+ghost use Rattle.run_events.specs.Opens.{started_on, IsOnTop, OpensInitializer};
 
 use crate::acts::{Outcome, function_value};
 use crate::fault::Fault;
@@ -135,7 +137,9 @@ fn function_code<'c>(
 
 // The frame of an isolated initializer, by its full expression, which sees the objects of the frame below.
 #[inline(never)]
-pub fn initialize(machine: &mut Machine, number: u32, event: Event) -> Result<Outcome, Fault> {
+pub fn initialize(machine: &mut Machine, number: u32, event: Event) -> Result<Outcome, Fault>
+    ensures opens { OpensInitializer machine.old number event machine.new result }
+{
     machine.work.start_initializer(number)?;
     let locals = (machine.top.locals, machine.top.above);
     let blocks = machine.top.blocks;
@@ -159,7 +163,9 @@ fn open_frame(
     blocks: u32,
     locals: (usize, usize),
     event: Event,
-) -> Result<(), NoMemory> {
+) -> Result<(), NoMemory>
+    ensures { OnOk result (IsOnTop machine.old (started_on machine.old.top event function blocks locals.0 locals.1) machine.new) }
+{
     machine.below.push(machine.top)?;
     machine.top = Open {
         frame: event.frame,

@@ -98,7 +98,7 @@ taken_within (suc k) (y ∷ ys) (suc n) x e = (let lt = taken_within k ys n x e 
 one_on : (c n end : ℕ) → n < end - c → end < 2 ^ 64 → min (min (c + n) (2 ^ 64 - 1) + 1) (2 ^ 64 - 1) ≡ suc (c + n)
 one_on c n end lt few = omega (arith, lt, few)
 
-passes_so : (m now : Machine) (s : Stage) (d : Due) (straight : Bool) → s.straight ≡ straight → m.top.stage ≡ Some s → s.end < 2 ^ 64 →
+pub passes_so : (m now : Machine) (s : Stage) (d : Due) (straight : Bool) → s.straight ≡ straight → m.top.stage ≡ Some s → s.end < 2 ^ 64 →
     IsAt straight m s d now → IsPast straight m s d (past_event now)
 passes_so m now s d true is stage few at =
     let n = at.1.0 in

@@ -1,5 +1,8 @@
 mod Answered
 mod Behind
+mod Bodies
+mod Called
+mod Calling
 mod Creating
 mod Deciding
 mod Given
@@ -9,6 +12,7 @@ mod Laying
 mod Leaving
 mod Left
 mod Lives
+mod Objects
 mod Onward
 mod Opened
 mod Parts
@@ -17,8 +21,10 @@ mod Results
 mod Returning
 mod Rooms
 mod Standing
+mod Started
 mod Staying
 mod Steering
 mod Still
 mod Taken
 mod Unwriting
+mod Waiting

@@ -32,7 +32,7 @@ along old new s b due straight is top way =
     let w = subst (λ (t : Bool). ByWay t old s b new (Some due)) is way in
     record { count = w.0; comes = (b, top, w.1); is = w.2 }
 
-came_next : (old new : Machine) (s : Stage) (due : Bor Due) (stage : Option Stage) (top : Option Shown) → s.straight ≡ true → stage ≡ Some s →
+pub came_next : (old new : Machine) (s : Stage) (due : Bor Due) (stage : Option Stage) (top : Option Shown) → s.straight ≡ true → stage ≡ Some s →
     top_of old ≡ top → FollowsIn old stage top new (Some due) → CameNext old s new due
 came_next old new s due None top straight is at f = absurd (cc)
 came_next old new s due (Some r) None straight is at f = absurd f
@@ -40,7 +40,7 @@ came_next old new s due (Some r) (Some b) straight is at f =
     along old new s b due s.straight straight at (subst (λ (z : Stage). ByWay z.straight old z b new (Some due)) (same_Some r s is) f)
 
 -- ---- a machine that has touched nothing stands as before
-cleared_open : (world : World) (meaning : Option ℕ → Meaning) (m : Machine) (st : State) (e : Begun) → StandsOpen world meaning m st e →
+pub cleared_open : (world : World) (meaning : Option ℕ → Meaning) (m : Machine) (st : State) (e : Begun) → StandsOpen world meaning m st e →
     StandsOpen world meaning (record m { items = [] }) st e
 cleared_open world meaning m st e o = record {
   stands = items_stand world meaning m [] m.spare st o.stands;
@@ -53,10 +53,10 @@ cleared_open world meaning m st e o = record {
   below = o.below;
 }
 
-ev_place : (u v : Place) → Ev u ≡ Ev v → u ≡ v
+pub ev_place : (u v : Place) → Ev u ≡ Ev v → u ≡ v
 ev_place u v h = cc
 
-at_ready : (old : Machine) (s : Stage) (due : Bor Due) (n : ℕ) (straight : Bool) → straight ≡ true → ComesNext old s (Some (n, due)) →
+pub at_ready : (old : Machine) (s : Stage) (due : Bor Due) (n : ℕ) (straight : Bool) → straight ≡ true → ComesNext old s (Some (n, due)) →
     IsAt straight (record old { items = [] }) s due.now (at_next old s n)
 at_ready old s due n true is comes = (comes.0, (n, due), comes.1, refl, comes.2, refl)
 at_ready old s due n false is comes = absurd (cc)

@@ -3,16 +3,30 @@ ghost use Rattle.std.specs.Prelude.{◌≡◌, Some, IfOk, OnOk};
 ghost use Rattle.run_code.specs.Named.{IsDueOf};
 ghost use Rattle.run_machine.specs.Ending.{Notes};
 ghost use Rattle.run_machine.specs.Picks.{event_at, IsOfEvent};
+ghost use Rattle.run_machine.specs.Starting.{AnswersBody, FunctionStands, FunctionSteps};
 ghost use Rattle.run_machine.specs.Taking.{past_event, AnswersEvent, DecidesBy, FollowsEvent};
 
 use crate::laws::law_events;
 use crate::pick::Pick;
 use crate::picks::completed;
 use c_typed::Place;
+use program_view::law_view;
 use run_code::{Code, Due};
 use run_events::{Outcome, choose, perform};
+use run_listing::law_cursor;
 use run_state::{Halt, Machine};
 use ub_base::{Event, NoMemory};
+
+/// Where a function's frame has started at a body, with the arguments in its first rooms, the machine stands for the state of the definitions in which it has
+/// started, once the frame has its number (`stands`). This is the definitions' next state, within the limits, where the body is that of a call that may call
+/// the function (`steps`).
+pub fn law_calls()
+    ensures stands { FunctionStands }
+    ensures steps { FunctionSteps }
+{
+    law_view();
+    law_cursor();
+}
 
 // The cursor passes the event that is taken.
 fn pass_event(machine: &mut Machine)
@@ -32,8 +46,11 @@ pub fn take_event(machine: &mut Machine, due: &Due) -> Result<Pick, Halt>
     requires named { IsDueOf machine.old.code.now.tables due.now }
     ensures event { IfOk result (IsOfEvent (event_at machine.old due.now.place)) }
     ensures answers { AnswersEvent due.now machine.old machine.new result }
+    ensures bodies { AnswersBody due.now machine.old machine.new result }
 {
     law_events();
+    law_view();
+    law_cursor();
     let code = machine.code;
     let event = Event {
         frame: machine.top.frame,

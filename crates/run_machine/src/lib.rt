@@ -9,6 +9,7 @@ mod pick;
 mod picks;
 
 pub use control::MOST_CREATED;
+pub use events::law_calls;
 pub use laws::{law_events, law_picks};
 pub use pick::{Completed, Pick};
 pub use picks::{canonical, single};

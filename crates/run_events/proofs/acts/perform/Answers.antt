@@ -1,6 +1,9 @@
-use Rattle.std.proofs.Common.{◌≡◌, true, false, ap, sym, ◌∙◌}
+use Rattle.std.proofs.Common.{◌≡◌, true, false, ap, sym, subst, ◌∙◌}
+use Rattle.run_code.specs.declared.steps.Act.{Act}
 use Rattle.run_events.specs.Acts.{is_body_act}
+use Rattle.run_events.specs.Opens.{Opens}
 use Rattle.run_events.specs.Performs.{gives_value}
+use Rattle.run_events.proofs.Opening.{opens_none}
 use Rattle.run_events.proofs.Performing.{fill_performs, no_effect, store_performs, value_performs}
 use Rattle.run_events.proofs.Rooms.{touches_all}
 use Rattle.run_events.proofs.acts.perform.Goals as goal
@@ -59,3 +62,27 @@ returns-in_default-clause-effect c = λ plain none.
     let gives : gives_value c.args.act.now ≡ true =
     no_effect c.args.act.now c.in_default.not-Store c.in_default.not-Fill c.in_default.not-Call c.in_default.not-Initialize in
     absurd (cc)
+
+pub returns-in-Store-clause-bodies : goal.returns-in-Store-clause-bodies
+returns-in-Store-clause-bodies c =
+    opens_none c.args.machine.now c.store_value.new.machine c.args.act.now c.args.event c.store_value.result
+    (λ n is. let e = c.in-Store.is in cc)
+
+pub returns-in-Fill-clause-bodies : goal.returns-in-Fill-clause-bodies
+returns-in-Fill-clause-bodies c =
+    opens_none c.args.machine.now c.fill_list.new.machine c.args.act.now c.args.event c.fill_list.result
+    (λ n is. let e = c.in-Fill.is in cc)
+
+pub returns-in-Call-clause-bodies : goal.returns-in-Call-clause-bodies
+returns-in-Call-clause-bodies c =
+    opens_none c.args.machine.now c.call_of.new.machine c.args.act.now c.args.event c.call_of.result
+    (λ n is. let e = c.in-Call.is in cc)
+
+pub returns-in-Initialize-clause-bodies : goal.returns-in-Initialize-clause-bodies
+returns-in-Initialize-clause-bodies c =
+    subst (λ (a : Act). Opens c.args.machine.now a c.args.event c.initialize.new.machine c.initialize.result) (sym c.in-Initialize.is)
+    c.initialize.ensures.opens
+
+pub returns-in_default-clause-bodies : goal.returns-in_default-clause-bodies
+returns-in_default-clause-bodies c =
+    opens_none c.args.machine.now c.value_act.new.machine c.args.act.now c.args.event c.value_act.result c.in_default.not-Initialize

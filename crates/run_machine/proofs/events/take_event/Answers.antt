@@ -1,8 +1,8 @@
-use Rattle.std.proofs.Common.{◌≡◌, ◌∙◌, ap, Ok}
+use Rattle.std.proofs.Common.{◌≡◌, ◌∙◌, ap, refl, Ok}
 use Rattle.run_machine.specs.declared.pick.Pick.TheVariants as pick
 use Rattle.run_machine.specs.Picks.{event_at}
 use Rattle.run_machine.proofs.Answered.{taken_done, taken_ended, taken_started, taken_stopped}
-use Rattle.run_machine.proofs.Onward.{next_answers, none_next}
+use Rattle.run_machine.proofs.Bodies.{body_done, body_ended, body_started, body_stopped}
 use Rattle.run_machine.proofs.events.take_event.Goals as goal
 
 pub returns-in-Ok-Done-clause-answers : goal.returns-in-Ok-Done-clause-answers
@@ -29,3 +29,27 @@ returns-in-Err-clause-answers c =
     taken_stopped c.law_events.ensures.stands c.law_events.ensures.steps c.args.due.now c.args.machine.now c.pass_event.new.machine c.perform.new.machine
     c.perform.new.machine c.perform.result (Ok (pick.Starts (event_at c.args.machine.now c.args.due.now.place))) c.pass_event.ensures
     (c.perform.ensures.exact, c.perform.ensures.changes, c.perform.ensures.effect) c.in-Err.fault c.args.due.now.line c.of.result c.in-Err.is c.of.ensures
+
+pub returns-in-Ok-Done-clause-bodies : goal.returns-in-Ok-Done-clause-bodies
+returns-in-Ok-Done-clause-bodies c =
+    body_done c.law_view.ensures.trees c.law_cursor.ensures.starts c.args.due.now c.args.machine.now c.pass_event.new.machine c.perform.new.machine
+    (event_at c.args.machine.now c.args.due.now.place) refl c.perform.result c.pass_event.ensures c.perform.ensures.bodies
+    c.finish_event.new.machine c.finish_event.result (c.in-Ok-Done.is ∙ ap Ok c.in-Ok-Done.field-0-is)
+
+pub returns-in-Ok-Started-clause-bodies : goal.returns-in-Ok-Started-clause-bodies
+returns-in-Ok-Started-clause-bodies c =
+    body_started c.law_view.ensures.trees c.law_cursor.ensures.starts c.args.due.now c.args.machine.now c.pass_event.new.machine c.perform.new.machine
+    (event_at c.args.machine.now c.args.due.now.place) refl c.perform.result c.pass_event.ensures c.perform.ensures.bodies
+    (c.in-Ok-Started.is ∙ ap Ok c.in-Ok-Started.field-0-is) (event_at c.args.machine.now c.args.due.now.place)
+
+pub returns-in-Ok-End-clause-bodies : goal.returns-in-Ok-End-clause-bodies
+returns-in-Ok-End-clause-bodies c =
+    body_ended c.law_view.ensures.trees c.law_cursor.ensures.starts c.args.due.now c.args.machine.now c.pass_event.new.machine c.perform.new.machine
+    (event_at c.args.machine.now c.args.due.now.place) refl c.perform.result c.pass_event.ensures c.perform.ensures.bodies
+    c.finish_event-in-Ok-End.new.machine c.finish_event-in-Ok-End.result _ (c.in-Ok-End.is ∙ ap Ok c.in-Ok-End.field-0-is)
+
+pub returns-in-Err-clause-bodies : goal.returns-in-Err-clause-bodies
+returns-in-Err-clause-bodies c =
+    body_stopped c.law_view.ensures.trees c.law_cursor.ensures.starts c.args.due.now c.args.machine.now c.pass_event.new.machine c.perform.new.machine
+    (event_at c.args.machine.now c.args.due.now.place) refl c.perform.result c.pass_event.ensures c.perform.ensures.bodies c.in-Err.fault
+    c.args.due.now.line c.of.result c.in-Err.is c.of.ensures
