@@ -1,7 +1,9 @@
 mod Answered
+mod Aside
 mod Behind
 mod Creating
 mod Deciding
+mod Finished
 mod Given
 mod Giving
 mod Going
@@ -16,6 +18,8 @@ mod Picked
 mod Results
 mod Returning
 mod Rooms
+mod RootValue
+mod Settling
 mod Standing
 mod Staying
 mod Steering

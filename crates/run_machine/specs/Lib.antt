@@ -5,3 +5,4 @@ pub mod Leaving
 pub mod Ending
 pub mod Ended
 pub mod Taking
+pub mod Settling
