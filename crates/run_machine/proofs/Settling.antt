@@ -356,39 +356,36 @@ EndsThen m2 m3 r = (k : Meaning) → is_nothing (ready_work (todo_of k m2.work.n
 abbrev pub closed_in : Machine → Machine
 closed_in m = record m { top = record m.top { stage = None } }
 
-module _ (m m2 m3 : Machine) (stage : Stage) (world : World) (meaning : Option ℕ → Meaning) (st : State)
-    (used : HasUsed (closed_in m) m.top.how stage.value m2) (is : m.top.stage ≡ Some stage) (s : Stands world meaning m st) (limits : IsWithin world st)
-    (items : m.items ≡ []) (x : Settles world meaning m stage st) where
+-- what is left to do behind the full expression
+abbrev todo_after : (world : World) (meaning : Option ℕ → Meaning) (m : Machine) (stage : Stage) (st : State) → Settles world meaning m stage st → Todo
+todo_after world meaning m stage st x = (settled st.top (root_value world st.top x.e) x.e.what).todo
+
+module _ (m m2 m3 : Machine) (stage : Stage) (world : World) (meaning : Option ℕ → Meaning) (st : State) (is : m.top.stage ≡ Some stage)
+    (s : Stands world meaning m st) (limits : IsWithin world st) (items : m.items ≡ []) (x : Settles world meaning m stage st)
+    (rest : m2 ≡ record (closed_in m) { work = m2.work; left = m2.left }) (below : m2.work.below ≡ m.work.below)
+    (now : todo_of (meaning m.top.function) m2.work.now ≡ todo_after world meaning m stage st x)
+    (left : m2.left ≡ left_by m.top.how x.value m.left) where
   abbrev k : Meaning
   k = meaning m.top.function
 
   abbrev after_todo : Todo
-  after_todo = (settled st.top (root_value world st.top x.e) x.e.what).todo
-
-  gives : operand_in (closed_in m) stage.value ≡ Some x.value
-  gives = operand_closed m m.left None stage.value ∙ x.gives
-
-  now : todo_of k m2.work.now ≡ after_todo
-  now = used_todo world meaning m stage st is s x m2.work.now (used.now x.value gives m.memory k)
-
-  left : m2.left ≡ left_by m.top.how x.value m.left
-  left = used.left x.value gives
+  after_todo = todo_after world meaning m stage st x
 
   whole : m2 ≡ settled_in m m2.work.now m2.left
-  whole = used.rest
+  whole = rest
       ∙ ap (λ (bs : List (List Work)). record m { top = record m.top { stage = None }; work = record { below = bs; now = m2.work.now }; left = m2.left })
-      used.below
+      below
 
   goes_on : (r : Result (Option ℕ) Halt) → is_nothing (ready_work after_todo) ≡ false → OnOk r ((j : Meaning) → GoesOn j m2.work m3.work) →
       GoesStill m2 m3 r → Answers world meaning r m3 (step world st Control)
   goes_on (Err halt) on goes stays = no_memory world meaning m3 (step world st Control) halt stays
   goes_on (Ok status) on goes stays =
       let still = (goes k).on (ap (λ (t : Todo). is_nothing (ready_work t)) now ∙ on) in
-      let below : m3.work.below ≡ m.work.below = still.0 ∙ used.below in
+      let under : m3.work.below ≡ m.work.below = still.0 ∙ below in
       let full : m3 ≡ settled_in m m3.work.now m2.left =
-          stays.1 ∙ ap (λ (y : Machine). record y { work = m3.work }) used.rest
+          stays.1 ∙ ap (λ (y : Machine). record y { work = m3.work }) rest
           ∙ ap (λ (bs : List (List Work)). record m { top = record m.top { stage = None }; work = record { below = bs; now = m3.work.now }; left = m2.left })
-          below in
+          under in
       let answer = settled_so world meaning m stage st is s x m3.work.now m2.left limits on (still.1 ∙ ap ready_work now) left items in
       subst (λ (o : Option ℕ). Answers world meaning (Ok o) m3 (step world st Control)) (sym stays.0)
       (subst (λ (y : Machine). Answers world meaning (Ok None) y (step world st Control)) (sym full) answer)
@@ -410,9 +407,12 @@ pub settle_answers : QuietGives → RoomGives → (m m2 m3 : Machine) (stage : S
     HasUsed (closed_in m) m.top.how stage.value m2 → OnOk r ((k : Meaning) → GoesOn k m2.work m3.work) → StillGoes m2 m3 r → EndsThen m2 m3 r →
     m.top.stage ≡ Some stage → AnswersControl m m3 r
 settle_answers quiet room m m2 m3 stage r used goes still ends is = λ world meaning st s may items.
+    let k = meaning m.top.function in
     let x = settles quiet room world meaning m stage st is s may items in
-    settled_by m m2 m3 stage world meaning st used is s may.within items x r goes still ends
-    (is_nothing (ready_work (settled st.top (root_value world st.top x.e) x.e.what).todo)) refl
+    let gives : operand_in (closed_in m) stage.value ≡ Some x.value = operand_closed m m.left None stage.value ∙ x.gives in
+    settled_by m m2 m3 stage world meaning st is s may.within items x used.rest used.below
+    (used_todo world meaning m stage st is s x m2.work.now (used.now x.value gives m.memory k)) (used.left x.value gives) r goes still ends
+    (is_nothing (ready_work (todo_after world meaning m stage st x))) refl
 
 -- of the test of a `switch` nothing is said
 pub select_untold : QuietGives → RoomGives → (m n : Machine) (stage : Stage) (b : Bor Switch) (r : Result (Option ℕ) Halt) →
