@@ -80,9 +80,9 @@ use Rattle.run_machine.proofs.Staying.{no_memory}
 use Rattle.run_machine.proofs.Still.{above_same, depth_same, frame_aside, frames_aside, tables_aside}
 
 -- ---- the definitions
-module _ (world : World) (st : State) (e : Begun) (open : st.top.begun ≡ Some e) where
+module _ (world : World) (st : State) (e : Begun) (begun : st.top.begun ≡ Some e) where
   abbrev pub settled_top : Local
-  settled_top = settled st.top (root_value world st.top e) e.what
+  settled_top = settled world st.top (root_value world st.top e) e.what
 
   abbrev pub trace_after : List Entry
   trace_after = entry_of world st.top Control [] ∷ st.trace
@@ -95,14 +95,14 @@ module _ (world : World) (st : State) (e : Begun) (open : st.top.begun ≡ Some 
 
   moves_by : (b : Bool) → ends_here ≡ b → move world st.top st.top.begun Control ≡ (if b then End else Stay)
   moves_by b is =
-      ap (λ (x : Option Begun). move world st.top x Control) open ∙ ap (λ (c : Bool). let k : Move Local = (if c then End else Stay) in k) is
+      ap (λ (x : Option Begun). move world st.top x Control) begun ∙ ap (λ (c : Bool). let k : Move Local = (if c then End else Stay) in k) is
 
   steps_by : (k : Move Local) → move world st.top st.top.begun Control ≡ k →
       step world st Control ≡ limited world.limits (moved world st Control k (result_of world st.top) st.store trace_after)
   steps_by k is =
       ap (λ (l : Option _). within l (acted world st Control (run world.rows (does world st.top st.top.begun Control) st.store)))
-      (ap (λ (b : Option Begun). if is_some b then None else block_passes world.limits st.store (ready_work st.top.todo)) open)
-      ∙ ap (acted world st Control) (ap (λ (b : Option Begun). run world.rows (does world st.top b Control) st.store) open)
+      (ap (λ (b : Option Begun). if is_some b then None else block_passes world.limits st.store (ready_work st.top.todo)) begun)
+      ∙ ap (acted world st Control) (ap (λ (b : Option Begun). run world.rows (does world st.top b Control) st.store) begun)
       ∙ ap (λ (j : Move Local). limited world.limits (moved world st Control j (result_of world st.top) st.store trace_after)) is
 
   depth_after : limit_passed world.limits (depth_of st.top st.held) st.store ≡ None →
@@ -118,7 +118,7 @@ module _ (world : World) (st : State) (e : Begun) (open : st.top.begun ≡ Some 
         held = st.held;
         store = st.store;
         trace = trace_after;
-      }))) open
+      }))) begun
       ∙ ap (λ (l : Option _). within l (Running settled_state)) (depth_after limits)
 
   -- .. or ends
@@ -137,16 +137,16 @@ after_same m b z (for_use.GoRound s) rest h = refl
 after_same m b z (for_use.GoAgain s) rest h = refl
 after_same m b z for_use.Result rest h = refl
 
-result_left : (meaning : Meaning) (k : Kept) (n : Option ℕ) (how : Use) (h : Kept_value) (left : Option Kept_value) (result : Option Value) →
+result_left : (world : World) (meaning : Meaning) (k : Kept) (n : Option ℕ) (how : Use) (h : Kept_value) (left : Option Kept_value) (result : Option Value) →
     result ≡ result_seen k n left →
-    (if is_result (use_of meaning how) then Some (value_in k h) else result) ≡ result_seen k n (left_by how h left)
-result_left meaning k n for_use.Unused h left result is = is
-result_left meaning k n (for_use.Branch s t) h left result is = is
-result_left meaning k n (for_use.Enter s) h left result is = is
-result_left meaning k n (for_use.Select s) h left result is = is
-result_left meaning k n (for_use.GoRound s) h left result is = is
-result_left meaning k n (for_use.GoAgain s) h left result is = is
-result_left meaning k n for_use.Result h left result is = refl
+    (if is_result world (use_of meaning how) then Some (value_in k h) else result) ≡ result_seen k n (left_by how h left)
+result_left world meaning k n for_use.Unused h left result is = is
+result_left world meaning k n (for_use.Branch s t) h left result is = is
+result_left world meaning k n (for_use.Enter s) h left result is = is
+result_left world meaning k n (for_use.Select s) h left result is = is
+result_left world meaning k n (for_use.GoRound s) h left result is = is
+result_left world meaning k n (for_use.GoAgain s) h left result is = is
+result_left world meaning k n for_use.Result h left result is = refl
 
 -- of a value that has no use
 unused_left : (meaning : Meaning) (how : Use) (h : Kept_value) (left : Option Kept_value) → use_of meaning how ≡ Unused → left_by how h left ≡ left
@@ -162,8 +162,8 @@ unused_work : (b : Bool) (z : ℤ) (rest : Todo) → work_after b z Unused rest 
 unused_work true z rest = refl
 unused_work false z rest = refl
 
-unused_todo : (f : Local) (v : Value) (what : todo.Use) → what ≡ Unused → (settled f v what).todo ≡ f.todo
-unused_todo f v what is = ap (λ (u : todo.Use). work_after (truth v) (integer_of v) u f.todo) is ∙ unused_work (truth v) (integer_of v) f.todo
+unused_todo : (world : World) (f : Local) (v : Value) (what : todo.Use) → what ≡ Unused → (settled world f v what).todo ≡ f.todo
+unused_todo world f v what is = ap (λ (u : todo.Use). work_after (truth v) (integer_of v) u f.todo) is ∙ unused_work (truth v) (integer_of v) f.todo
 
 nothing_ends : (world : World) (t : Todo) → ends_with world t ≡ is_nothing t
 nothing_ends world [] = refl
@@ -185,13 +185,13 @@ locals_closed world m o f [] l = tt
 locals_closed world m o f (b ∷ bs) l = (l.0, locals_closed world m o f bs l.1)
 
 closed_stands : (world : World) (meaning : Option ℕ → Meaning) (m : Machine) (ws : List Work) (left : Option Kept_value) (st : State) (v : Value) (what : todo.Use)
-    (trace : List Entry) → StandsControl (meaning m.top.function) ws (settled st.top v what) →
-    (settled st.top v what).result ≡ result_seen m.memory m.top.function left → Stands world meaning m st →
-    Stands world meaning (settled_in m ws left) (record { top = settled st.top v what; held = st.held; store = st.store; trace = trace })
+    (trace : List Entry) → StandsControl (meaning m.top.function) ws (settled world st.top v what) →
+    (settled world st.top v what).result ≡ result_seen m.memory m.top.function left → Stands world meaning m st →
+    Stands world meaning (settled_in m ws left) (record { top = settled world st.top v what; held = st.held; store = st.store; trace = trace })
 closed_stands world meaning m ws left st v what trace control result s =
     let n = settled_in m ws left in
     let o = record m.top { stage = None } in
-    let f = settled st.top v what in
+    let f = settled world st.top v what in
     let frame = frame_aside world (meaning m.top.function) m n (length (reverse m.below.items)) m.top m.work.now m.left st.top None s.frames.0 in
     record {
       program = s.program;
@@ -224,7 +224,7 @@ some_open o x h = ap is_some h
 
 pub record Settles (world : World) (meaning : Option ℕ → Meaning) (m : Machine) (stage : Stage) (st : State) : Type 0 where
   pub e : Begun
-  pub open : st.top.begun ≡ Some e
+  pub opened : st.top.begun ≡ Some e
   pub can : CanSettle world m st e
   pub value : Kept_value
   pub gives : operand_in m stage.value ≡ Some value
@@ -244,7 +244,7 @@ settles quiet room world meaning m stage st is s may items =
     let gives = root_gives quiet room world meaning m stage st e s items can.addresses found.2 (can.usable stage found.2.laid is found.2.at) done in
     record {
       e = e;
-      open = found.1;
+      opened = found.1;
       can = can;
       value = gives.0;
       gives = gives.1;
@@ -264,7 +264,7 @@ module _ (world : World) (meaning : Option ℕ → Meaning) (m : Machine) (stage
   -- what is left to do once the value was used
   used_todo : (ws : List Work) →
       todo_of mg ws ≡ after mg (truth (value_in m.memory x.value)) (integer_of (value_in m.memory x.value)) m.top.how (todo_of mg m.work.now) →
-      todo_of mg ws ≡ (settled st.top v x.e.what).todo
+      todo_of mg ws ≡ (settled world st.top v x.e.what).todo
   used_todo ws now =
       now
       ∙ after_same mg (truth (value_in m.memory x.value)) (integer_of (value_in m.memory x.value)) m.top.how (todo_of mg m.work.now)
@@ -274,53 +274,53 @@ module _ (world : World) (meaning : Option ℕ → Meaning) (m : Machine) (stage
       ∙ ap (work_after (truth v) (integer_of v) x.e.what) x.todo
 
   used_result : (left : Option Kept_value) → left ≡ left_by m.top.how x.value m.left →
-      (settled st.top v x.e.what).result ≡ result_seen m.memory m.top.function left
+      (settled world st.top v x.e.what).result ≡ result_seen m.memory m.top.function left
   used_result left by =
-      ap (λ (u : todo.Use). if is_result u then Some v else st.top.result) (sym x.how)
-      ∙ ap (λ (w : Value). if is_result (use_of mg m.top.how) then Some w else st.top.result) (sym x.seen)
-      ∙ result_left mg m.memory m.top.function m.top.how x.value m.left st.top.result s.frames.0.result
+      ap (λ (u : todo.Use). if is_result world u then Some v else st.top.result) (sym x.how)
+      ∙ ap (λ (w : Value). if is_result world (use_of mg m.top.how) then Some w else st.top.result) (sym x.seen)
+      ∙ result_left world mg m.memory m.top.function m.top.how x.value m.left st.top.result s.frames.0.result
       ∙ ap (result_seen m.memory m.top.function) (sym by)
 
   -- the machine stands for the state behind it
-  settled_stands : (ws : List Work) (left : Option Kept_value) → ready_work (todo_of mg ws) ≡ ready_work (settled st.top v x.e.what).todo →
-      left ≡ left_by m.top.how x.value m.left → Stands world meaning (settled_in m ws left) (settled_state world st x.e x.open)
+  settled_stands : (ws : List Work) (left : Option Kept_value) → ready_work (todo_of mg ws) ≡ ready_work (settled world st.top v x.e.what).todo →
+      left ≡ left_by m.top.how x.value m.left → Stands world meaning (settled_in m ws left) (settled_state world st x.e x.opened)
   settled_stands ws left ready by =
-      closed_stands world meaning m ws left st v x.e.what (trace_after world st x.e x.open)
+      closed_stands world meaning m ws left st v x.e.what (trace_after world st x.e x.opened)
       (record { ready = ready; behind = λ b. absurd (true≢false (sym b)) }) (used_result left by) s
 
   abbrev behind : Todo
-  behind = (settled st.top v x.e.what).todo
+  behind = (settled world st.top v x.e.what).todo
 
   -- where something is left to do, the frame stays
   stays_by : (n : Option ℕ) → st.top.function ≡ n → GoesBehind n m st x.e.what behind → is_nothing (ready_work behind) ≡ false →
-      ends_here world st x.e x.open ≡ false
+      ends_here world st x.e x.opened ≡ false
   stays_by (Some n) is goes on = ap (λ (o : Option ℕ). is_none o && ends_with world (ready_work st.top.todo)) is
   stays_by None is goes on =
       ap (λ (o : Option ℕ). is_none o && ends_with world (ready_work st.top.todo)) is
       ∙ nothing_ends world (ready_work st.top.todo)
-      ∙ ap (λ (t : Todo). is_nothing (ready_work t)) (sym (unused_todo st.top v x.e.what goes.0))
+      ∙ ap (λ (t : Todo). is_nothing (ready_work t)) (sym (unused_todo world st.top v x.e.what goes.0))
       ∙ on
 
   settled_so : (ws : List Work) (left : Option Kept_value) → IsWithin world st → is_nothing (ready_work behind) ≡ false →
       ready_work (todo_of mg ws) ≡ ready_work behind → left ≡ left_by m.top.how x.value m.left → m.items ≡ [] →
       Answers world meaning (Ok None) (settled_in m ws left) (step world st Control)
   settled_so ws left limits on ready by items = (
-    settled_state world st x.e x.open,
-    settles_on world st x.e x.open (stays_by m.top.function (sym s.frames.0.function) x.can.behind on) limits,
+    settled_state world st x.e x.opened,
+    settles_on world st x.e x.opened (stays_by m.top.function (sym s.frames.0.function) x.can.behind on) limits,
     sym items,
     settled_stands ws left ready by,
   )
 
   -- where nothing is, it is an isolated initializer's, and ends
   abbrev Isolated : Type 0
-  Isolated = (ends_here world st x.e x.open ≡ true) × (x.e.what ≡ Unused) × CanEnd m st
+  Isolated = (ends_here world st x.e x.opened ≡ true) × (x.e.what ≡ Unused) × CanEnd m st
 
   isolated_by : (n : Option ℕ) → st.top.function ≡ n → GoesBehind n m st x.e.what behind → is_nothing (ready_work behind) ≡ true → Isolated
   isolated_by (Some n) is goes over = absurd (true≢false (sym over ∙ goes))
   isolated_by None is goes over = (
     ap (λ (o : Option ℕ). is_none o && ends_with world (ready_work st.top.todo)) is
         ∙ nothing_ends world (ready_work st.top.todo)
-        ∙ ap (λ (t : Todo). is_nothing (ready_work t)) (sym (unused_todo st.top v x.e.what goes.0))
+        ∙ ap (λ (t : Todo). is_nothing (ready_work t)) (sym (unused_todo world st.top v x.e.what goes.0))
         ∙ over,
     goes.0,
     goes.1 over,
@@ -330,16 +330,16 @@ module _ (world : World) (meaning : Option ℕ → Meaning) (m : Machine) (stage
       todo_of mg ws ≡ behind → left ≡ left_by m.top.how x.value m.left → m.items ≡ [] → AnswersEnd (settled_in m ws left) m3 (Ok status) →
       ComesTo world meaning status m3 (step world st Control)
   ended_so m3 ws left status limits own now by items ends =
-      let after_it = settled_state world st x.e x.open in
+      let after_it = settled_state world st x.e x.opened in
       let kept : m.left ≡ left = sym (by ∙ unused_left mg m.top.how x.value m.left (x.how ∙ own.1)) in
-      let gives : result_of world (settled_top world st x.e x.open) ≡ result_of world st.top =
-          ap (λ (u : todo.Use). result_of world (settled st.top v u)) own.1 in
+      let gives : result_of world (settled_top world st x.e x.opened) ≡ result_of world st.top =
+          ap (λ (u : todo.Use). result_of world (settled world st.top v u)) own.1 in
       let can = own.2 in
       subst (λ (o : Outcome). ComesTo world meaning status m3 o)
-      (ap (λ (w : Value). limited world.limits (back world st.held w st.store (trace_after world st x.e x.open))) gives
-      ∙ sym (settles_ends world st x.e x.open own.0))
-      (ends world meaning after_it (trace_after world st x.e x.open) (settled_stands ws left (ap ready_work now) by)
-      (depth_after world st x.e x.open limits) refl (record {
+      (ap (λ (w : Value). limited world.limits (back world st.held w st.store (trace_after world st x.e x.opened))) gives
+      ∙ sym (settles_ends world st x.e x.opened own.0))
+      (ends world meaning after_it (trace_after world st x.e x.opened) (settled_stands ws left (ap ready_work now) by)
+      (depth_after world st x.e x.opened limits) refl (record {
         result = subst (λ (l : Option Kept_value). IsResultOf m.memory l) kept can.result;
         function = can.function;
         rooms = can.rooms;
@@ -358,7 +358,7 @@ closed_in m = record m { top = record m.top { stage = None } }
 
 -- what is left to do behind the full expression
 abbrev todo_after : (world : World) (meaning : Option ℕ → Meaning) (m : Machine) (stage : Stage) (st : State) → Settles world meaning m stage st → Todo
-todo_after world meaning m stage st x = (settled st.top (root_value world st.top x.e) x.e.what).todo
+todo_after world meaning m stage st x = (settled world st.top (root_value world st.top x.e) x.e.what).todo
 
 module _ (m m2 m3 : Machine) (stage : Stage) (world : World) (meaning : Option ℕ → Meaning) (st : State) (is : m.top.stage ≡ Some stage)
     (s : Stands world meaning m st) (limits : IsWithin world st) (items : m.items ≡ []) (x : Settles world meaning m stage st)
@@ -425,7 +425,7 @@ select_untold quiet room m n stage b r how is = λ world meaning st s may items.
 
 -- want of memory
 pub settle_wanted : (m n : Machine) (stage : Stage) (e : Halt) → e ≡ halt.NoMemory → m.top.stage ≡ Some stage → AnswersControl m n (Err e)
-settle_wanted m n stage e is open = λ world meaning st s may items. no_memory world meaning n (step world st Control) e is
+settle_wanted m n stage e is staged = λ world meaning st s may items. no_memory world meaning n (step world st Control) e is
 
 -- ---- the value is used
 abbrev pub with_left : Machine → Option Kept_value → Machine

@@ -270,10 +270,10 @@ can_cleared : (world : World) (m : Machine) (is : List Item) (st : State) (b : O
     CanGoOn world (record m { items = is }) st b
 can_cleared world m is st None can = (can.0, λ e. ends_cleared m is st (can.1 e))
 can_cleared world m is st (Some e) can = record {
-  behind = behind_cleared m.top.function m is st e.what (settled st.top (root_value world st.top e) e.what).todo can.behind;
+  behind = behind_cleared m.top.function m is st e.what (settled world st.top (root_value world st.top e) e.what).todo can.behind;
   chooses = can.chooses;
   addresses = can.addresses;
-  usable = λ stage laid open at. let u = can.usable stage laid open at in record { firsts = u.firsts; value = u.value; named = u.named };
+  usable = λ stage laid here at. let u = can.usable stage laid here at in record { firsts = u.firsts; value = u.value; named = u.named };
 }
 
 cleared_goes : (world : World) (m n : Machine) (is : List Item) (st : State) → n ≡ m → MayGoOn world m st → MayGoOn world (record n { items = is }) st

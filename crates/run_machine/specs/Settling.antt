@@ -60,7 +60,7 @@ pub record IsUsable (m : Machine) (f : Scene) (laid : Expression) : Type 0 where
 -- The full expression that is open in the top frame can be settled. That its value isn't that of the test of a `switch` is asked, too: of these nothing is
 -- said yet. Rows begin at addresses.
 pub record CanSettle (world : World) (m : Machine) (st : State) (e : Begun) : Type 0 where
-  pub behind : GoesBehind m.top.function m st e.what (settled st.top (root_value world st.top e) e.what).todo
+  pub behind : GoesBehind m.top.function m st e.what (settled world st.top (root_value world st.top e) e.what).todo
   pub chooses : is_select e.what ≡ false
   pub addresses : AreAddresses world.rows
   pub usable : (stage : Stage) (laid : Expression) → m.top.stage ≡ Some stage → slice_get m.code.now.expressions.items stage.expression ≡ Some laid
