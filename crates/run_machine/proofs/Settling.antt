@@ -448,3 +448,10 @@ used_so m m1 m2 how o b kept left tests rest below now =
           now mg (integer_of (value_in k h)) ∙ ap (λ (c : Bool). after mg c (integer_of (value_in k h)) how (todo_of mg m1.work.now)) (tests h (same ∙ is) k)
           ∙ ap (λ (w : Stacked). after mg (truth (value_in k h)) (integer_of (value_in k h)) how (todo_of mg w.now)) worked;
     }
+
+pub used_ok : {A E : Type 0} (r : Result A E) (m m1 : Machine) (w : Stacked) (how : Use) (o : Operand) (b : Bool) → m1 ≡ with_left m m1.left →
+    ((h : Kept_value) → operand_in m o ≡ Some h → m1.left ≡ left_by how h m.left) →
+    ((h : Kept_value) → operand_in m1 o ≡ Some h → (k : Kept) → b ≡ truth (value_in k h)) → OnOk r (w.below ≡ m1.work.below) →
+    OnOk r ((k : Meaning) (z : ℤ) → todo_of k w.now ≡ after k b z how (todo_of k m1.work.now)) → OnOk r (HasUsed m how o (record m1 { work = w }))
+used_ok (Ok x) m m1 w how o b kept left tests below now = used_so m m1 (record m1 { work = w }) how o b kept left tests refl below now
+used_ok (Err e) m m1 w how o b kept left tests below now = tt

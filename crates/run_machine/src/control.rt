@@ -284,7 +284,7 @@ fn show_begun<'p>(
 
 // The value of a full expression is used.
 fn settle(machine: &mut Machine, stage: Stage) -> Result<Option<u8>, Halt>
-    ensures answers { machine.old.top.stage ≡ Some stage → AnswersControl machine.old machine.new result }
+    ensures { machine.old.top.stage ≡ Some stage → AnswersControl machine.old machine.new result }
 {
     law_operands();
     let operand = stage.value;
