@@ -333,7 +333,7 @@ module _ (world : World) (meaning : Option ℕ → Meaning) (m : Machine) (stage
       let after_it = settled_state world st x.e x.opened in
       let kept : m.left ≡ left = sym (by ∙ unused_left mg m.top.how x.value m.left (x.how ∙ own.1)) in
       let gives : result_of world (settled_top world st x.e x.opened) ≡ result_of world st.top =
-          ap (λ (u : todo.Use). result_of world (settled world st.top v u)) own.1 in
+      ap (λ (u : todo.Use). result_of world (settled world st.top v u)) own.1 in
       let can = own.2 in
       subst (λ (o : Outcome). ComesTo world meaning status m3 o)
       (ap (λ (w : Value). limited world.limits (back world st.held w st.store (trace_after world st x.e x.opened))) gives
@@ -383,9 +383,9 @@ module _ (m m2 m3 : Machine) (stage : Stage) (world : World) (meaning : Option �
       let still = (goes k).on (ap (λ (t : Todo). is_nothing (ready_work t)) now ∙ on) in
       let under : m3.work.below ≡ m.work.below = still.0 ∙ below in
       let full : m3 ≡ settled_in m m3.work.now m2.left =
-          stays.1 ∙ ap (λ (y : Machine). record y { work = m3.work }) rest
-          ∙ ap (λ (bs : List (List Work)). record m { top = record m.top { stage = None }; work = record { below = bs; now = m3.work.now }; left = m2.left })
-          under in
+      stays.1 ∙ ap (λ (y : Machine). record y { work = m3.work }) rest
+      ∙ ap (λ (bs : List (List Work)). record m { top = record m.top { stage = None }; work = record { below = bs; now = m3.work.now }; left = m2.left })
+      under in
       let answer = settled_so world meaning m stage st is s x m3.work.now m2.left limits on (still.1 ∙ ap ready_work now) left items in
       subst (λ (o : Option ℕ). Answers world meaning (Ok o) m3 (step world st Control)) (sym stays.0)
       (subst (λ (y : Machine). Answers world meaning (Ok None) y (step world st Control)) (sym full) answer)
@@ -420,7 +420,7 @@ pub select_untold : QuietGives → RoomGives → (m n : Machine) (stage : Stage)
 select_untold quiet room m n stage b r how is = λ world meaning st s may items.
     let x = settles quiet room world meaning m stage st is s may items in
     let selects : true ≡ is_select x.e.what =
-        ap (λ (u : Use). is_select (use_of (meaning m.top.function) u)) (sym how) ∙ ap is_select x.how in
+    ap (λ (u : Use). is_select (use_of (meaning m.top.function) u)) (sym how) ∙ ap is_select x.how in
     absurd (true≢false (selects ∙ x.can.chooses))
 
 -- want of memory

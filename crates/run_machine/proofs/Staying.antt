@@ -8,7 +8,8 @@ use Rattle.mem_spec.specs.Store.{Store}
 use Rattle.mem_spec.specs.Script.{Act, Done, run}
 use Rattle.c_model.specs.Control.{Todo, Use as Model_use, Work, ready_work, out_of, on_with, leaves}
 use Rattle.c_model.specs.Moves.{Move, End, Stay}
-use Rattle.c_model.specs.Steps.{Pick as Model_pick, Begun, Local, Scene, Control, Ev, MayPick, control_act, control_move, control_next, does, move, next, root_value, settled}
+use Rattle.c_model.specs.Steps.{Pick as Model_pick, Begun, Local, Scene, Control, Ev, MayPick, control_act, control_move, control_next, does, move, next}
+use Rattle.c_model.specs.Steps.{root_value, settled}
 use Rattle.c_model.specs.Values.{Value, Nothing}
 use Rattle.c_model.specs.World.{World}
 use Rattle.c_model.specs.Runs.{

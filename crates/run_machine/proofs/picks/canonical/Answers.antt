@@ -14,8 +14,8 @@ returns-in-Some c = record {
       event_taken c.take_event.result world meaning m (record c.follow.new.machine { items = [] }) st c.in-Some.due.now.place _ stands
       c.in_ok-next.ensures.frame.0 c.in_ok-next.ensures.frame.1
       (subst (λ o. chosen_pick world (place_of o) ≡ canonical_pick world st.top st.top.begun) c.in-Some.is picks) c.take_event.ensures.event;
-  steps = event_untold c.law_picks.ensures.follows c.args.machine.now c.follow.new.machine c.take_event.new.machine c.in_ok-next.next c.in-Some.due c.take_event.result
-      c.in_ok-next.ensures.follows c.in-Some.is;
+  steps = event_untold c.law_picks.ensures.follows c.args.machine.now c.follow.new.machine c.take_event.new.machine c.in_ok-next.next c.in-Some.due
+      c.take_event.result c.in_ok-next.ensures.follows c.in-Some.is;
   events = next_answers c.law_picks.ensures.next c.args.machine.now c.follow.new.machine c.take_event.new.machine c.clear.new.self c.in_ok-next.next
       c.in-Some.due c.take_event.result c.in_ok-next.ensures.follows c.in-Some.is c.clear.ensures
       (c.law_picks.ensures.follows c.args.machine.now c.follow.new.machine c.in_ok-next.next c.in_ok-next.ensures.follows) c.take_event.ensures.answers;
