@@ -1,10 +1,12 @@
 mod Answered
+mod Aside
 mod Behind
 mod Bodies
 mod Called
 mod Calling
 mod Creating
 mod Deciding
+mod Finished
 mod Given
 mod Giving
 mod Going
@@ -20,6 +22,8 @@ mod Picked
 mod Results
 mod Returning
 mod Rooms
+mod RootValue
+mod Settling
 mod Standing
 mod Started
 mod Staying

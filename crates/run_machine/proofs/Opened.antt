@@ -36,13 +36,13 @@ pub top_frame : (world : World) (meaning : Option ℕ → Meaning) (m : Machine)
 top_frame world meaning m st s =
     subst (λ (n : ℕ). StandsFrame world (meaning m.top.function) m n m.top m.work.now m.left st.top None) (length-reverse m.below.items) s.frames.0
 
-none_open : (world : World) (meaning : Meaning) (m : Machine) (height : ℕ) (o : Open) (stage : Option Stage) (f : Scene) (e : Option Begun) →
+pub none_open : (world : World) (meaning : Meaning) (m : Machine) (height : ℕ) (o : Open) (stage : Option Stage) (f : Scene) (e : Option Begun) →
     StandsBegun world meaning m height o stage f e None → stage ≡ None → e ≡ None
 none_open world meaning m height o None f None b h = refl
 none_open world meaning m height o None f (Some e) b h = absurd b
 none_open world meaning m height o (Some s) f e b h = absurd (cc)
 
-one_open : (world : World) (meaning : Meaning) (m : Machine) (height : ℕ) (o : Open) (stage : Option Stage) (s : Stage) (f : Scene) (e : Option Begun) →
+pub one_open : (world : World) (meaning : Meaning) (m : Machine) (height : ℕ) (o : Open) (stage : Option Stage) (s : Stage) (f : Scene) (e : Option Begun) →
     StandsBegun world meaning m height o stage f e None → stage ≡ Some s →
     (x : Begun) × (e ≡ Some x) × StandsExpression world meaning m height o s f x None
 one_open world meaning m height o None s f e b h = absurd (cc)

@@ -6,9 +6,10 @@ use Rattle.ub_base.specs.declared.names.Item.{Item}
 use Rattle.c_typed.specs.declared.tree.Place.{Place}
 use Rattle.mem_spec.specs.Store.{Store}
 use Rattle.mem_spec.specs.Script.{Act, Done, run}
-use Rattle.c_model.specs.Control.{Todo, Work, ready_work, out_of, on_with, leaves}
+use Rattle.c_model.specs.Control.{Todo, Use as Model_use, Work, ready_work, out_of, on_with, leaves}
 use Rattle.c_model.specs.Moves.{Move, End, Stay}
-use Rattle.c_model.specs.Steps.{Pick as Model_pick, Begun, Local, Scene, Control, control_act, control_move, control_next, does, move, next}
+use Rattle.c_model.specs.Steps.{Pick as Model_pick, Begun, Local, Scene, Control, Ev, MayPick, control_act, control_move, control_next, does, move, next}
+use Rattle.c_model.specs.Steps.{root_value, settled}
 use Rattle.c_model.specs.Values.{Value, Nothing}
 use Rattle.c_model.specs.World.{World}
 use Rattle.c_model.specs.Runs.{
@@ -19,6 +20,7 @@ use Rattle.c_model.specs.Runs.{
   acted,
   back,
   block_passes,
+  chosen_pick,
   depth_of,
   enter_passes,
   entry_of,
@@ -38,13 +40,14 @@ use Rattle.run_control.specs.declared.work.Step.{Step}
 use Rattle.run_control.specs.declared.work.Step.TheVariants as taking
 use Rattle.run_control.specs.View.{Meaning, readied, step_of, todo_of}
 use Rattle.run_code.specs.declared.steps.Due.{Due}
+use Rattle.run_listing.specs.Along.{place_of}
 use Rattle.run_state.specs.declared.halt.Halt.{Halt}
 use Rattle.run_state.specs.declared.halt.Halt.TheVariants as halt
 use Rattle.run_state.specs.declared.machine.Machine.{Machine}
 use Rattle.run_state.specs.declared.machine.Open.{Open}
 use Rattle.run_state.specs.declared.machine.Stage.{Stage}
 use Rattle.run_state.specs.declared.watch.Begun.{Begun as Shown}
-use Rattle.run_state.specs.Stands.{Stands, StandsBegun}
+use Rattle.run_state.specs.Stands.{Stands}
 use Rattle.run_machine.specs.declared.pick.Pick.{Pick}
 use Rattle.run_machine.specs.declared.pick.Pick.TheVariants as pick
 use Rattle.run_machine.specs.Answering.{
@@ -53,6 +56,7 @@ use Rattle.run_machine.specs.Answering.{
   AnswersControl,
   AnswersPick,
   AnswersStep,
+  CanGoOn,
   CanTake,
   HasTaken,
   MayGoOn,
@@ -61,7 +65,10 @@ use Rattle.run_machine.specs.Answering.{
   step_of_move,
 }
 use Rattle.run_machine.specs.Ending.{CanEnd, is_last}
-use Rattle.run_machine.specs.Picks.{Follows, FollowsIn, IsPick, IsStep, top_of}
+use Rattle.run_machine.specs.Picks.{ByWay, Follows, FollowsCanonical, FollowsIn, IsPick, IsStep, top_of}
+use Rattle.run_machine.specs.Settling.{CanSettle, GoesBehind}
+use Rattle.run_machine.proofs.Finished.{control_first, no_event}
+use Rattle.run_machine.proofs.Opened.{none_open}
 use Rattle.run_machine.proofs.Still.{depth_same, items_stand, left_stands}
 
 -- ---- the definitions: no full expression is open, this work comes next, and the frame stays
@@ -176,7 +183,7 @@ nothing_answers m = λ world meaning st h.
     left_answers taking.Nothing world meaning m m.work.now st (todo_of (meaning m.top.function) m.work.now) h refl refl refl refl refl
 
 -- ---- want of memory
-no_memory : (world : World) (meaning : Option ℕ → Meaning) (n : Machine) (o : Outcome) (e : Halt) → e ≡ halt.NoMemory →
+pub no_memory : (world : World) (meaning : Option ℕ → Meaning) (n : Machine) (o : Outcome) (e : Halt) → e ≡ halt.NoMemory →
     Answers world meaning (Err e) n o
 no_memory world meaning n o e is = subst (λ (h : Halt). Answers world meaning (Err h) n o) (sym is) tt
 
@@ -205,61 +212,46 @@ ends_as : (m : Machine) (below : List (List Kept_work)) (now : List Kept_work) (
 ends_as m below now st c = record { result = c.result; function = c.function; rooms = c.rooms; room = c.room }
 
 pub control_answers : (r : Result (Option ℕ) Halt) (o : Option Step) (s : Step) (m : Machine) (below : List (List Kept_work)) (now : List Kept_work)
-    (n : Machine) → o ≡ Some s → below ≡ m.work.below → ((k : Meaning) → readied k o (todo_of k now) ≡ ready_work (todo_of k m.work.now)) →
-    AnswersStep s (with_work m below now) n r → AnswersControl m n r
-control_answers r o s m below now n is same ready does = λ world meaning st stands goes items.
+    (n : Machine) → m.top.stage ≡ None → o ≡ Some s → below ≡ m.work.below →
+    ((k : Meaning) → readied k o (todo_of k now) ≡ ready_work (todo_of k m.work.now)) → AnswersStep s (with_work m below now) n r → AnswersControl m n r
+control_answers r o s m below now n none is same ready does = λ world meaning st stands goes items.
     let mg = meaning m.top.function in
     let next = ap (λ (p : Option Step). readied mg p (todo_of mg now)) (sym is) ∙ ready mg in
+    let closed = none_open world mg m (length (reverse m.below.items)) m.top m.top.stage st.top.scene st.top.begun stands.frames.0.begun none in
+    let can = subst (λ (b : Option Begun). CanGoOn world m st b) closed goes.can in
     does world meaning st (record {
       before = m.work.now;
       stands = before_stands world meaning m below now st same stands;
       next = next;
       within = goes.within;
-      closed = goes.closed;
-      can = subst (λ (t : Todo). CanTake m.code.now m.jumps m.top st t) (sym (next ∙ stands.frames.0.control.ready)) goes.can;
+      closed = closed;
+      can = subst (λ (t : Todo). CanTake m.code.now m.jumps m.top st t) (sym (next ∙ stands.frames.0.control.ready)) can.0;
       items = items;
-      ends = λ e. ends_as m below now st (goes.ends (sym (ap is_last (next ∙ stands.frames.0.control.ready)) ∙ e));
+      ends = λ e. ends_as m below now st (can.1 (sym (ap is_last (next ∙ stands.frames.0.control.ready)) ∙ e));
     })
-
--- where the definitions have no full expression open, the machine has none
-none_open : (world : World) (meaning : Meaning) (m : Machine) (height : ℕ) (o : Open) (f : Scene) (stage : Option Stage) (e : Option Begun)
-    (waiting : Option Place) → StandsBegun world meaning m height o stage f e waiting → e ≡ None → stage ≡ None
-none_open world meaning m height o f None e waiting b none = refl
-none_open world meaning m height o f (Some stage) None waiting b none = absurd b
-none_open world meaning m height o f (Some stage) (Some e) waiting b none = absurd (cc)
-
-pub top_closed : (world : World) (meaning : Option ℕ → Meaning) (m : Machine) (st : State) → Stands world meaning m st → st.top.begun ≡ None →
-    m.top.stage ≡ None
-top_closed world meaning m st s closed =
-    none_open world (meaning m.top.function) m (length (reverse m.below.items)) m.top st.top.scene m.top.stage st.top.begun None s.frames.0.begun closed
-
-not_both : {A : Type 0} (o : Option A) (x : A) → o ≡ None → o ≡ Some x → ⊥
-not_both None x none some = cc
-not_both (Some y) x none some = cc
-
-pub settle_untold : (r : Result (Option ℕ) Halt) (stage : Stage) (m n : Machine) → m.top.stage ≡ Some stage → AnswersControl m n r
-settle_untold r stage m n is = λ world meaning st stands goes items.
-    absurd (not_both m.top.stage stage (top_closed world meaning m st stands goes.closed) is)
 
 pub control_wanted : (m n : Machine) (e : Halt) → e ≡ halt.NoMemory → AnswersControl m n (Err e)
 control_wanted m n e is = λ world meaning st stands goes items. no_memory world meaning n (step world st Control) e is
 
 -- ---- of a pick
--- no event is followed where no full expression is open
-followed : (m : Machine) (stage : Option Stage) (b : Option Shown) (n : Machine) (due : Option (Bor Due)) → FollowsIn m stage b n due → stage ≡ None →
-    (due ≡ None) × (n ≡ m)
-followed m None b n due f e = f
-followed m (Some s) b n due f e = absurd (cc)
+-- nothing changes where no event is followed
+way_still : (straight : Bool) (m : Machine) (s : Stage) (b : Shown) (n : Machine) (due : Option (Bor Due)) → ByWay straight m s b n due → due ≡ None → n ≡ m
+way_still true m s b n None w is = w.1
+way_still true m s b n (Some due) w is = absurd (cc)
+way_still false m s b n due w is = w.1
 
-followed_closed : (world : World) (meaning : Option ℕ → Meaning) (m n : Machine) (due : Option (Bor Due)) (st : State) → Follows m n due →
-    Stands world meaning m st → st.top.begun ≡ None → (due ≡ None) × (n ≡ m)
-followed_closed world meaning m n due st f stands closed =
-    followed m m.top.stage (top_of m) n due f (top_closed world meaning m st stands closed)
+followed : (m : Machine) (stage : Option Stage) (b : Option Shown) (n : Machine) (due : Option (Bor Due)) → FollowsIn m stage b n due → due ≡ None → n ≡ m
+followed m None b n due f is = f.1
+followed m (Some s) None n due f is = absurd f
+followed m (Some s) (Some b) n due f is = way_still s.straight m s b n due f is
 
-pub event_untold : (m n k : Machine) (next : Option (Bor Due)) (due : Bor Due) (r : Result Pick Halt) → Follows m n next → next ≡ Some due →
-    AnswersCanonical m k r
-event_untold m n k next due r f is = λ world meaning st stands goes.
-    absurd (not_both next due (followed_closed world meaning m n next st f stands goes.closed).0 is)
+-- where the control step may be picked, no event is
+pub event_untold : FollowsCanonical → (m n k : Machine) (next : Option (Bor Due)) (due : Bor Due) (r : Result Pick Halt) → Follows m n next →
+    next ≡ Some due → AnswersCanonical m k r
+event_untold follows m n k next due r f is = λ world meaning st stands goes.
+    let picks = follows m n next f world meaning st stands in
+    let event = ap (λ (o : Option (Bor Due)). chosen_pick world (place_of o)) (sym is) in
+    absurd (no_event due.now.place (event ∙ picks ∙ control_first world st.top st.top.begun goes.control))
 
 -- a control step is taken by the machine that has touched nothing
 cleared_stands : (world : World) (meaning : Option ℕ → Meaning) (m n : Machine) (is : List Item) (st : State) → n ≡ m → Stands world meaning m st →
@@ -267,22 +259,34 @@ cleared_stands : (world : World) (meaning : Option ℕ → Meaning) (m n : Machi
 cleared_stands world meaning m n is st same s =
     subst (λ (k : Machine). Stands world meaning (record k { items = is }) st) (sym same) (items_stand world meaning m is m.spare st s)
 
+ends_cleared : (m : Machine) (is : List Item) (st : State) → CanEnd m st → CanEnd (record m { items = is }) st
+ends_cleared m is st c = record { result = c.result; function = c.function; rooms = c.rooms; room = c.room }
+
+behind_cleared : (n : Option ℕ) (m : Machine) (is : List Item) (st : State) (what : Model_use) (t : Todo) → GoesBehind n m st what t →
+    GoesBehind n (record m { items = is }) st what t
+behind_cleared (Some n) m is st what t goes = goes
+behind_cleared None m is st what t goes = (goes.0, λ e. ends_cleared m is st (goes.1 e))
+
+can_cleared : (world : World) (m : Machine) (is : List Item) (st : State) (b : Option Begun) → CanGoOn world m st b →
+    CanGoOn world (record m { items = is }) st b
+can_cleared world m is st None can = (can.0, λ e. ends_cleared m is st (can.1 e))
+can_cleared world m is st (Some e) can = record {
+  behind = behind_cleared m.top.function m is st e.what (settled world st.top (root_value world st.top e) e.what).todo can.behind;
+  chooses = can.chooses;
+  addresses = can.addresses;
+  usable = λ stage laid here at. let u = can.usable stage laid here at in record { firsts = u.firsts; value = u.value; named = u.named };
+}
+
 cleared_goes : (world : World) (m n : Machine) (is : List Item) (st : State) → n ≡ m → MayGoOn world m st → MayGoOn world (record n { items = is }) st
 cleared_goes world m n is st same goes =
-    subst (λ (k : Machine). MayGoOn world (record k { items = is }) st) (sym same) (record {
-      within = goes.within;
-      closed = goes.closed;
-      can = goes.can;
-      ends = λ e.
-          let c = goes.ends e in
-          record { result = c.result; function = c.function; rooms = c.rooms; room = c.room };
-    })
+    subst (λ (k : Machine). MayGoOn world (record k { items = is }) st) (sym same)
+    (record { within = goes.within; control = goes.control; can = can_cleared world m is st st.top.begun goes.can })
 
-pub step_told : (m n k : Machine) (next : Option (Bor Due)) (is : List Item) (r : Result Pick Halt) → Follows m n next → is ≡ [] →
+pub step_told : (m n k : Machine) (next : Option (Bor Due)) (is : List Item) (r : Result Pick Halt) → Follows m n next → next ≡ None → is ≡ [] →
     TakesControl (record n { items = is }) k r → AnswersCanonical m k r
-step_told m n k next is r f none does = λ world meaning st stands goes.
-    let same = (followed_closed world meaning m n next st f stands goes.closed).1 in
-    does world meaning st (cleared_stands world meaning m n is st same stands) (cleared_goes world m n is st same goes) none
+step_told m n k next is r f none empty does = λ world meaning st stands goes.
+    let same = followed m m.top.stage (top_of m) n next f none in
+    does world meaning st (cleared_stands world meaning m n is st same stands) (cleared_goes world m n is st same goes) empty
 
 pub status_told : (m n : Machine) (status : Option ℕ) → AnswersControl m n (Ok status) → TakesControl m n (Ok (pick.Step status))
 status_told m n status a = λ world meaning st stands goes items. a world meaning st stands goes items

@@ -5,7 +5,7 @@ use Rattle.ub_base.specs.declared.names.Item.{Item}
 use Rattle.c_model.specs.Control.{Todo, Leave, Unwrite, Nothing_to_do, Go_to, Go_out, Go_on, Go_back, ready_work}
 use Rattle.c_model.specs.Program.{Decl}
 use Rattle.c_model.specs.OpenBlocks.{Closes, NoEntersBehind}
-use Rattle.c_model.specs.Steps.{Control, Local}
+use Rattle.c_model.specs.Steps.{Begun, Control, Local, MayPick}
 use Rattle.c_model.specs.World.{World}
 use Rattle.c_model.specs.Runs.{Entry, Outcome, Raises, Over, No_row, Ends, Running, State, depth_of, limit_passed, step}
 use Rattle.run_control.specs.declared.statement.Statement.{Statement}
@@ -28,6 +28,7 @@ use Rattle.run_state.specs.Stands.{Stands}
 use Rattle.run_machine.specs.declared.pick.Pick.{Pick}
 use Rattle.run_machine.specs.declared.pick.Pick.TheVariants as pick
 use Rattle.run_machine.specs.Ending.{CanEnd, is_last}
+use Rattle.run_machine.specs.Settling.{CanSettle}
 
 -- 1. What a step comes to.
 
@@ -108,13 +109,17 @@ CanTake code jumps o st (Unwrite d ∷ rest) = HasOpenBlocks st.top × IsDeclare
 CanTake code jumps o st (Leave b ds ∷ rest) = IsLeft code o st b ds rest
 CanTake code jumps o st _ = ⊥
 
--- The state is within the limits, no full expression is open in its top frame, and the machine can take its next control step; where the frame ends with
--- it, the machine can end it.
+-- Where no full expression is open in the top frame, the machine can take the step, and end the frame where it ends with it; else it can settle what is
+-- open.
+abbrev pub CanGoOn : World → Machine → State → Option Begun → Type 0
+CanGoOn world m st None = CanTake m.code.now m.jumps m.top st (ready_work st.top.todo) × (is_last (ready_work st.top.todo) ≡ true → CanEnd m st)
+CanGoOn world m st (Some e) = CanSettle world m st e
+
+-- The state is within the limits, the control step may be picked in it, and the machine can take it.
 pub record MayGoOn (world : World) (m : Machine) (st : State) : Type 0 where
   pub within : IsWithin world st
-  pub closed : st.top.begun ≡ None
-  pub can : CanTake m.code.now m.jumps m.top st (ready_work st.top.todo)
-  pub ends : is_last (ready_work st.top.todo) ≡ true → CanEnd m st
+  pub control : MayPick world st.top st.top.begun Control
+  pub can : CanGoOn world m st st.top.begun
 
 -- a control step from a machine that has touched nothing yet
 abbrev pub AnswersControl : (old new : Machine) → Result (Option ℕ) Halt → Type 0

@@ -6,3 +6,4 @@ pub mod Ending
 pub mod Ended
 pub mod Taking
 pub mod Starting
+pub mod Settling

@@ -10,6 +10,9 @@ ghost use Rattle.run_machine.specs.Answering.{AnswersControl, AnswersStep, step_
 ghost use Rattle.run_machine.specs.Ended.{AnswersEnd};
 ghost use Rattle.run_machine.specs.Leaving.{GoesStill, LeavesBlock};
 ghost use Rattle.run_machine.specs.Moving.{GoesOn, IsGone, StepLeaves, TakesStep};
+ghost use Rattle.run_machine.specs.Settling.{HasUsed, left_by};
+ghost use Rattle.run_state.specs.Operands.{operand_in};
+ghost use Rattle.prov_memory.specs.declared.value.Value.{Value as Kept_value};
 
 use crate::frames::end_frame;
 use c_typed::Typed;
@@ -18,7 +21,7 @@ use run_code::{BlockCode, ObjectCode, Operand};
 use run_control::{Move, Step, Use};
 use run_events::{choose_at_once, put_at};
 use run_objects::total;
-use run_state::{Begun, Halt, Local, Machine, Stage};
+use run_state::{Begun, Halt, Local, Machine, Stage, law_operands};
 use seq_order::Taken;
 use ub_base::{Cause, NoMemory, ObjName};
 
@@ -283,14 +286,22 @@ fn show_begun<'p>(
 }
 
 // The value of a full expression is used.
-fn settle(machine: &mut Machine, stage: Stage) -> Result<Option<u8>, Halt> {
+fn settle(machine: &mut Machine, stage: Stage) -> Result<Option<u8>, Halt>
+    ensures { machine.old.top.stage ≡ Some stage → AnswersControl machine.old machine.new result }
+{
+    law_operands();
     let operand = stage.value;
     machine.top.stage = None;
     match machine.top.how {
-        Use::Select(switch) => select(machine, switch.number, operand)?,
-        how => use_value(machine, how, operand)?,
+        Use::Select(switch) => {
+            select(machine, switch.number, operand)?;
+            go_on(machine)
+        }
+        how => {
+            use_value(machine, how, operand)?;
+            go_on(machine)
+        }
     }
-    go_on(machine)
 }
 
 fn use_value<'c>(
@@ -301,12 +312,22 @@ fn use_value<'c>(
     ensures below { OnOk result (machine.new.work.below ≡ machine.old.work.below) }
     ensures now { OnOk result ((truth : Bool) × ((m : Meaning) (z : ℤ) → todo_of m machine.new.work.now ≡ after m truth z how.entry (todo_of m
         machine.old.work.now))) }
+    ensures used { OnOk result (HasUsed machine.old how.entry operand machine.new) }
+{
+    keep_result(machine, how, operand)?;
+    let truth = machine.truth(operand);
+    machine.work.settle(how, truth)
+}
+
+// The value of a `return` statement is the result of the frame.
+fn keep_result(machine: &mut Machine, how: Use, operand: Operand) -> Result<(), NoMemory>
+    ensures rest { OnOk result (machine.new ≡ record machine.old { left = machine.new.left }) }
+    ensures left { OnOk result ((h : Kept_value) → operand_in machine.old operand ≡ Some h → machine.new.left ≡ left_by how.entry h machine.old.left) }
 {
     if let Use::Result = how {
         machine.left = Some(machine.value(operand)?);
     }
-    let truth = machine.truth(operand);
-    machine.work.settle(how, truth)
+    Ok(())
 }
 
 // The case that the value of a `switch` statement's test names comes next.

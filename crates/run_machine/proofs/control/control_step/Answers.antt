@@ -1,9 +1,9 @@
-use Rattle.run_machine.proofs.Staying.{control_answers, settle_untold}
+use Rattle.run_machine.proofs.Staying.{control_answers}
 use Rattle.run_machine.proofs.Steering.{takes_step}
 use Rattle.run_machine.proofs.control.control_step.Goals as goal
 
 pub returns-in-Some-clause-answers : goal.returns-in-Some-clause-answers
-returns-in-Some-clause-answers c = settle_untold c.settle.result c.in-Some.stage c.args.machine.now c.settle.new.machine c.in-Some.is
+returns-in-Some-clause-answers c = c.settle.ensures c.in-Some.is
 
 pub returns-in-Some-2 : goal.returns-in-Some-2
 returns-in-Some-2 c = record {
@@ -11,5 +11,6 @@ returns-in-Some-2 c = record {
       c.args.machine.now.work c.next.new.self c.take_step.new.machine.work c.in-Some-2.is c.in_ok-step-in-None.ensures.below c.in_ok-step-in-None.ensures.step
       c.take_step.ensures.leaves;
   answers = control_answers c.take_step.result c.in_ok-step-in-None.field-0 c.in-Some-2.step c.args.machine.now c.next.new.self.below c.next.new.self.now
-      c.take_step.new.machine c.in-Some-2.is c.in_ok-step-in-None.ensures.below c.in_ok-step-in-None.ensures.step c.take_step.ensures.answers;
+      c.take_step.new.machine c.in-None.is c.in-Some-2.is c.in_ok-step-in-None.ensures.below c.in_ok-step-in-None.ensures.step
+      c.take_step.ensures.answers;
 }

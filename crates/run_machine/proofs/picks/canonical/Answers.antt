@@ -15,8 +15,8 @@ returns-in-Some c = record {
       event_taken c.take_event.result world meaning m (record c.follow.new.machine { items = [] }) st c.in-Some.due.now.place _ stands
       c.in_ok-next.ensures.frame.0 c.in_ok-next.ensures.frame.1
       (subst (λ o. chosen_pick world (place_of o) ≡ canonical_pick world st.top st.top.begun) c.in-Some.is picks) c.take_event.ensures.event;
-  steps = event_untold c.args.machine.now c.follow.new.machine c.take_event.new.machine c.in_ok-next.next c.in-Some.due c.take_event.result
-      c.in_ok-next.ensures.follows c.in-Some.is;
+  steps = event_untold c.law_picks.ensures.follows c.args.machine.now c.follow.new.machine c.take_event.new.machine c.in_ok-next.next c.in-Some.due
+      c.take_event.result c.in_ok-next.ensures.follows c.in-Some.is;
   events = next_answers c.law_picks.ensures.next c.args.machine.now c.follow.new.machine c.take_event.new.machine c.clear.new.self c.in_ok-next.next
       c.in-Some.due c.take_event.result c.in_ok-next.ensures.follows c.in-Some.is c.clear.ensures
       (c.law_picks.ensures.follows c.args.machine.now c.follow.new.machine c.in_ok-next.next c.in_ok-next.ensures.follows) c.take_event.ensures.answers;
@@ -33,7 +33,7 @@ returns-in-None c = record {
       steps_taken c.take_control.result world st _
       (subst (λ o. chosen_pick world (place_of o) ≡ canonical_pick world st.top st.top.begun) c.in-None.is picks) c.take_control.ensures.step;
   steps = step_told c.args.machine.now c.follow.new.machine c.take_control.new.machine c.in_ok-next.next c.clear.new.self c.take_control.result
-      c.in_ok-next.ensures.follows c.clear.ensures c.take_control.ensures.answers;
+      c.in_ok-next.ensures.follows c.in-None.is c.clear.ensures c.take_control.ensures.answers;
   events = none_next c.args.machine.now c.take_control.new.machine c.in_ok-next.next c.take_control.result c.in-None.is
       (c.law_picks.ensures.follows c.args.machine.now c.follow.new.machine c.in_ok-next.next c.in_ok-next.ensures.follows);
   bodies = none_body c.args.machine.now c.take_control.new.machine c.in_ok-next.next c.take_control.result c.in-None.is
