@@ -1,10 +1,16 @@
 mod Answered
 mod Behind
+<<<<<<< ours
 mod Creating
+=======
+mod Births
+>>>>>>> theirs
 mod Deciding
+mod Entered
 mod Given
 mod Giving
 mod Going
+mod Growing
 mod Laying
 mod Leaving
 mod Left

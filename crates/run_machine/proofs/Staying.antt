@@ -6,7 +6,7 @@ use Rattle.ub_base.specs.declared.names.Item.{Item}
 use Rattle.c_typed.specs.declared.tree.Place.{Place}
 use Rattle.mem_spec.specs.Store.{Store}
 use Rattle.mem_spec.specs.Script.{Act, Done, run}
-use Rattle.c_model.specs.Control.{Todo, Work, ready_work, out_of, on_with, leaves}
+use Rattle.c_model.specs.Control.{Todo, Work, Enter, ready_work, out_of, on_with, leaves}
 use Rattle.c_model.specs.Moves.{Move, End, Stay}
 use Rattle.c_model.specs.Steps.{Pick as Model_pick, Begun, Local, Scene, Control, control_act, control_move, control_next, does, move, next}
 use Rattle.c_model.specs.Values.{Value, Nothing}
@@ -61,6 +61,7 @@ use Rattle.run_machine.specs.Answering.{
   step_of_move,
 }
 use Rattle.run_machine.specs.Ending.{CanEnd, is_last}
+use Rattle.run_machine.specs.Entering.{CanEnterFirst}
 use Rattle.run_machine.specs.Picks.{Follows, FollowsIn, IsPick, IsStep, top_of}
 use Rattle.run_machine.proofs.Still.{depth_same, items_stand, left_stands}
 
@@ -138,7 +139,8 @@ left_answers s world meaning m ws st todo h now leaves passes runs stays =
     let rest = todo_of mg m.work.now in
     let ready = sym (h.next ∙ h.stands.frames.0.control.ready) in
     let trace = entry_of world st.top Control [] ∷ st.trace in
-    let after : State = record { top = record st.top { todo = todo }; held = st.held; store = st.store; trace = trace } in (
+    let after : State = record { top = record st.top { todo = todo }; held = st.held; store = st.store; trace = trace } in
+    λ rows. (
       after,
       control_stays world st w rest Nothing [] st.store h.closed ready passes runs stays
           (ap (λ (f : Local). limit_passed world.limits (depth_of f st.held) st.store) leaves
@@ -191,9 +193,6 @@ by_step s t m n r is a = subst (λ (x : Step). AnswersStep x m n r) (sym is) a
 pub begin_untold : (s : Step) (k : ℕ) (how : Use) (m n : Machine) (r : Result (Option ℕ) Halt) → s ≡ taking.Begin k how → AnswersStep s m n r
 begin_untold s k how m n r is = by_step s (taking.Begin k how) m n r is (λ world meaning st h. absurd h.can)
 
-pub enter_untold : (s : Step) (b : Bor Block) (m n : Machine) (r : Result (Option ℕ) Halt) → s ≡ taking.Enter b → AnswersStep s m n r
-enter_untold s b m n r is = by_step s (taking.Enter b) m n r is (λ world meaning st h. absurd h.can)
-
 -- ---- the next step, taken off
 -- the machine before it is the one that stood
 before_stands : (world : World) (meaning : Option ℕ → Meaning) (m : Machine) (below : List (List Kept_work)) (now : List Kept_work) (st : State) →
@@ -203,6 +202,36 @@ before_stands world meaning m below now st same s =
 
 ends_as : (m : Machine) (below : List (List Kept_work)) (now : List Kept_work) (st : State) → CanEnd m st → CanEnd (with_work m below now) st
 ends_as m below now st c = record { result = c.result; function = c.function; rooms = c.rooms; room = c.room }
+
+enters_as : (world : World) (m : Machine) (below : List (List Kept_work)) (now : List Kept_work) (st : State) (t : Todo) →
+    CanEnterFirst world m st t → CanEnterFirst world (with_work m below now) st t
+enters_as world m below now st [] c = tt
+enters_as world m below now st (Enter b ds ∷ rest) c = record {
+  function = c.function;
+  result = c.result;
+  arguments = c.arguments;
+  limit = c.limit;
+  turn = c.turn;
+  number = c.number;
+  block = c.block;
+  below = c.below;
+}
+enters_as world m below now st (w ∷ rest) c = tt
+
+enters_cleared : (world : World) (m : Machine) (is : List Item) (st : State) (t : Todo) → CanEnterFirst world m st t →
+    CanEnterFirst world (record m { items = is }) st t
+enters_cleared world m is st [] c = tt
+enters_cleared world m is st (Enter b ds ∷ rest) c = record {
+  function = c.function;
+  result = c.result;
+  arguments = c.arguments;
+  limit = c.limit;
+  turn = c.turn;
+  number = c.number;
+  block = c.block;
+  below = c.below;
+}
+enters_cleared world m is st (w ∷ rest) c = tt
 
 pub control_answers : (r : Result (Option ℕ) Halt) (o : Option Step) (s : Step) (m : Machine) (below : List (List Kept_work)) (now : List Kept_work)
     (n : Machine) → o ≡ Some s → below ≡ m.work.below → ((k : Meaning) → readied k o (todo_of k now) ≡ ready_work (todo_of k m.work.now)) →
@@ -218,6 +247,8 @@ control_answers r o s m below now n is same ready does = λ world meaning st sta
       closed = goes.closed;
       can = subst (λ (t : Todo). CanTake m.code.now m.jumps m.top st t) (sym (next ∙ stands.frames.0.control.ready)) goes.can;
       items = items;
+      enters = enters_as world m below now st (step_of mg s ∷ todo_of mg now)
+          (subst (λ (t : Todo). CanEnterFirst world m st t) (sym (next ∙ stands.frames.0.control.ready)) goes.enters);
       ends = λ e. ends_as m below now st (goes.ends (sym (ap is_last (next ∙ stands.frames.0.control.ready)) ∙ e));
     })
 
@@ -273,6 +304,7 @@ cleared_goes world m n is st same goes =
       within = goes.within;
       closed = goes.closed;
       can = goes.can;
+      enters = enters_cleared world m is st (ready_work st.top.todo) goes.enters;
       ends = λ e.
           let c = goes.ends e in
           record { result = c.result; function = c.function; rooms = c.rooms; room = c.room };
