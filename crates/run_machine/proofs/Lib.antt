@@ -1,10 +1,8 @@
 mod Answered
+mod Beginning
 mod Behind
-<<<<<<< ours
-mod Creating
-=======
 mod Births
->>>>>>> theirs
+mod Creating
 mod Deciding
 mod Entered
 mod Given

@@ -28,8 +28,6 @@ use Rattle.c_model.specs.Runs.{
   step,
   within,
 }
-use Rattle.run_control.specs.declared.statement.Block.{Block}
-use Rattle.run_control.specs.declared.work.Use.{Use}
 use Rattle.run_control.specs.declared.work.Work.{Work as Kept_work}
 use Rattle.run_control.specs.declared.moves.Move.{Move as Kept_move}
 use Rattle.run_control.specs.declared.moves.Move.TheVariants.{Out, On, Back}
@@ -189,10 +187,6 @@ memory_wanted s m n e is = λ world meaning st h. no_memory world meaning n (ste
 pub by_step : (s t : Step) (m n : Machine) (r : Result (Option ℕ) Halt) → s ≡ t → AnswersStep t m n r → AnswersStep s m n r
 by_step s t m n r is a = subst (λ (x : Step). AnswersStep x m n r) (sym is) a
 
--- of these nothing is said
-pub begin_untold : (s : Step) (k : ℕ) (how : Use) (m n : Machine) (r : Result (Option ℕ) Halt) → s ≡ taking.Begin k how → AnswersStep s m n r
-begin_untold s k how m n r is = by_step s (taking.Begin k how) m n r is (λ world meaning st h. absurd h.can)
-
 -- ---- the next step, taken off
 -- the machine before it is the one that stood
 before_stands : (world : World) (meaning : Option ℕ → Meaning) (m : Machine) (below : List (List Kept_work)) (now : List Kept_work) (st : State) →
@@ -245,7 +239,7 @@ control_answers r o s m below now n is same ready does = λ world meaning st sta
       next = next;
       within = goes.within;
       closed = goes.closed;
-      can = subst (λ (t : Todo). CanTake m.code.now m.jumps m.top st t) (sym (next ∙ stands.frames.0.control.ready)) goes.can;
+      can = subst (λ (t : Todo). CanTake world m.code.now m.jumps m.top st t) (sym (next ∙ stands.frames.0.control.ready)) goes.can;
       items = items;
       enters = enters_as world m below now st (step_of mg s ∷ todo_of mg now)
           (subst (λ (t : Todo). CanEnterFirst world m st t) (sym (next ∙ stands.frames.0.control.ready)) goes.enters);
@@ -264,7 +258,7 @@ pub top_closed : (world : World) (meaning : Option ℕ → Meaning) (m : Machine
 top_closed world meaning m st s closed =
     none_open world (meaning m.top.function) m (length (reverse m.below.items)) m.top st.top.scene m.top.stage st.top.begun None s.frames.0.begun closed
 
-not_both : {A : Type 0} (o : Option A) (x : A) → o ≡ None → o ≡ Some x → ⊥
+pub not_both : {A : Type 0} (o : Option A) (x : A) → o ≡ None → o ≡ Some x → ⊥
 not_both None x none some = cc
 not_both (Some y) x none some = cc
 

@@ -5,7 +5,7 @@ use Rattle.ub_base.specs.declared.names.Item.{Item}
 use Rattle.ub_base.specs.declared.names.ObjName.{ObjName}
 use Rattle.addr_map.specs.Rows.{row_of}
 use Rattle.prov_memory.specs.Keeps.{RowsStay}
-use Rattle.c_model.specs.Control.{Todo, Enter, Leave, Unwrite, Nothing_to_do, Go_to, Go_out, Go_on, Go_back, ready_work}
+use Rattle.c_model.specs.Control.{Todo, Begin, Enter, Leave, Unwrite, Nothing_to_do, Go_to, Go_out, Go_on, Go_back, ready_work}
 use Rattle.c_model.specs.Program.{Decl}
 use Rattle.c_model.specs.OpenBlocks.{Closes, NoEntersBehind}
 use Rattle.c_model.specs.Steps.{Control, Local}
@@ -28,6 +28,7 @@ use Rattle.run_state.specs.declared.halt.Halt.TheVariants as halt
 use Rattle.run_state.specs.declared.machine.Machine.{Machine}
 use Rattle.run_state.specs.declared.machine.Open.{Open}
 use Rattle.run_state.specs.Stands.{Stands}
+use Rattle.run_machine.specs.Beginning.{CanBegin}
 use Rattle.run_machine.specs.declared.pick.Pick.{Pick}
 use Rattle.run_machine.specs.declared.pick.Pick.TheVariants as pick
 use Rattle.run_machine.specs.Ending.{CanEnd, is_last}
@@ -45,8 +46,7 @@ newest_items [] = []
 newest_items (e ∷ es) = e.items
 
 -- The machine goes on, as a state of the definitions for which it stands, and has the items of the pick; or the run ends with this status, with what was
--- written so far.
--- The world has the rows that the machine then has.
+-- written so far. The world has the rows that the machine then has.
 abbrev pub ComesTo : World → (Option ℕ → Meaning) → Option ℕ → Machine → Outcome → Type 0
 ComesTo world meaning None m o =
     RowsStay m.memory.rows world.rows → (st : State) × (o ≡ Running st) × (newest_items st.trace ≡ m.items) × Stands world meaning m st
@@ -103,24 +103,25 @@ pub record IsLeft (code : Code) (o : Open) (st : State) (b : ℕ) (ds : List Dec
   pub objects : (c : BlockCode) → slice_get code.tables.blocks.items (o.blocks + b) ≡ Some c → HasObjects o b c ds
 
 -- What is asked of a machine, and of the state that it stands for, for the control step that comes next: nothing for `break`, `continue` and `return`, and
--- where nothing is done. What is asked where a block is entered stands beside. Of steps that begin a full expression nothing is said yet.
-abbrev pub CanTake : Code → Jumps → Open → State → Todo → Type 0
-CanTake code jumps o st (Nothing_to_do ∷ rest) = Unit {0}
-CanTake code jumps o st (Go_out ∷ rest) = Unit {0}
-CanTake code jumps o st (Go_on ∷ rest) = Unit {0}
-CanTake code jumps o st (Go_back ∷ rest) = Unit {0}
-CanTake code jumps o st (Go_to k ∷ rest) = HasLabels code jumps o.function
-CanTake code jumps o st (Unwrite d ∷ rest) = HasOpenBlocks st.top × IsDeclared code o d st.top.scene.blocks
-CanTake code jumps o st (Leave b ds ∷ rest) = IsLeft code o st b ds rest
-CanTake code jumps o st (Enter b ds ∷ rest) = Unit {0}
-CanTake code jumps o st _ = ⊥
+-- where nothing is done. What is asked where a block is entered stands beside.
+abbrev pub CanTake : World → Code → Jumps → Open → State → Todo → Type 0
+CanTake world code jumps o st (Nothing_to_do ∷ rest) = Unit {0}
+CanTake world code jumps o st (Go_out ∷ rest) = Unit {0}
+CanTake world code jumps o st (Go_on ∷ rest) = Unit {0}
+CanTake world code jumps o st (Go_back ∷ rest) = Unit {0}
+CanTake world code jumps o st (Go_to k ∷ rest) = HasLabels code jumps o.function
+CanTake world code jumps o st (Unwrite d ∷ rest) = HasOpenBlocks st.top × IsDeclared code o d st.top.scene.blocks
+CanTake world code jumps o st (Leave b ds ∷ rest) = IsLeft code o st b ds rest
+CanTake world code jumps o st (Enter b ds ∷ rest) = Unit {0}
+CanTake world code jumps o st (Begin e what ∷ rest) = CanBegin world code o st e
+CanTake world code jumps o st _ = ⊥
 
 -- The state is within the limits, no full expression is open in its top frame, and the machine can take its next control step; where the frame ends with
 -- it, the machine can end it.
 pub record MayGoOn (world : World) (m : Machine) (st : State) : Type 0 where
   pub within : IsWithin world st
   pub closed : st.top.begun ≡ None
-  pub can : CanTake m.code.now m.jumps m.top st (ready_work st.top.todo)
+  pub can : CanTake world m.code.now m.jumps m.top st (ready_work st.top.todo)
   pub ends : is_last (ready_work st.top.todo) ≡ true → CanEnd m st
   pub enters : CanEnterFirst world m st (ready_work st.top.todo)
 
@@ -158,7 +159,7 @@ pub record HasTaken (world : World) (meaning : Option ℕ → Meaning) (s : Step
   pub next : step_of (meaning m.top.function) s ∷ todo_of (meaning m.top.function) m.work.now ≡ ready_work (todo_of (meaning m.top.function) before)
   pub within : IsWithin world st
   pub closed : st.top.begun ≡ None
-  pub can : CanTake m.code.now m.jumps m.top st (step_of (meaning m.top.function) s ∷ todo_of (meaning m.top.function) m.work.now)
+  pub can : CanTake world m.code.now m.jumps m.top st (step_of (meaning m.top.function) s ∷ todo_of (meaning m.top.function) m.work.now)
   pub items : m.items ≡ []
   pub ends : is_last (step_of (meaning m.top.function) s ∷ todo_of (meaning m.top.function) m.work.now) ≡ true → CanEnd m st
   pub enters : CanEnterFirst world m st (step_of (meaning m.top.function) s ∷ todo_of (meaning m.top.function) m.work.now)

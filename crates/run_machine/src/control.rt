@@ -9,6 +9,7 @@ ghost use Rattle.run_control.specs.Links.{work_at};
 ghost use Rattle.run_control.specs.View.{Meaning, after, is_nothing, todo_of};
 ghost use Rattle.run_machine.specs.Answering.{AnswersControl, AnswersStep, step_of_move};
 ghost use Rattle.run_code.specs.InRange.{part_of};
+ghost use Rattle.run_machine.specs.Beginning.{HasShown};
 ghost use Rattle.run_machine.specs.Ended.{AnswersEnd};
 ghost use Rattle.run_machine.specs.Entering.{BearsAll, CanBear, CreatesOne, Enters};
 ghost use Rattle.run_machine.specs.Leaving.{GoesStill, LeavesBlock};
@@ -18,9 +19,11 @@ use crate::frames::end_frame;
 use c_typed::Typed;
 use c_types::Shape;
 use prov_memory::ObjKind;
-use run_code::{BlockCode, ObjectCode, Operand};
+use program_view::law_view;
+use run_code::{BlockCode, ObjectCode, Operand, law_choices};
 use run_control::{Move, Step, Use};
 use run_events::{choose_at_once, put_at};
+use run_listing::law_cursor;
 use run_objects::total;
 use run_state::{Begun, Halt, Local, Machine, Stage};
 use seq_order::Taken;
@@ -260,8 +263,12 @@ fn declare(machine: &mut Machine, object: u32) -> Result<Option<u8>, Halt>
 
 // A full expression begins, whose value has this use.
 fn begin<'c>(machine: &mut Machine<'_, 'c>, number: u32, how: Use<'c>) -> Result<Option<u8>, Halt>
-    ensures { machine.new.work ≡ machine.old.work }
+    ensures work { machine.new.work ≡ machine.old.work }
+    ensures answers { AnswersStep (steps.Begin number how.entry) machine.old machine.new result }
 {
+    law_view();
+    law_cursor();
+    law_choices();
     let code = machine.code;
     machine.top.how = how;
     machine.top.turn = machine.top.turn.saturating_add(1);
@@ -290,7 +297,8 @@ fn show_begun<'p>(
     number: u32,
     root: &'p Typed,
 ) -> Result<(), NoMemory>
-    ensures { machine.new.work ≡ machine.old.work }
+    ensures work { machine.new.work ≡ machine.old.work }
+    ensures shown { OnOk result (HasShown machine.old number root.entry machine.new) }
 {
     let frame = machine.top.frame;
     let turn = machine.top.turn;
