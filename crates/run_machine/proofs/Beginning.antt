@@ -226,10 +226,10 @@ module _ (world : World) (f : Scene) (code : Code) (number : ℕ) (laid : Expres
       let P : Type 0 = taken_in choices n ≡ taken_by world f e n in
       let cs = part_of code.tables.chosen.items laid.chosen in
       let by : IsLaidOut code.tables code.listing.items laid → P = λ l.
-          let kept = keeps world f l.0 l.1 code.tables code.listing.items laid e l.2 (views l.0) listing.formed none in
-          let start : taken_in [] ≡ (λ k. None) = (λ i k. none_taken k i) in
-          made n ∙ ap (λ t. with_chosen cs t n) start ∙ kept.chosen n
-          ∙ where_is (is_due (tree_of e.root) (taken_by world f e) (place n Val)) (taken_by world f e n) due in
+      let kept = keeps world f l.0 l.1 code.tables code.listing.items laid e l.2 (views l.0) listing.formed none in
+      let start : taken_in [] ≡ (λ k. None) = (λ i k. none_taken k i) in
+      made n ∙ ap (λ t. with_chosen cs t n) start ∙ kept.chosen n
+      ∙ where_is (is_due (tree_of e.root) (taken_by world f e) (place n Val)) (taken_by world f e n) due in
       ∥∥₁_elim code.laid_out (hlevel (props, ℕ_set)) (λ all. by (each_at (IsLaidOut code.tables code.listing.items) code.expressions.items number laid at all))
 
 turn_after : (old seen new : ℕ) → old + 1 < 2 ^ 64 → new ≡ min (old + 1) (2 ^ 64 - 1) → old ≡ seen → new ≡ suc seen
@@ -397,12 +397,12 @@ module _ (trees : TreesAreKept) (begins : StandsAtBegin) (keeps : KeepsAtBegin) 
       HasShown g number laid.root s → HasChosen s cs n → AnswersStep (taking.Begin number how) m n (Ok None)
   begin_answers m g s n turn number how laid cs at chosen turned grown kept shown made =
       let shape : s ≡ record m { top = begun_open m.top turn number how laid; values = g.values; begun = s.begun } =
-          shown.rest ∙ ap (λ (x : Machine). record x { begun = s.begun }) grown in
+      shown.rest ∙ ap (λ (x : Machine). record x { begun = s.begun }) grown in
       let whole : n ≡ record m { top = begun_open m.top turn number how laid; values = g.values; begun = n.begun } =
-          made.rest ∙ ap (λ (x : Machine). record x { begun = n.begun }) shape in
+      made.rest ∙ ap (λ (x : Machine). record x { begun = n.begun }) shape in
       let values : n.values.items ≡ g.values.items = ap (λ (x : Machine). x.values.items) whole in
       let full : n ≡ begun_in m n (begun_open m.top turn number how laid) =
-          whole ∙ ap (λ (x : Machine). record m { top = begun_open m.top turn number how laid; values = x.values; begun = n.begun }) (sym whole) in
+      whole ∙ ap (λ (x : Machine). record m { top = begun_open m.top turn number how laid; values = x.values; begun = n.begun }) (sym whole) in
       let under : length g.below.items ≡ length m.below.items = ap (λ (x : Machine). length x.below.items) grown in
       let below : length s.below.items ≡ length m.below.items = ap (λ (x : Machine). length x.below.items) shape in
       let began : g.begun.items ≡ m.begun.items = ap (λ (x : Machine). x.begun.items) grown in
@@ -418,11 +418,11 @@ module _ (trees : TreesAreKept) (begins : StandsAtBegin) (keeps : KeepsAtBegin) 
         };
         shown = λ le.
             let more : length g.below.items ≤ length g.begun.items =
-                subst (λ (k : ℕ). k ≤ length g.begun.items) (sym under) (subst (λ (v : List Shown). length m.below.items ≤ length v) (sym began) le) in
+            subst (λ (k : ℕ). k ≤ length g.begun.items) (sym under) (subst (λ (v : List Shown). length m.below.items ≤ length v) (sym began) le) in
             let same : length s.below.items ≡ length g.below.items = below ∙ sym under in
             let there = shown.shown more in
             let taken = made.taken (shown_in number laid g.top [])
-                (subst (λ (k : ℕ). slice_get s.begun.items k ≡ Some (shown_in number laid g.top [])) (sym same) there) in (
+            (subst (λ (k : ℕ). slice_get s.begun.items k ≡ Some (shown_in number laid g.top [])) (sym same) there) in (
               taken.0,
               subst (λ (k : ℕ). slice_get n.begun.items k ≡ Some (shown_in number laid (begun_open m.top turn number how laid) taken.0)) below
                   (taken.1 ∙ ap (λ (o : Open). Some (shown_in number laid o taken.0)) top),

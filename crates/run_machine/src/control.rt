@@ -18,8 +18,8 @@ ghost use Rattle.run_machine.specs.Moving.{GoesOn, IsGone, StepLeaves, TakesStep
 use crate::frames::end_frame;
 use c_typed::Typed;
 use c_types::Shape;
-use prov_memory::ObjKind;
 use program_view::law_view;
+use prov_memory::ObjKind;
 use run_code::{BlockCode, ObjectCode, Operand, law_choices};
 use run_control::{Move, Step, Use};
 use run_events::{choose_at_once, put_at};
