@@ -1,12 +1,16 @@
 mod Answered
 mod Aside
+mod Beginning
 mod Behind
+mod Births
 mod Creating
 mod Deciding
+mod Entered
 mod Finished
 mod Given
 mod Giving
 mod Going
+mod Growing
 mod Laying
 mod Leaving
 mod Left
