@@ -222,7 +222,7 @@ module _ (stands : EventStands) (steps : EventSteps) (world : World) (meaning : 
 
     comes : ComesTo world meaning None new (step world st (Ev d.place))
     unfolding takes taken
-    comes = (
+    comes = λ more. (
       after_event world st e d.place v new.items (store_after new),
       steps world meaning m new st e s laid d v takes t.act t.within,
       refl,
@@ -234,7 +234,7 @@ module _ (stands : EventStands) (steps : EventSteps) (world : World) (meaning : 
       FollowsEvent now.code.now who status d done new r → AnswersTaken world meaning r new (step world st (Ev d.place))
   performed status none done new did changes effect (Ok (pick.Event event completed ended)) f =
       subst (λ (o : Option ℕ). AnswersTaken world meaning (Ok (pick.Event event completed o)) new (step world st (Ev d.place))) (sym (f.1 ∙ none))
-      (λ rows. comes done f.2.noted new did.0 did.1 changes effect f.2.notes f.2.decides rows)
+      (λ rows. comes done f.2.noted new did.0 did.1 changes effect f.2.notes f.2.decides rows rows)
   performed status none done new did changes effect (Ok (pick.Starts event)) f = absurd f
   performed status none done new did changes effect (Ok (pick.Step ended)) f = absurd f
   performed status none done new did changes effect (Err x) f =

@@ -326,7 +326,8 @@ left_so m os is spare b c ws block died goes world meaning st on h =
     let f = st.top in
     let l = left_block m os is spare b c block died world meaning st h in
     let t = store_of (with_objects m.memory os) m.streams in
-    let trace = entry_of world f Control l.js ∷ st.trace in (
+    let trace = entry_of world f Control l.js ∷ st.trace in
+    λ rows. (
       state_left world st l.js t l.bs rest,
       control_stays world st (todo.Leave n ds) rest (result_of world f) l.js t h.closed (sym (h.next ∙ h.stands.frames.0.control.ready)) refl l.ran
           (ap (λ (k : Bool). if k then End else Stay) (ends_not world (ready_work rest) on))

@@ -312,7 +312,8 @@ module _ (law : StandsAtEnd) (world : World) (meaning : Option ℕ → Meaning) 
       let scene = next_scene world f f.begun u v in
       let holds = room (room_there world (meaning onto.function) m (length rs) onto onto.stage f.scene f.begun u m.code.now (length m.values.items)
       (onto.base + m.top.node) m.top.node frames.0.begun has) in
-      let after : State = record { top = g; held = hs; store = st.store; trace = trace } in (
+      let after : State = record { top = g; held = hs; store = st.store; trace = trace } in
+      λ rows. (
         after,
         ap (λ (l : Option (Cause × ℕ)). within l (Running after)) (ap (λ (d : ℕ). limit_passed world.limits d st.store) as_deep
             ∙ limit_less world.limits (depth_of st.top ((f, u) ∷ hs)) (depth_of f hs) st.store

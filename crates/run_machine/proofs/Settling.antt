@@ -304,7 +304,7 @@ module _ (world : World) (meaning : Option ℕ → Meaning) (m : Machine) (stage
   settled_so : (ws : List Work) (left : Option Kept_value) → IsWithin world st → is_nothing (ready_work behind) ≡ false →
       ready_work (todo_of mg ws) ≡ ready_work behind → left ≡ left_by m.top.how x.value m.left → m.items ≡ [] →
       Answers world meaning (Ok None) (settled_in m ws left) (step world st Control)
-  settled_so ws left limits on ready by items = (
+  settled_so ws left limits on ready by items = λ rows. (
     settled_state world st x.e x.opened,
     settles_on world st x.e x.opened (stays_by m.top.function (sym s.frames.0.function) x.can.behind on) limits,
     sym items,

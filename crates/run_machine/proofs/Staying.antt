@@ -6,7 +6,7 @@ use Rattle.ub_base.specs.declared.names.Item.{Item}
 use Rattle.c_typed.specs.declared.tree.Place.{Place}
 use Rattle.mem_spec.specs.Store.{Store}
 use Rattle.mem_spec.specs.Script.{Act, Done, run}
-use Rattle.c_model.specs.Control.{Todo, Use as Model_use, Work, ready_work, out_of, on_with, leaves}
+use Rattle.c_model.specs.Control.{Todo, Use as Model_use, Work, Enter, ready_work, out_of, on_with, leaves}
 use Rattle.c_model.specs.Moves.{Move, End, Stay}
 use Rattle.c_model.specs.Steps.{Pick as Model_pick, Begun, Local, Scene, Control, Ev, MayPick, control_act, control_move, control_next, does, move, next}
 use Rattle.c_model.specs.Steps.{root_value, settled}
@@ -30,8 +30,6 @@ use Rattle.c_model.specs.Runs.{
   step,
   within,
 }
-use Rattle.run_control.specs.declared.statement.Block.{Block}
-use Rattle.run_control.specs.declared.work.Use.{Use}
 use Rattle.run_control.specs.declared.work.Work.{Work as Kept_work}
 use Rattle.run_control.specs.declared.moves.Move.{Move as Kept_move}
 use Rattle.run_control.specs.declared.moves.Move.TheVariants.{Out, On, Back}
@@ -65,6 +63,7 @@ use Rattle.run_machine.specs.Answering.{
   step_of_move,
 }
 use Rattle.run_machine.specs.Ending.{CanEnd, is_last}
+use Rattle.run_machine.specs.Entering.{CanEnterFirst}
 use Rattle.run_machine.specs.Picks.{ByWay, Follows, FollowsCanonical, FollowsIn, IsPick, IsStep, top_of}
 use Rattle.run_machine.specs.Settling.{CanSettle, GoesBehind}
 use Rattle.run_machine.proofs.Finished.{control_first, no_event}
@@ -145,7 +144,8 @@ left_answers s world meaning m ws st todo h now leaves passes runs stays =
     let rest = todo_of mg m.work.now in
     let ready = sym (h.next ∙ h.stands.frames.0.control.ready) in
     let trace = entry_of world st.top Control [] ∷ st.trace in
-    let after : State = record { top = record st.top { todo = todo }; held = st.held; store = st.store; trace = trace } in (
+    let after : State = record { top = record st.top { todo = todo }; held = st.held; store = st.store; trace = trace } in
+    λ rows. (
       after,
       control_stays world st w rest Nothing [] st.store h.closed ready passes runs stays
           (ap (λ (f : Local). limit_passed world.limits (depth_of f st.held) st.store) leaves
@@ -194,13 +194,6 @@ memory_wanted s m n e is = λ world meaning st h. no_memory world meaning n (ste
 pub by_step : (s t : Step) (m n : Machine) (r : Result (Option ℕ) Halt) → s ≡ t → AnswersStep t m n r → AnswersStep s m n r
 by_step s t m n r is a = subst (λ (x : Step). AnswersStep x m n r) (sym is) a
 
--- of these nothing is said
-pub begin_untold : (s : Step) (k : ℕ) (how : Use) (m n : Machine) (r : Result (Option ℕ) Halt) → s ≡ taking.Begin k how → AnswersStep s m n r
-begin_untold s k how m n r is = by_step s (taking.Begin k how) m n r is (λ world meaning st h. absurd h.can)
-
-pub enter_untold : (s : Step) (b : Bor Block) (m n : Machine) (r : Result (Option ℕ) Halt) → s ≡ taking.Enter b → AnswersStep s m n r
-enter_untold s b m n r is = by_step s (taking.Enter b) m n r is (λ world meaning st h. absurd h.can)
-
 -- ---- the next step, taken off
 -- the machine before it is the one that stood
 before_stands : (world : World) (meaning : Option ℕ → Meaning) (m : Machine) (below : List (List Kept_work)) (now : List Kept_work) (st : State) →
@@ -210,6 +203,36 @@ before_stands world meaning m below now st same s =
 
 ends_as : (m : Machine) (below : List (List Kept_work)) (now : List Kept_work) (st : State) → CanEnd m st → CanEnd (with_work m below now) st
 ends_as m below now st c = record { result = c.result; function = c.function; rooms = c.rooms; room = c.room }
+
+enters_as : (world : World) (m : Machine) (below : List (List Kept_work)) (now : List Kept_work) (st : State) (t : Todo) →
+    CanEnterFirst world m st t → CanEnterFirst world (with_work m below now) st t
+enters_as world m below now st [] c = tt
+enters_as world m below now st (Enter b ds ∷ rest) c = record {
+  function = c.function;
+  result = c.result;
+  arguments = c.arguments;
+  limit = c.limit;
+  turn = c.turn;
+  number = c.number;
+  block = c.block;
+  below = c.below;
+}
+enters_as world m below now st (w ∷ rest) c = tt
+
+enters_cleared : (world : World) (m : Machine) (is : List Item) (st : State) (t : Todo) → CanEnterFirst world m st t →
+    CanEnterFirst world (record m { items = is }) st t
+enters_cleared world m is st [] c = tt
+enters_cleared world m is st (Enter b ds ∷ rest) c = record {
+  function = c.function;
+  result = c.result;
+  arguments = c.arguments;
+  limit = c.limit;
+  turn = c.turn;
+  number = c.number;
+  block = c.block;
+  below = c.below;
+}
+enters_cleared world m is st (w ∷ rest) c = tt
 
 pub control_answers : (r : Result (Option ℕ) Halt) (o : Option Step) (s : Step) (m : Machine) (below : List (List Kept_work)) (now : List Kept_work)
     (n : Machine) → m.top.stage ≡ None → o ≡ Some s → below ≡ m.work.below →
@@ -225,10 +248,16 @@ control_answers r o s m below now n none is same ready does = λ world meaning s
       next = next;
       within = goes.within;
       closed = closed;
-      can = subst (λ (t : Todo). CanTake m.code.now m.jumps m.top st t) (sym (next ∙ stands.frames.0.control.ready)) can.0;
+      can = subst (λ (t : Todo). CanTake world m.code.now m.jumps m.top st t) (sym (next ∙ stands.frames.0.control.ready)) can.takes;
       items = items;
-      ends = λ e. ends_as m below now st (can.1 (sym (ap is_last (next ∙ stands.frames.0.control.ready)) ∙ e));
+      enters = enters_as world m below now st (step_of mg s ∷ todo_of mg now)
+          (subst (λ (t : Todo). CanEnterFirst world m st t) (sym (next ∙ stands.frames.0.control.ready)) can.enters);
+      ends = λ e. ends_as m below now st (can.ends (sym (ap is_last (next ∙ stands.frames.0.control.ready)) ∙ e));
     })
+
+pub not_both : {A : Type 0} (o : Option A) (x : A) → o ≡ None → o ≡ Some x → ⊥
+not_both None x none some = cc
+not_both (Some y) x none some = cc
 
 pub control_wanted : (m n : Machine) (e : Halt) → e ≡ halt.NoMemory → AnswersControl m n (Err e)
 control_wanted m n e is = λ world meaning st stands goes items. no_memory world meaning n (step world st Control) e is
@@ -269,7 +298,11 @@ behind_cleared None m is st what t goes = (goes.0, λ e. ends_cleared m is st (g
 
 can_cleared : (world : World) (m : Machine) (is : List Item) (st : State) (b : Option Begun) → CanGoOn world m st b →
     CanGoOn world (record m { items = is }) st b
-can_cleared world m is st None can = (can.0, λ e. ends_cleared m is st (can.1 e))
+can_cleared world m is st None can = record {
+  takes = can.takes;
+  enters = enters_cleared world m is st (ready_work st.top.todo) can.enters;
+  ends = λ e. ends_cleared m is st (can.ends e);
+}
 can_cleared world m is st (Some e) can = record {
   behind = behind_cleared m.top.function m is st e.what (settled world st.top (root_value world st.top e) e.what).todo can.behind;
   chooses = can.chooses;

@@ -216,7 +216,8 @@ answers_so m d os is b c l inner block there keeps exact = λ world meaning st h
     let ran = unwrites m.memory.rows world.rows x (store_of m.memory io) Nothing is (store_of (with_objects m.memory os) io) same
     (subst (λ (y : ObjName). run m.memory.rows (unwrite m.memory.rows y) (store_of m.memory io) ≡ Done tt is (store_of (with_objects m.memory os) io))
     name exact) in
-    let trace = entry_of world st.top Control is ∷ st.trace in (
+    let trace = entry_of world st.top Control is ∷ st.trace in
+    λ rows. (
       record { top = record st.top { todo = after }; held = st.held; store = store_of (with_objects m.memory os) io; trace = trace },
       control_stays world st (todo.Unwrite d) after Nothing is (store_of (with_objects m.memory os) io) h.closed ready refl
           (ap (λ (p : Script Value). run world.rows p st.store) (unwrites_own world st.top d b.now.number turn first.1 after first.2)

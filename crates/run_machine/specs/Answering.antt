@@ -2,7 +2,10 @@
 use Rattle.std.specs.Prelude.{◌≡◌, ℕ, ◌+◌, ◌<◌, ◌^◌, true, false, List, [], ◌∷◌, length, map, slice_get, is_some, Option, Some, None, Result, Ok, Err}
 use Rattle.std.specs.Borrow.{Bor}
 use Rattle.ub_base.specs.declared.names.Item.{Item}
-use Rattle.c_model.specs.Control.{Todo, Leave, Unwrite, Nothing_to_do, Go_to, Go_out, Go_on, Go_back, ready_work}
+use Rattle.ub_base.specs.declared.names.ObjName.{ObjName}
+use Rattle.addr_map.specs.Rows.{row_of}
+use Rattle.prov_memory.specs.Keeps.{RowsStay}
+use Rattle.c_model.specs.Control.{Todo, Begin, Enter, Leave, Unwrite, Nothing_to_do, Go_to, Go_out, Go_on, Go_back, ready_work}
 use Rattle.c_model.specs.Program.{Decl}
 use Rattle.c_model.specs.OpenBlocks.{Closes, NoEntersBehind}
 use Rattle.c_model.specs.Steps.{Begun, Control, Local, MayPick}
@@ -25,10 +28,12 @@ use Rattle.run_state.specs.declared.halt.Halt.TheVariants as halt
 use Rattle.run_state.specs.declared.machine.Machine.{Machine}
 use Rattle.run_state.specs.declared.machine.Open.{Open}
 use Rattle.run_state.specs.Stands.{Stands}
+use Rattle.run_machine.specs.Beginning.{CanBegin}
 use Rattle.run_machine.specs.declared.pick.Pick.{Pick}
 use Rattle.run_machine.specs.declared.pick.Pick.TheVariants as pick
 use Rattle.run_machine.specs.Ending.{CanEnd, is_last}
 use Rattle.run_machine.specs.Settling.{CanSettle}
+use Rattle.run_machine.specs.Entering.{CanEnterFirst}
 
 -- 1. What a step comes to.
 
@@ -42,18 +47,19 @@ newest_items [] = []
 newest_items (e ∷ es) = e.items
 
 -- The machine goes on, as a state of the definitions for which it stands, and has the items of the pick; or the run ends with this status, with what was
--- written so far.
+-- written so far. The world has the rows that the machine then has.
 abbrev pub ComesTo : World → (Option ℕ → Meaning) → Option ℕ → Machine → Outcome → Type 0
-ComesTo world meaning None m o = (st : State) × (o ≡ Running st) × (newest_items st.trace ≡ m.items) × Stands world meaning m st
+ComesTo world meaning None m o =
+    RowsStay m.memory.rows world.rows → (st : State) × (o ≡ Running st) × (newest_items st.trace ≡ m.items) × Stands world meaning m st
 ComesTo world meaning (Some status) m o = (trace : List Entry) × (o ≡ Ends status m.streams.output trace) × (newest_items trace ≡ m.items)
 
 -- What is answered to a step: that it was taken, with the status of a run that it ends, or that it raises a clause, passes a limit with the number that
--- would be reached, or needs a row that isn't there. Want of memory may come at any time.
+-- would be reached, or needs a row that isn't there, where the world has just the rows of the machine. Want of memory may come at any time.
 abbrev pub Answers : World → (Option ℕ → Meaning) → Result (Option ℕ) Halt → Machine → Outcome → Type 0
 Answers world meaning (Ok status) m o = ComesTo world meaning status m o
 Answers world meaning (Err (halt.Raised event line clause)) m o = (trace : List Entry) × (o ≡ Raises clause trace)
 Answers world meaning (Err (halt.Over cause number)) m o = o ≡ Over cause number
-Answers world meaning (Err halt.Unplaced) m o = o ≡ No_row
+Answers world meaning (Err halt.Unplaced) m o = ((x : ObjName) → row_of world.rows x ≡ row_of m.memory.rows x) → o ≡ No_row
 Answers world meaning (Err halt.NoMemory) m o = Unit {0}
 
 -- 2. Control steps.
@@ -98,21 +104,28 @@ pub record IsLeft (code : Code) (o : Open) (st : State) (b : ℕ) (ds : List Dec
   pub objects : (c : BlockCode) → slice_get code.tables.blocks.items (o.blocks + b) ≡ Some c → HasObjects o b c ds
 
 -- What is asked of a machine, and of the state that it stands for, for the control step that comes next: nothing for `break`, `continue` and `return`, and
--- where nothing is done. Of steps that enter a block or begin a full expression nothing is said yet.
-abbrev pub CanTake : Code → Jumps → Open → State → Todo → Type 0
-CanTake code jumps o st (Nothing_to_do ∷ rest) = Unit {0}
-CanTake code jumps o st (Go_out ∷ rest) = Unit {0}
-CanTake code jumps o st (Go_on ∷ rest) = Unit {0}
-CanTake code jumps o st (Go_back ∷ rest) = Unit {0}
-CanTake code jumps o st (Go_to k ∷ rest) = HasLabels code jumps o.function
-CanTake code jumps o st (Unwrite d ∷ rest) = HasOpenBlocks st.top × IsDeclared code o d st.top.scene.blocks
-CanTake code jumps o st (Leave b ds ∷ rest) = IsLeft code o st b ds rest
-CanTake code jumps o st _ = ⊥
+-- where nothing is done. What is asked where a block is entered stands beside.
+abbrev pub CanTake : World → Code → Jumps → Open → State → Todo → Type 0
+CanTake world code jumps o st (Nothing_to_do ∷ rest) = Unit {0}
+CanTake world code jumps o st (Go_out ∷ rest) = Unit {0}
+CanTake world code jumps o st (Go_on ∷ rest) = Unit {0}
+CanTake world code jumps o st (Go_back ∷ rest) = Unit {0}
+CanTake world code jumps o st (Go_to k ∷ rest) = HasLabels code jumps o.function
+CanTake world code jumps o st (Unwrite d ∷ rest) = HasOpenBlocks st.top × IsDeclared code o d st.top.scene.blocks
+CanTake world code jumps o st (Leave b ds ∷ rest) = IsLeft code o st b ds rest
+CanTake world code jumps o st (Enter b ds ∷ rest) = Unit {0}
+CanTake world code jumps o st (Begin e what ∷ rest) = CanBegin world code o st e
+CanTake world code jumps o st _ = ⊥
 
--- Where no full expression is open in the top frame, the machine can take the step, and end the frame where it ends with it; else it can settle what is
--- open.
+-- Where no full expression is open in the top frame, the machine can take the step, enter the block that comes next, and end the frame where it ends with
+-- the step; else it can settle what is open.
+pub record CanStep (world : World) (m : Machine) (st : State) : Type 0 where
+  pub takes : CanTake world m.code.now m.jumps m.top st (ready_work st.top.todo)
+  pub enters : CanEnterFirst world m st (ready_work st.top.todo)
+  pub ends : is_last (ready_work st.top.todo) ≡ true → CanEnd m st
+
 abbrev pub CanGoOn : World → Machine → State → Option Begun → Type 0
-CanGoOn world m st None = CanTake m.code.now m.jumps m.top st (ready_work st.top.todo) × (is_last (ready_work st.top.todo) ≡ true → CanEnd m st)
+CanGoOn world m st None = CanStep world m st
 CanGoOn world m st (Some e) = CanSettle world m st e
 
 -- The state is within the limits, the control step may be picked in it, and the machine can take it.
@@ -155,9 +168,10 @@ pub record HasTaken (world : World) (meaning : Option ℕ → Meaning) (s : Step
   pub next : step_of (meaning m.top.function) s ∷ todo_of (meaning m.top.function) m.work.now ≡ ready_work (todo_of (meaning m.top.function) before)
   pub within : IsWithin world st
   pub closed : st.top.begun ≡ None
-  pub can : CanTake m.code.now m.jumps m.top st (step_of (meaning m.top.function) s ∷ todo_of (meaning m.top.function) m.work.now)
+  pub can : CanTake world m.code.now m.jumps m.top st (step_of (meaning m.top.function) s ∷ todo_of (meaning m.top.function) m.work.now)
   pub items : m.items ≡ []
   pub ends : is_last (step_of (meaning m.top.function) s ∷ todo_of (meaning m.top.function) m.work.now) ≡ true → CanEnd m st
+  pub enters : CanEnterFirst world m st (step_of (meaning m.top.function) s ∷ todo_of (meaning m.top.function) m.work.now)
 
 abbrev pub AnswersStep : Step → (old new : Machine) → Result (Option ℕ) Halt → Type 0
 AnswersStep s old new result =

@@ -2,7 +2,9 @@ pub mod Picks
 pub mod Moving
 pub mod Answering
 pub mod Leaving
+pub mod Beginning
 pub mod Ending
+pub mod Entering
 pub mod Ended
 pub mod Taking
 pub mod Starting

@@ -239,7 +239,7 @@ pub record MayTake (world : World) (meaning : Option ℕ → Meaning) (m : Machi
 
 -- it is taken as the definitions' event, in a world that has the rows that the machine then has, or raises their clause; there may be want of memory
 abbrev pub AnswersTaken : World → (Option ℕ → Meaning) → Result Pick Halt → Machine → Outcome → Type 0
-AnswersTaken world meaning (Ok (pick.Event event completed None)) m o = RowsStay m.memory.rows world.rows → ComesTo world meaning None m o
+AnswersTaken world meaning (Ok (pick.Event event completed None)) m o = ComesTo world meaning None m o
 AnswersTaken world meaning (Ok (pick.Event event completed (Some status))) m o = ⊥
 AnswersTaken world meaning (Ok (pick.Starts event)) m o = ⊥
 AnswersTaken world meaning (Ok (pick.Step status)) m o = ⊥

@@ -1,5 +1,6 @@
 // The control steps (6.8).
-ghost use Rattle.std.specs.Prelude.{◌≡◌, ◌∷◌, ◌+◌, ◌-◌, ◌^◌, true, false, min, ℤ, Bool, Option, None, Some, slice_get, IfOk, OnOk};
+ghost use Rattle.std.specs.Prelude.{◌≡◌, ◌≢◌, ◌∷◌, ◌+◌, ◌-◌, ◌^◌, true, false, min, ℕ, ℤ, Bool, Option, None, Some, length, slice_get, IfOk, OnOk, option_map};
+ghost use Rattle.c_types.specs.Shapes.{form_of};
 ghost use Rattle.run_control.specs.Moves.{moved};
 ghost use Rattle.c_model.specs.Control.{Break_here, moved_in, ready_work};
 ghost use Rattle.run_control.specs.declared.links.Place.{Place};
@@ -7,7 +8,10 @@ ghost use Rattle.run_control.specs.declared.work.Step.TheVariants as steps;
 ghost use Rattle.run_control.specs.Links.{work_at};
 ghost use Rattle.run_control.specs.View.{Meaning, after, is_nothing, todo_of};
 ghost use Rattle.run_machine.specs.Answering.{AnswersControl, AnswersStep, step_of_move};
+ghost use Rattle.run_code.specs.InRange.{part_of};
+ghost use Rattle.run_machine.specs.Beginning.{HasShown};
 ghost use Rattle.run_machine.specs.Ended.{AnswersEnd};
+ghost use Rattle.run_machine.specs.Entering.{BearsAll, CanBear, CreatesOne, Enters};
 ghost use Rattle.run_machine.specs.Leaving.{GoesStill, LeavesBlock};
 ghost use Rattle.run_machine.specs.Moving.{GoesOn, IsGone, StepLeaves, TakesStep};
 ghost use Rattle.run_machine.specs.Settling.{HasUsed, left_by};
@@ -16,13 +20,17 @@ ghost use Rattle.prov_memory.specs.declared.value.Value.{Value as Kept_value};
 
 use crate::frames::end_frame;
 use c_typed::Typed;
+use c_types::Shape;
+use program_view::law_view;
 use prov_memory::ObjKind;
-use run_code::{BlockCode, ObjectCode, Operand};
+use run_code::{BlockCode, ObjectCode, Operand, law_choices};
 use run_control::{Move, Step, Use};
 use run_events::{choose_at_once, put_at};
+use run_listing::law_cursor;
 use run_objects::total;
 use run_state::{Begun, Halt, Local, Machine, Stage, law_operands};
 use seq_order::Taken;
+use std::rc::Rc;
 use ub_base::{Cause, NoMemory, ObjName};
 
 /// How many bytes the created objects may count (own).
@@ -104,7 +112,8 @@ fn block_of<'c>(
     machine: &Machine<'_, 'c>,
     number: u32,
 ) -> Result<(BlockCode, &'c [ObjectCode]), NoMemory>
-    ensures { IfOk result (λ b. slice_get machine.now.code.now.tables.blocks.items (min (machine.now.top.blocks + number) (2 ^ 32 - 1)) ≡ Some b.0) }
+    ensures at { IfOk result (λ b. slice_get machine.now.code.now.tables.blocks.items (min (machine.now.top.blocks + number) (2 ^ 32 - 1)) ≡ Some b.0) }
+    ensures objects { IfOk result (λ b. b.1.now ≡ part_of machine.now.code.now.tables.objects.items b.0.objects) }
 {
     let code = machine.code;
     let at = machine.top.blocks.saturating_add(number);
@@ -116,7 +125,8 @@ fn block_of<'c>(
 
 // A block is entered: its objects are created in order, and the first take the arguments.
 fn enter(machine: &mut Machine, number: u32) -> Result<Option<u8>, Halt>
-    ensures { machine.new.work ≡ machine.old.work }
+    ensures work { machine.new.work ≡ machine.old.work }
+    ensures enters { Enters machine.old number machine.new result }
 {
     machine.entered = number;
     machine.top.turn = machine.top.turn.saturating_add(1);
@@ -132,7 +142,8 @@ fn enter(machine: &mut Machine, number: u32) -> Result<Option<u8>, Halt>
 
 // The objects of a block, of which the first has this number in the function.
 fn create_objects(machine: &mut Machine, objects: &[ObjectCode], first: u32) -> Result<(), Halt>
-    ensures { machine.new.work ≡ machine.old.work }
+    ensures work { machine.new.work ≡ machine.old.work }
+    ensures born { CanBear machine.old first (length objects.now) → BearsAll machine.old objects.now first machine.new result }
 {
     let mut number: u32 = 0;
     for object in objects {
@@ -148,7 +159,8 @@ fn store_arguments(
     objects: &[ObjectCode],
     block: BlockCode,
 ) -> Result<(), NoMemory>
-    ensures { machine.new.work ≡ machine.old.work }
+    ensures work { machine.new.work ≡ machine.old.work }
+    ensures none { block.arguments ≡ 0 → OnOk result (machine.new ≡ machine.old) }
 {
     let mut number: u32 = 0;
     for object in objects.iter().take(block.arguments as usize) {
@@ -160,7 +172,8 @@ fn store_arguments(
 
 // The object of this number in the block.
 fn create(machine: &mut Machine, object: &ObjectCode, first: u32, number: u32) -> Result<(), Halt>
-    ensures { machine.new.work ≡ machine.old.work }
+    ensures work { machine.new.work ≡ machine.old.work }
+    ensures creates { CreatesOne machine.old object.now first number machine.new result }
 {
     let name = ObjName::Auto {
         frame: machine.top.frame,
@@ -172,17 +185,42 @@ fn create(machine: &mut Machine, object: &ObjectCode, first: u32, number: u32) -
         literal: false,
         constant: object.constant,
     };
-    let shape = match &object.shape {
-        Some(shape) => Some(shape.clone().map_err(NoMemory::from)?),
-        None => None,
-    };
+    let shape = shape_of(object)?;
     let spare = &mut machine.spare;
     let addr = machine
         .memory
         .create(name, object.size, object.align, kind, shape, spare)?;
-    machine.place_local(first.saturating_add(number), Local { addr, name })?;
+    place(machine, first.saturating_add(number), Local { addr, name })?;
     machine.items.join(&machine.spare)?;
     Ok(())
+}
+
+// The shape of an object's declared type, with an owner more.
+fn shape_of(object: &ObjectCode) -> Result<Option<Rc<Shape>>, NoMemory>
+    ensures shape { IfOk result (λ shape. option_map (λ s. s.value) shape ≡ option_map (λ s. s.value) object.now.shape) }
+    ensures form { IfOk result (λ shape. option_map (λ s. form_of s.value) shape ≡ option_map (λ s. form_of s.value) object.now.shape) }
+{
+    match &object.shape {
+        Some(shape) => Ok(Some(shape.clone()?)),
+        None => Ok(None),
+    }
+}
+
+// An automatic object of the top frame stands here.
+fn place(machine: &mut Machine, object: u32, local: Local) -> Result<(), NoMemory>
+    ensures rest { machine.new ≡ record machine.old { locals = machine.new.locals } }
+    ensures placed { OnOk result (slice_get machine.new.locals.items (min (machine.old.top.locals + object) (2 ^ 64 - 1)) ≡ Some local) }
+    ensures others { (j : ℕ) → j ≢ min (machine.old.top.locals + object) (2 ^ 64 - 1)
+        → slice_get machine.new.locals.items j ≡ slice_get machine.old.locals.items j }
+{
+    let at = machine.top.locals.saturating_add(object as usize);
+    match machine.locals.get_mut(at) {
+        Some(place) => {
+            *place = local;
+            Ok(())
+        }
+        None => Err(NoMemory),
+    }
 }
 
 // A parameter takes its argument. The store is an initialization of a new object by a value of its type, which raises
@@ -231,8 +269,12 @@ fn declare(machine: &mut Machine, object: u32) -> Result<Option<u8>, Halt>
 
 // A full expression begins, whose value has this use.
 fn begin<'c>(machine: &mut Machine<'_, 'c>, number: u32, how: Use<'c>) -> Result<Option<u8>, Halt>
-    ensures { machine.new.work ≡ machine.old.work }
+    ensures work { machine.new.work ≡ machine.old.work }
+    ensures answers { AnswersStep (steps.Begin number how.entry) machine.old machine.new result }
 {
+    law_view();
+    law_cursor();
+    law_choices();
     let code = machine.code;
     machine.top.how = how;
     machine.top.turn = machine.top.turn.saturating_add(1);
@@ -261,7 +303,8 @@ fn show_begun<'p>(
     number: u32,
     root: &'p Typed,
 ) -> Result<(), NoMemory>
-    ensures { machine.new.work ≡ machine.old.work }
+    ensures work { machine.new.work ≡ machine.old.work }
+    ensures shown { OnOk result (HasShown machine.old number root.entry machine.new) }
 {
     let frame = machine.top.frame;
     let turn = machine.top.turn;

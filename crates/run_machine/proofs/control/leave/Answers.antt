@@ -15,4 +15,4 @@ loop-object-preserved c = record {
 
 pub returns-clause-lives : goal.returns-clause-lives
 returns-clause-lives c =
-    (_, c.in_ok-block.ensures, as_many c.args.machine.now c.loop-object.machine _ c.loop-object.object _ (omega arith) c.loop-object.invariant.died)
+    (_, c.in_ok-block.ensures.at, as_many c.args.machine.now c.loop-object.machine _ c.loop-object.object _ (omega arith) c.loop-object.invariant.died)

@@ -1,15 +1,19 @@
-use Rattle.std.proofs.Common.{None, Ok}
+use Rattle.std.proofs.Common.{None, Ok, refl}
 use Rattle.run_control.specs.declared.work.Step.TheVariants as taking
+use Rattle.run_machine.proofs.Entered.{enter_answers}
 use Rattle.run_machine.proofs.Left.{block_answers}
-use Rattle.run_machine.proofs.Staying.{begin_untold, by_step, enter_untold, nothing_answers}
+use Rattle.run_machine.proofs.Staying.{by_step, nothing_answers}
 use Rattle.run_machine.proofs.Steering.{block_left, gone_back, gone_on, gone_out, label_gone}
 use Rattle.run_machine.proofs.control.take_step.Goals as goal
 
 pub returns-in-Begin-clause-answers : goal.returns-in-Begin-clause-answers
-returns-in-Begin-clause-answers c = begin_untold c.args.step _ _ c.args.machine.now _ _ c.in-Begin.is
+returns-in-Begin-clause-answers c =
+    by_step c.args.step (taking.Begin c.in-Begin.number c.in-Begin.how) c.args.machine.now c.begin.new.machine c.begin.result c.in-Begin.is
+    c.begin.ensures.answers
 
 pub returns-in-Enter-clause-answers : goal.returns-in-Enter-clause-answers
-returns-in-Enter-clause-answers c = enter_untold c.args.step _ c.args.machine.now _ _ c.in-Enter.is
+returns-in-Enter-clause-answers c =
+    enter_answers c.args.machine.now c.enter.new.machine c.args.step c.in-Enter.block _ c.enter.result c.in-Enter.is refl c.enter.ensures.enters
 
 pub returns-in_ok-leave-in-Leave : goal.returns-in_ok-leave-in-Leave
 returns-in_ok-leave-in-Leave c = record {

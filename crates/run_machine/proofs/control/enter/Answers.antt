@@ -1,0 +1,23 @@
+use Rattle.std.proofs.Common.{arith}
+use Rattle.std.proofs.lemmas.Result.{err_from_is_err_and}
+use Rattle.run_machine.proofs.Entered.{enters_not, enters_ok, enters_over, reached_so}
+use Rattle.run_machine.proofs.control.enter.Goals as goal
+
+pub returns-then-reached-gt-MOST_CREATED-clause-enters : goal.returns-then-reached-gt-MOST_CREATED-clause-enters
+returns-then-reached-gt-MOST_CREATED-clause-enters c =
+    enters_over c.args.machine.now c.args.machine.now c.args.number c.saturating_add-machine.result c.total-reached.result _ _ c.saturating_add-machine.ensures
+    c.in_ok-block.ensures.at c.in_ok-block.ensures.objects (reached_so _ _ _ _ c.total-reached.ensures c.created.ensures)
+    (omega (arith, c.if-reached-gt-MOST_CREATED.true))
+
+pub returns-in_err-create_objects-clause-enters : goal.returns-in_err-create_objects-clause-enters
+returns-in_err-create_objects-clause-enters c =
+    let p = err_from_is_err_and c.from_residual-in_err-create_objects.result c.from_residual-in_err-create_objects.ensures.1 in
+    enters_not c.args.machine.now c.create_objects.new.machine c.args.number c.saturating_add-machine.result c.total-reached.result _ _ c.saturating_add-machine.ensures
+    c.in_ok-block.ensures.at c.in_ok-block.ensures.objects (reached_so _ _ _ _ c.total-reached.ensures c.created.ensures)
+    c.from_residual-in_err-create_objects.result p.0 _ p.1 p.2 (omega (arith, c.if-reached-gt-MOST_CREATED.false)) c.in_err-create_objects.ensures.born
+
+pub returns-clause-enters : goal.returns-clause-enters
+returns-clause-enters c =
+    enters_ok c.args.machine.now c.create_objects.new.machine c.args.number c.saturating_add-machine.result c.total-reached.result _ _ c.saturating_add-machine.ensures
+    c.in_ok-block.ensures.at c.in_ok-block.ensures.objects (reached_so _ _ _ _ c.total-reached.ensures c.created.ensures)
+    c.store_arguments.new.machine (omega (arith, c.if-reached-gt-MOST_CREATED.false)) c.in_ok-create_objects.ensures.born c.in_ok-store_arguments.ensures.none
