@@ -6,3 +6,7 @@ mod Sited
 mod Whole
 mod Formed
 mod Starting
+mod Each
+mod Known
+mod Loud
+mod Events

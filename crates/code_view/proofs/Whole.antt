@@ -86,7 +86,7 @@ form_of : (z : Body-F Body Entry ForStart Block) (b : Block) → as_block z ≡ 
 form_of (form.Block y) b e = let same : y ≡ b = cc in ap form.Block same
 form_of _ b e = absurd (cc)
 
-body_there : (o : Option Body) (b : Block) → block_in o ≡ Some b → o ≡ Some (body.Block b)
+pub body_there : (o : Option Body) (b : Block) → block_in o ≡ Some b → o ≡ Some (body.Block b)
 body_there None b e = absurd (cc)
 body_there (Some x) b e = ap Some (sym (roll-out-Body x) ∙ (ap roll-Body (form_of (out-Body x) b e) ∙ body.rolls-Block b))
 
@@ -102,7 +102,7 @@ rows_have tags all (b ∷ bs) k h at =
     let here : slice_get all b.number ≡ Some b = ap (slice_get all) (let n = h.0 in omega (arith, n)) ∙ at 0 in
     All-cons P b bs (ap (row_decls tags) here) (rows_have tags all bs (1 + k) h.1 (λ i. ap (slice_get all) (omega arith) ∙ at (suc i)))
 
-where_some : {A : Type 0} (P : A → Type 0) (o : Option A) (x : A) → o ≡ Some x → Where P o → P x
+pub where_some : {A : Type 0} (P : A → Type 0) (o : Option A) (x : A) → o ≡ Some x → Where P o → P x
 where_some P o x e h = let k : Where P (Some x) = subst (Where P) e h in k
 
 -- the code of a function, and the block that it is of
@@ -117,7 +117,7 @@ found p numbers c laid n fc at =
     let b = block_there numbers (block_in f.0.body) fc f.2 in
     (f.0, f.1, b.0, body_there f.0.body b.0 b.1, b.2)
 
-each_at : {A : Type 0} (P : A → Type 0) (xs : List A) (n : ℕ) (x : A) → slice_get xs n ≡ Some x → All P xs → P x
+pub each_at : {A : Type 0} (P : A → Type 0) (xs : List A) (n : ℕ) (x : A) → slice_get xs n ≡ Some x → All P xs → P x
 each_at P [] zero x at h = absurd (cc)
 each_at P [] (suc n) x at h = absurd (cc)
 each_at P (y ∷ ys) zero x at h = let is : y ≡ x = cc in subst P is (All-head P y ys h)
@@ -155,7 +155,7 @@ bodies_stand p numbers c world lawful laid stands n fc at =
     ∙ (definition-block p.tags it.2
     ∙ ap Some (sym (stmt-block p.tags it.2) ∙ (body_seen p.tags (decls_in p (Some n)) x have ∙ sym told.0))))
 
-both_give : {A : Type 0} (P Q R : A → Type 0) → ((x : A) → P x → Q x → R x) → (xs : List A) → All P xs → All Q xs → All R xs
+pub both_give : {A : Type 0} (P Q R : A → Type 0) → ((x : A) → P x → Q x → R x) → (xs : List A) → All P xs → All Q xs → All R xs
 both_give P Q R f [] h k = All-nil R
 both_give P Q R f (x ∷ xs) h k = All-cons R x xs (f x (All-head P x xs h) (All-head Q x xs k)) (both_give P Q R f xs (All-tail P x xs h) (All-tail Q x xs k))
 
@@ -170,7 +170,7 @@ body_fits p f x h =
     body_full (TreeFits p) (all_own (SiteFits p)) x no_block
     (All-weaker (ExpressionIsLawful p f) (λ e. TreeFits p e.tree) (expression_fits p f) (expressions x) h.full)
 
-block_form : (b : Block) → body_trees (body.Block b) ≡ block_trees b
+pub block_form : (b : Block) → body_trees (body.Block b) ≡ block_trees b
 block_form b = search (rules, folds.the_lemmas)
 
 function_fits : (p : Program) (f : Function) (o : Option Block) → block_in f.body ≡ o → FunctionIsLawful p f → All (TreeFits p) (trees_in o)

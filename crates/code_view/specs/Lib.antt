@@ -1,3 +1,5 @@
 pub mod Numbering
 pub mod Laws
 pub mod Starting
+pub mod Known
+pub mod Events

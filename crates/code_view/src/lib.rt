@@ -4,6 +4,8 @@
 #![tactic(auto)]
 
 ghost use Rattle.code_view.specs.Laws.{RootsStand, BodiesStand, SwitchesStand, TreesFit, TreesAreFormed, LawfulCodeStands};
+ghost use Rattle.code_view.specs.Known.{CodeIsKnown};
+ghost use Rattle.code_view.specs.Events.{EventsAreEvaluated, EventsAreOfCode};
 ghost use Rattle.code_view.specs.Starting.{LawfulStartStands};
 
 /// The number of a full expression in the code stands for the expression of its typed tree.
@@ -32,6 +34,19 @@ pub fn law_code_formed()
 /// statements, the bodies of functions, stores and constants.
 pub fn law_code()
     ensures { LawfulCodeStands }
+{}
+
+/// What the code takes to be known beforehand in a full expression of a lawful program is so by the definitions, and has their truth, wherever the objects
+/// that the expression names stand (6.3.2.3p3, 6.6, 6.8.4.1p2).
+pub fn law_views()
+    ensures { CodeIsKnown }
+{}
+
+/// Each event that is listed of a full expression is of a node that isn't known beforehand. In the code of a lawful program it is what a run asks of it,
+/// wherever the objects that the expression names stand.
+pub fn law_events()
+    ensures evaluated { EventsAreEvaluated }
+    ensures code { EventsAreOfCode }
 {}
 
 /// The machine that run_state prepares of a lawful program, over the code of the terms of its trees, stands for the state that the definitions of

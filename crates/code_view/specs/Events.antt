@@ -1,0 +1,50 @@
+-- The events that are listed of the full expressions of a lawful program.
+use Rattle.std.specs.Prelude.{◌≡◌, ◌<◌, ◌≤◌, ℕ, false, List, Some, slice_get}
+use Rattle.c_typed.specs.declared.program.Program.{Program}
+use Rattle.c_typed.specs.Lawful.{IsLawful}
+use Rattle.c_typed.specs.Tree.{is_quiet}
+use Rattle.c_model.specs.Program.{Expr, tree_of}
+use Rattle.c_model.specs.Steps.{Scene}
+use Rattle.c_model.specs.World.{World}
+use Rattle.program_view.specs.Trees.{expr_of}
+use Rattle.run_code.specs.declared.nodes.NodeInfo.{NodeInfo}
+use Rattle.run_code.specs.declared.steps.Due.{Due}
+use Rattle.run_code.specs.declared.steps.Expression.{Expression as Laid}
+use Rattle.run_code.specs.declared.steps.Listed.{Listed}
+use Rattle.run_code.specs.declared.steps.Listed.TheVariants as listed
+use Rattle.run_code.specs.declared.whole.Code.{Code}
+use Rattle.run_code.specs.Chosen.{Views}
+use Rattle.run_code.specs.LaidOut.{LaidOutBy}
+use Rattle.run_code.specs.OfTrees.{HasListing, ListsTrees}
+use Rattle.code_view.specs.Known.{AreInOrder, NamesArePlaced}
+
+-- the event is listed of the full expression
+pub record IsListedAt (entries : List Listed) (laid : Laid) (d : Due) : Type 0 where
+  pub at : ℕ
+  pub first : laid.first ≤ at
+  pub end : at < laid.end
+  pub entry : slice_get entries at ≡ Some (listed.Event d)
+
+-- Each is of a node that isn't known beforehand (6.5p1 tells of value computations and side effects of operators; a constant and the address of an object
+-- have none).
+abbrev pub EventsAreEvaluated : Type 0
+EventsAreEvaluated = (code : Code) (firsts : List ℕ) (nodes : List NodeInfo) (n : ℕ) (laid : Laid) (d : Due) (x : NodeInfo) → ListsTrees code
+    → slice_get code.expressions.items n ≡ Some laid → LaidOutBy firsts nodes code.tables code.listing.items laid
+    → IsListedAt code.listing.items laid d → slice_get nodes d.place.node ≡ Some x → is_quiet (tree_of (expr_of x.tree.now)) ≡ false
+
+-- What a run asks of the code of the event: where the full expression is laid out by these nodes, the event is listed of it, of a node that isn't known
+-- beforehand; and what the code takes to be known beforehand is so by the definitions.
+pub record IsEventOfCode (world : World) (code : Code) (f : Scene) (laid : Laid) (root : Expr) (d : Due) : Type 0 where
+  pub firsts : List ℕ
+  pub nodes : List NodeInfo
+  pub lays : LaidOutBy firsts nodes code.tables code.listing.items laid
+  pub views : Views world f firsts 0 laid.root.now root
+  pub is_listed : IsListedAt code.listing.items laid d
+  pub quiet : (x : NodeInfo) → slice_get nodes d.place.node ≡ Some x → is_quiet (tree_of (expr_of x.tree.now)) ≡ false
+
+-- So it is for each event that is listed of a full expression of a lawful program's code, in each scene in which the objects that it names stand.
+abbrev pub EventsAreOfCode : Type 0
+EventsAreOfCode = (p : Program) (code : Code) (world : World) (f : Scene) (firsts : List ℕ) (nodes : List NodeInfo) (n : ℕ) (laid : Laid) (d : Due)
+    → IsLawful p → AreInOrder p code → ListsTrees code → slice_get code.expressions.items n ≡ Some laid
+    → LaidOutBy firsts nodes code.tables code.listing.items laid → NamesArePlaced world f laid.root.now → IsListedAt code.listing.items laid d
+    → IsEventOfCode world code f laid (expr_of laid.root.now) d
