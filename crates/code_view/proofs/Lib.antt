@@ -10,3 +10,4 @@ mod Each
 mod Known
 mod Loud
 mod Events
+mod Labels

@@ -41,7 +41,7 @@ use Rattle.run_code.specs.Fitting.{AccessFits, SiteFits, TreeFits, StoreFits}
 use Rattle.run_code.specs.Roots.{as_block, block_in, trees_in, code_trees, IsCodeOf, AreCodeOf, IsNumberedBy}
 use Rattle.run_state.specs.Meaning.{AccessSuits}
 use Rattle.code_view.specs.Numbering.{RowHas, root_by, row_decls, body_decls, function_decls, decls_in, switch_by, meaning_of}
-use Rattle.code_view.specs.Laws.{RootsStand, BodiesStand, SwitchesStand, TreesFit, LawfulCodeStands}
+use Rattle.code_view.specs.Laws.{RootsStand, BodiesStand, SwitchesStand, TreesFit, ConstantsAreLawful, LawfulCodeStands}
 use Rattle.code_view.proofs.Viewed.{body_seen}
 use Rattle.code_view.proofs.Full.{body_full}
 use Rattle.code_view.proofs.Own.{all_own}
@@ -90,7 +90,7 @@ pub body_there : (o : Option Body) (b : Block) → block_in o ≡ Some b → o �
 body_there None b e = absurd (cc)
 body_there (Some x) b e = ap Some (sym (roll-out-Body x) ∙ (ap roll-Body (form_of (out-Body x) b e) ∙ body.rolls-Block b))
 
-function_body : (world : World) (n : ℕ) (f : model.Function) → slice_get world.program.functions n ≡ Some f → body_of world (Some n) ≡ f.body
+pub function_body : (world : World) (n : ℕ) (f : model.Function) → slice_get world.program.functions n ≡ Some f → body_of world (Some n) ≡ f.body
 function_body world n f e = rw e
 
 -- blocks that are numbered from one on have the objects of their rows
@@ -205,6 +205,9 @@ suits (access.Whole size align) ty h = tt
 
 pub trees_fit : TreesFit
 trees_fit p lawful = functions_fit p p.functions lawful.functions
+
+pub constants_lawful : ConstantsAreLawful
+constants_lawful p numbers c lawful laid = (laid.fit (trees_fit p lawful)).constants
 
 pub code_stands : LawfulCodeStands
 code_stands p numbers c world lawful laid stands =

@@ -3,3 +3,4 @@ pub mod Laws
 pub mod Starting
 pub mod Known
 pub mod Events
+pub mod Labels

@@ -3,9 +3,10 @@
 //! A law function takes nothing and answers nothing: its contract is a law about the definitions.
 #![tactic(auto)]
 
-ghost use Rattle.code_view.specs.Laws.{RootsStand, BodiesStand, SwitchesStand, TreesFit, TreesAreFormed, LawfulCodeStands};
+ghost use Rattle.code_view.specs.Laws.{RootsStand, BodiesStand, SwitchesStand, TreesFit, TreesAreFormed, ConstantsAreLawful, LawfulCodeStands};
 ghost use Rattle.code_view.specs.Known.{CodeIsKnown};
 ghost use Rattle.code_view.specs.Events.{EventsAreEvaluated, EventsAreOfCode};
+ghost use Rattle.code_view.specs.Labels.{DefinedKeepLabels};
 ghost use Rattle.code_view.specs.Starting.{LawfulStartStands};
 
 /// The number of a full expression in the code stands for the expression of its typed tree.
@@ -30,6 +31,11 @@ pub fn law_code_formed()
     ensures { TreesAreFormed }
 {}
 
+/// The constants that objects are filled with in the code of a lawful program are lawful (6.7.9).
+pub fn law_constants()
+    ensures { ConstantsAreLawful }
+{}
+
 /// The numbers in the code that run_code lays out of a lawful program stand for what is in the program: full expressions, the objects of blocks, `switch`
 /// statements, the bodies of functions, stores and constants.
 pub fn law_code()
@@ -47,6 +53,11 @@ pub fn law_views()
 pub fn law_events()
     ensures evaluated { EventsAreEvaluated }
     ensures code { EventsAreOfCode }
+{}
+
+/// Of each function that has a body the labels of its body in the code are kept (6.8.6.1).
+pub fn law_labels()
+    ensures { DefinedKeepLabels }
 {}
 
 /// The machine that run_state prepares of a lawful program, over the code of the terms of its trees, stands for the state that the definitions of
