@@ -24,6 +24,7 @@ use Rattle.code_view.specs.Events.{IsListedAt, EventsAreEvaluated, EventsAreOfCo
 use Rattle.code_view.proofs.Whole.{each_at}
 use Rattle.code_view.proofs.Loud.{IsLoudIn, IsLoudAmong, Good, tree_good}
 use Rattle.code_view.proofs.Known.{code_known}
+use Rattle.code_view.proofs.Parts.{same_node, operands_below}
 
 -- ---- the entry in the part of the listing
 in_part : {A : Type 0} (xs : List A) (n i : ℕ) → i < n → slice_get (take n xs) i ≡ slice_get xs i
@@ -50,9 +51,6 @@ Sees nodes t = (k : ℕ) (parent : Option ℕ) → IsAt nodes k parent t → (n 
 
 module _ (firsts : List ℕ) (nodes : List NodeInfo) (noted : AreNoted firsts nodes) where
 
-  same_node : (k : ℕ) (x y : NodeInfo) → slice_get nodes k ≡ Some x → slice_get nodes k ≡ Some y → x ≡ y
-  same_node k x y a b = let both : Some x ≡ Some y = sym a ∙ b in cc
-
   all_see : (ts : List Typed) → ((u : Typed) → size (tree_of u) ≤ sizes (trees_of ts) → Sees nodes u) → (parent m : ℕ) → AreBelow nodes parent m ts
       → (n : ℕ) → IsLoudAmong m (trees_of ts) n → IsLoud nodes n
   all_see [] ih parent m b n h = absurd h
@@ -65,11 +63,8 @@ module _ (firsts : List ℕ) (nodes : List NodeInfo) (noted : AreNoted firsts no
   -- a root that has events
   root_loud : (t : Typed) (k : ℕ) (parent : Option ℕ) → IsAt nodes k parent t → (n : ℕ) → n ≡ k → is_quiet (tree_of t) ≡ false → IsLoud nodes n
   root_loud t k parent is n e q = λ x at.
-      let same : x ≡ is.0 = same_node k x is.0 (sym (ap (slice_get nodes) e) ∙ at) is.1 in
+      let same : x ≡ is.0 = same_node nodes k x is.0 (sym (ap (slice_get nodes) e) ∙ at) is.1 in
       ap (λ (z : NodeInfo). is_quiet (tree_of z.tree.now)) same ∙ (ap (λ z. is_quiet (tree_of z)) is.2 ∙ q)
-
-  below : (t : Typed) (k : ℕ) (parent : Option ℕ) → IsAt nodes k parent t → AreBelow nodes k (suc k) (operands_in t)
-  below t k parent is = subst (λ z. AreBelow nodes k (suc k) (operands_in z)) is.2 (noted k is.0 is.1).below
 
   sees : (t : Typed) → Sees nodes t
   sees = by_size (Sees nodes) (λ t ih k parent is n h.
@@ -78,7 +73,7 @@ module _ (firsts : List ℕ) (nodes : List NodeInfo) (noted : AreNoted firsts no
       let there : IsLoudIn k (node kind (trees_of (operands_in t))) n = subst (λ z. IsLoudIn k z n) shape h in
       elim there [
         inl l ↦ root_loud t k parent is n l.0 (ap is_quiet shape ∙ l.1)
-        | inr r ↦ all_see (operands_in t) ih k (suc k) (below t k parent is) n r
+        | inr r ↦ all_see (operands_in t) ih k (suc k) (operands_below firsts nodes noted t k parent is) n r
       ])
 
 -- ---- what is listed

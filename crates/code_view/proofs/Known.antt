@@ -51,6 +51,7 @@ use Rattle.code_view.proofs.Own.{all_own}
 use Rattle.code_view.proofs.Listed.{opened, seen_root, sites_of}
 use Rattle.code_view.proofs.Whole.{both_give}
 use Rattle.code_view.proofs.Each.{each_laid}
+use Rattle.code_view.proofs.Parts.{type_in, site_in, parts}
 
 -- ---- where a tree's value comes from, by its node
 abbrev node_fold : List ℕ → Node → NodeResolved
@@ -68,9 +69,6 @@ resolved_at firsts t n =
     ∙ (ap (λ z. node_fold firsts z (own_type t) os n) (sym (roll-out-Node u))
     ∙ ap (λ (g : NodeResolved). g (own_type t) os n) (fold-roll-Node NodeResolved (ℕ → Operand) (node_resolved firsts) tree_resolved (out-Node u)))
 
-type_in : (t : Typed) → type_at t ≡ own_type t
-type_in t = ap type_seen (fold_out-Typed SeenNode Seen seen_node seen_tree t)
-
 -- ---- types
 points_pointer : (own object : CType) → PointsTo own object → IsPointer own
 points_pointer (pointer c t) object h = tt
@@ -82,11 +80,11 @@ points_pointer (struct tag) object h = absurd h
 points_pointer (union tag) object h = absurd h
 points_pointer (function r ps v) object h = absurd h
 
-there_pointer : {A : Type 0} (own : CType) (object : A → CType) (o : Option A) → There o (λ x. PointsTo own (object x)) → IsPointer own
+pub there_pointer : {A : Type 0} (own : CType) (object : A → CType) (o : Option A) → There o (λ x. PointsTo own (object x)) → IsPointer own
 there_pointer own object None h = absurd h
 there_pointer own object (Some x) h = points_pointer own (object x) h
 
-function_pointer : (o : Option Function) (own : CType) → FunctionIs o own → IsPointer own
+pub function_pointer : (o : Option Function) (own : CType) → FunctionIs o own → IsPointer own
 function_pointer None own h = absurd h
 function_pointer (Some f) (pointer c t) h = tt
 function_pointer (Some f) void h = absurd h
@@ -97,7 +95,7 @@ function_pointer (Some f) (struct tag) h = absurd h
 function_pointer (Some f) (union tag) h = absurd h
 function_pointer (Some f) (function r ps v) h = absurd h
 
-member_pointer : (tags : List Tag) (offset : ℕ) (own whole : CType) → MemberOf tags offset own whole → IsPointer own
+pub member_pointer : (tags : List Tag) (offset : ℕ) (own whole : CType) → MemberOf tags offset own whole → IsPointer own
 member_pointer tags offset (pointer c t) whole h = tt
 member_pointer tags offset void whole h = absurd h
 member_pointer tags offset (int k) whole h = absurd h
@@ -108,7 +106,7 @@ member_pointer tags offset (union tag) whole h = absurd h
 member_pointer tags offset (function r ps v) whole h = absurd h
 
 -- a pointer is no integer
-no_integer : (ty : CType) → IsPointer ty → IsInteger ty → ⊥
+pub no_integer : (ty : CType) → IsPointer ty → IsInteger ty → ⊥
 no_integer (pointer c t) h k = cc
 no_integer void h k = h
 no_integer (int kind) h k = h
@@ -324,9 +322,6 @@ module _ (p : Program) (blocks : Blocks) (world : World) (f : Scene) (firsts : L
   FirstKnown [] = Unit {0}
   FirstKnown (t ∷ ts) = KnownAt t
 
-  abbrev site_in : Node-F Node Typed → CType → List Typed → Site
-  site_in d ty ts = record { head = (seen_root d).head; ty = ty; operands = map type_seen (map seen ts) }
-
   known_opened : (d : Node-F Node Typed) (ty : CType) (line : ℕ) (ts : List Typed) (n : ℕ) → Fine (site_in d ty ts) → FirstKnown ts
       → KnownBy (class_of (tree_of (expr (head_in d ty) ty line (exprs_of ts)))) ty (open_node firsts d ty (map (resolved firsts) ts) n)
       (quiet_value world f (expr (head_in d ty) ty line (exprs_of ts)))
@@ -358,21 +353,13 @@ module _ (p : Program) (blocks : Blocks) (world : World) (f : Scene) (firsts : L
   first_known [] ih all = tt
   first_known (t ∷ ts) ih all = ih t (omega arith) (all_both Fine (sites t) (all_sites (map seen ts)) all).0
 
-  below : (t : Typed) → All Fine (sites t) → Fine (site_in (root_of t) (own_type t) (operands_of t)) × All Fine (all_sites (map seen (operands_of t)))
-  below t all =
-      let root = site_in (root_of t) (own_type t) (operands_of t) in
-      let inner = (seen_root (root_of t)).inner in
-      let rest = all_sites (map seen (operands_of t)) in
-      let there : All Fine (root ∷ (inner ++ rest)) = subst (All Fine) (sites_of t) all in
-      (All-head Fine root (inner ++ rest) there, (all_both Fine inner rest (All-tail Fine root (inner ++ rest) there)).1)
-
   abbrev KnownAs : CType → Operand → Expr → Type 0
   KnownAs ty o e = KnownBy (class_of (tree_of e)) ty o (quiet_value world f e)
 
   knows : (t : Typed) → Knows t
   knows = by_size Knows (λ t ih all n.
-      let parts = below t all in
-      let there = known_opened (node_in t) (own_type t) (out-Typed t).line (operands_in t) n parts.0 (first_known (operands_in t) ih parts.1) in
+      let s = parts Fine t all in
+      let there = known_opened (node_in t) (own_type t) (out-Typed t).line (operands_in t) n s.0 (first_known (operands_in t) ih s.1) in
       subst (λ (e : Expr). KnownAs (type_at t) (resolved firsts t n) e) (sym (expr_at t))
       (subst (λ (o : Operand). KnownAs (type_at t) o (expr (head_in (node_in t) (own_type t)) (own_type t) (out-Typed t).line (exprs_of (operands_in t))))
       (sym (resolved_at firsts t n))
@@ -414,14 +401,14 @@ module _ (p : Program) (blocks : Blocks) (world : World) (f : Scene) (firsts : L
         subst (IsKnown world f firsts k t) (expr_at t) (known_here t k all),
         choice_in (node_in t) (own_type t),
         sym (ap size (same_tree t)) ∙ ap (λ x. size (tree_of x)) (expr_at t),
-        all_viewed (operands_in t) ih (below t all).1 (suc k),
+        all_viewed (operands_in t) ih (parts Fine t all).1 (suc k),
       ))
 
 -- ---- the full expressions of a lawful program
-abbrev IsLawfulTree : Program → Typed → Type 0
+abbrev pub IsLawfulTree : Program → Typed → Type 0
 IsLawfulTree p t = (blocks : Blocks) × All (SiteIsLawful p blocks) (sites t)
 
-own_lawful : (p : Program) (t : Typed) → IsLawfulTree p t → All (IsLawfulTree p) (full_trees t)
+pub own_lawful : (p : Program) (t : Typed) → IsLawfulTree p t → All (IsLawfulTree p) (full_trees t)
 own_lawful p t h =
     All-weaker (λ u. All (SiteIsLawful p h.0) (sites u)) (IsLawfulTree p) (λ u k. (h.0, k)) (full_trees t) (all_own (SiteIsLawful p h.0) t h.1)
 

@@ -11,3 +11,5 @@ mod Known
 mod Loud
 mod Events
 mod Labels
+mod Parts
+mod Named

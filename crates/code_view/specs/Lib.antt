@@ -4,3 +4,4 @@ pub mod Starting
 pub mod Known
 pub mod Events
 pub mod Labels
+pub mod Named

@@ -7,6 +7,7 @@ ghost use Rattle.code_view.specs.Laws.{RootsStand, BodiesStand, SwitchesStand, T
 ghost use Rattle.code_view.specs.Known.{CodeIsKnown};
 ghost use Rattle.code_view.specs.Events.{EventsAreEvaluated, EventsAreOfCode};
 ghost use Rattle.code_view.specs.Labels.{DefinedKeepLabels};
+ghost use Rattle.code_view.specs.Named.{OpenIsPlaced, OpenIsNamed};
 ghost use Rattle.code_view.specs.Starting.{LawfulStartStands};
 
 /// The number of a full expression in the code stands for the expression of its typed tree.
@@ -46,6 +47,13 @@ pub fn law_code()
 /// that the expression names stand (6.3.2.3p3, 6.6, 6.8.4.1p2).
 pub fn law_views()
     ensures { CodeIsKnown }
+{}
+
+/// Where the blocks of the automatic objects are open that a full expression of a lawful program names, each object that it names stands (6.2.4), and each
+/// of its nodes has the operands that its operator takes, with what is known beforehand of them named.
+pub fn law_named()
+    ensures placed { OpenIsPlaced }
+    ensures nodes { OpenIsNamed }
 {}
 
 /// Each event that is listed of a full expression is of a node that isn't known beforehand. In the code of a lawful program it is what a run asks of it,

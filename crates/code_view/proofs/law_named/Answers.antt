@@ -1,0 +1,8 @@
+use Rattle.code_view.proofs.Named.{open_placed, open_named}
+use Rattle.code_view.proofs.law_named.Goals as goal
+
+pub returns-clause-placed : goal.returns-clause-placed
+returns-clause-placed c = open_placed
+
+pub returns-clause-nodes : goal.returns-clause-nodes
+returns-clause-nodes c = open_named
