@@ -8,7 +8,7 @@ mod Formed
 mod Starting
 mod Each
 mod Known
-mod Loud
+mod Terms
 mod Events
 mod Labels
 mod Parts

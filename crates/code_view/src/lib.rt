@@ -5,7 +5,7 @@
 
 ghost use Rattle.code_view.specs.Laws.{RootsStand, BodiesStand, SwitchesStand, TreesFit, TreesAreFormed, ConstantsAreLawful, LawfulCodeStands};
 ghost use Rattle.code_view.specs.Known.{CodeIsKnown};
-ghost use Rattle.code_view.specs.Events.{EventsAreEvaluated, EventsAreOfCode};
+ghost use Rattle.code_view.specs.Events.{EventsAreOfClasses, EventsAreEvaluated, EffectsStore, EventsAreOfCode};
 ghost use Rattle.code_view.specs.Labels.{DefinedKeepLabels};
 ghost use Rattle.code_view.specs.Named.{OpenIsPlaced, OpenIsNamed};
 ghost use Rattle.code_view.specs.Starting.{LawfulStartStands};
@@ -56,9 +56,11 @@ pub fn law_named()
     ensures nodes { OpenIsNamed }
 {}
 
-/// Each event that is listed of a full expression is of a node that isn't known beforehand. In the code of a lawful program it is what a run asks of it,
-/// wherever the objects that the expression names stand.
+/// Each event that is listed of a full expression is one that its node has, so of a node that isn't known beforehand, and each effect stores. In the code
+/// of a lawful program it is what a run asks of it, wherever the objects that the expression names stand.
 pub fn law_events()
+    ensures classes { EventsAreOfClasses }
+    ensures effects { EffectsStore }
     ensures evaluated { EventsAreEvaluated }
     ensures code { EventsAreOfCode }
 {}

@@ -1,5 +1,11 @@
-use Rattle.code_view.proofs.Events.{events_evaluated, events_of_code}
+use Rattle.code_view.proofs.Events.{events_of_classes, events_evaluated, effects_store, events_of_code}
 use Rattle.code_view.proofs.law_events.Goals as goal
+
+pub returns-clause-classes : goal.returns-clause-classes
+returns-clause-classes c = events_of_classes
+
+pub returns-clause-effects : goal.returns-clause-effects
+returns-clause-effects c = effects_store
 
 pub returns-clause-evaluated : goal.returns-clause-evaluated
 returns-clause-evaluated c = events_evaluated
