@@ -195,7 +195,7 @@ effect_stores firsts tables (shape.Member offset) ts s a h e = absurd (let no = 
 effect_stores firsts tables _ ts s a h e = absurd (cc)
 
 -- the head and the class of a tree's root
-head_root : (t : Typed) → head_at (out-Typed t).node ≡ (seen_root (root_of t)).head
+pub head_root : (t : Typed) → head_at (out-Typed t).node ≡ (seen_root (root_of t)).head
 head_root t = ap (λ (n : SeenNode). n.head) (fold_out-Node SeenNode Seen seen_node seen_tree (out-Typed t).node)
 
 class_root : (t : Typed) → class_of (tree_of t) ≡ class_in (root_of t) (trees_of (operands_in t))

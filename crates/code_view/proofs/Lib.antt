@@ -13,3 +13,4 @@ mod Events
 mod Labels
 mod Parts
 mod Named
+mod Rooms

@@ -5,3 +5,4 @@ pub mod Known
 pub mod Events
 pub mod Labels
 pub mod Named
+pub mod Rooms

@@ -7,6 +7,7 @@ ghost use Rattle.code_view.specs.Laws.{RootsStand, BodiesStand, SwitchesStand, T
 ghost use Rattle.code_view.specs.Known.{CodeIsKnown};
 ghost use Rattle.code_view.specs.Events.{EventsAreOfClasses, EventsAreEvaluated, EffectsStore, EventsAreOfCode};
 ghost use Rattle.code_view.specs.Labels.{DefinedKeepLabels};
+ghost use Rattle.code_view.specs.Rooms.{RoomsAreThere};
 ghost use Rattle.code_view.specs.Named.{OpenIsPlaced, OpenIsNamed};
 ghost use Rattle.code_view.specs.Starting.{LawfulStartStands};
 
@@ -63,6 +64,12 @@ pub fn law_events()
     ensures effects { EffectsStore }
     ensures evaluated { EventsAreEvaluated }
     ensures code { EventsAreOfCode }
+{}
+
+/// Where the code has a room for each node of a full expression, and one behind these for each update that gives its old value, no two of them one, what each
+/// update is to store has its room, in which no other node keeps anything (6.5.2.4p2, 6.5.16.2p3).
+pub fn law_rooms()
+    ensures { RoomsAreThere }
 {}
 
 /// Of each function that has a body the labels of its body in the code are kept (6.8.6.1).
