@@ -42,14 +42,14 @@ use Rattle.code_view.proofs.Known.{code_known}
 use Rattle.code_view.proofs.Parts.{same_node, operands_below}
 
 -- ---- the entry in the part of the listing
-in_part : {A : Type 0} (xs : List A) (n i : ℕ) → i < n → slice_get (take n xs) i ≡ slice_get xs i
+pub in_part : {A : Type 0} (xs : List A) (n i : ℕ) → i < n → slice_get (take n xs) i ≡ slice_get xs i
 in_part [] zero i h = refl
 in_part [] (suc n) i h = refl
 in_part (x ∷ xs) zero i h = absurd (omega (arith, h))
 in_part (x ∷ xs) (suc n) zero h = refl
 in_part (x ∷ xs) (suc n) (suc i) h = in_part xs n i (omega (arith, h))
 
-behind : {A : Type 0} (xs : List A) (n i : ℕ) → slice_get (drop n xs) i ≡ slice_get xs (n + i)
+pub behind : {A : Type 0} (xs : List A) (n i : ℕ) → slice_get (drop n xs) i ≡ slice_get xs (n + i)
 behind xs zero i = ap (slice_get xs) (omega arith)
 behind [] (suc n) i = refl
 behind (x ∷ xs) (suc n) i = let e : suc (n + i) ≡ suc n + i = omega arith in behind xs n i ∙ ap (slice_get (x ∷ xs)) e

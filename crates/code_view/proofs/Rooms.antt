@@ -1,5 +1,5 @@
 -- The rooms of a full expression's updates are there, and apart.
-use Rattle.std.proofs.Common.{arith, ◌≡◌, ◌+◌, ◌-◌, ◌<◌, ◌≤◌, ◌^◌, min, ℕ, suc, ◌==◌, nat_lt, Bool, true, false, ◌&&◌, if◌then◌else◌, List, [], ◌∷◌, length}
+use Rattle.std.proofs.Common.{arith, ◌≡◌, ◌+◌, ◌-◌, ◌<◌, ◌≤◌, ◌^◌, min, ℕ, zero, suc, ◌==◌, nat_lt, Bool, true, false, ◌&&◌, if◌then◌else◌, List, [], ◌∷◌, length, take, drop}
 use Rattle.std.proofs.Common.{Option, Some, None, slice_get, ℤ, refl, sym, ap, subst, ◌∙◌}
 use Rattle.std.specs.Prelude.{unsigned_abs}
 use Rattle.std.proofs.lemmas.Bool.Decides.{nat_tests}
@@ -37,8 +37,9 @@ use Rattle.run_code.specs.LaidOut.{LaidOutBy}
 use Rattle.run_code.specs.Numbered.{IsAt, AreBelow, AreNoted, AreNodes}
 use Rattle.run_state.specs.Stands.{IsUpdate}
 use Rattle.code_view.specs.Events.{IsListedAt}
-use Rattle.code_view.specs.Rooms.{gives_old, IsOld, IsRoomedBy, IsUpdateRoomOf, kept_at, RoomsAreThere}
-use Rattle.code_view.proofs.Events.{effects_store, head_root}
+use Rattle.code_view.specs.Rooms.{gives_old, IsOld, IsRoomedBy, IsListedIn, IsUpdateRoomOf, kept_at, RoomsAreThere}
+use Rattle.run_code.specs.OfTrees.{listing_in}
+use Rattle.code_view.proofs.Events.{effects_store, head_root, in_part, behind as from_there}
 use Rattle.code_view.proofs.Listed.{seen_root}
 use Rattle.code_view.proofs.Parts.{same_node, operands_below}
 
@@ -57,6 +58,25 @@ unequal a b h l = grind (arith, nat_tests, h, l)
 choose : {A : Type 0} (b : Bool) (x y z : A) → (b ≡ true → x ≡ z) → (b ≡ false → y ≡ z) → (if b then x else y) ≡ z
 choose true x y z f g = f refl
 choose false x y z f g = g refl
+
+-- ---- an entry of a part of the listing
+taken_within : {A : Type 0} (xs : List A) (n i : ℕ) (x : A) → slice_get (take n xs) i ≡ Some x → i < n
+taken_within [] zero i x h = absurd (cc)
+taken_within [] (suc n) i x h = absurd (cc)
+taken_within (y ∷ xs) zero i x h = absurd (cc)
+taken_within (y ∷ xs) (suc n) zero x h = omega arith
+taken_within (y ∷ xs) (suc n) (suc i) x h = let l = taken_within xs n i x h in omega (arith, l)
+
+listed_at : (all : List Listed) (laid : Laid) (d : Due) → IsListedIn (listing_in all laid) d → IsListedAt all laid d
+listed_at all laid d is =
+    let few = taken_within (drop laid.first all) (laid.end - laid.first) is.0 (listed.Event d) is.1 in
+    record {
+      at = laid.first + is.0;
+      first = omega arith;
+      end = omega (arith, few);
+      entry =
+      sym (from_there all laid.first is.0) ∙ (sym (in_part (drop laid.first all) (laid.end - laid.first) is.0 few) ∙ is.1);
+    }
 
 -- ---- the node of a number is that of the expression
 module _ (firsts : List ℕ) (nodes : List NodeInfo) (noted : AreNoted firsts nodes) where
@@ -188,6 +208,12 @@ module _ (code : Code) (firsts : List ℕ) (nodes : List NodeInfo) (laid : Laid)
   abbrev count : ℕ
   count = length nodes
 
+  abbrev part : List Listed
+  part = listing_in code.listing.items laid
+
+  abbrev root : Expr
+  root = expr_of laid.root.now
+
   -- of one that gives the old value
   behind : (n : ℕ) (x : NodeInfo) → IsOld nodes n x
       → room_of (head_at (out-Typed x.tree.now).node) (min count (2 ^ 32 - 1)) n x.room ≡ count + x.room
@@ -229,13 +255,13 @@ module _ (code : Code) (firsts : List ℕ) (nodes : List NodeInfo) (laid : Laid)
       let e = lays.each is.at (listed.Event d) is.first is.end is.entry in
       (e.0, e.1, e.2)
 
-  abbrev UpdateFound : (room : ℕ) → (r : IsUpdateRoomOf code.listing.items laid room) → Type 0
+  abbrev UpdateFound : (room : ℕ) → (r : IsUpdateRoomOf part root room) → Type 0
   UpdateFound room r = (x : NodeInfo) × IsRoom r.due.place.node x r.old room
 
-  update_found : (room : ℕ) (r : IsUpdateRoomOf code.listing.items laid room) → UpdateFound room r
+  update_found : (room : ℕ) (r : IsUpdateRoomOf part root room) → UpdateFound room r
   update_found room r =
       let d = r.due in
-      let it = found d r.is_listed in
+      let it = found d (listed_at code.listing.items laid d r.is_listed) in
       let x = it.0 in
       let h = head_at (out-Typed x.tree.now).node in
       let s = sight_of firsts count d.place.node x in
@@ -245,14 +271,14 @@ module _ (code : Code) (firsts : List ℕ) (nodes : List NodeInfo) (laid : Laid)
       (x, room_is d.place.node x r.change r.old room it.1 is
       (update_room firsts code.tables h r.change r.old s d.act r.store room r.target is does r.act))
 
-  rooms_within : (room : ℕ) → IsUpdateRoomOf code.listing.items laid room → room < laid.rooms
+  rooms_within : (room : ℕ) → IsUpdateRoomOf part root room → room < laid.rooms
   rooms_within room r = let u = update_found room r in room_within r.due.place.node u.0 r.old room u.1
 
-  rooms_apart : (room : ℕ) (r : IsUpdateRoomOf code.listing.items laid room) (d : Due) → IsListedAt code.listing.items laid d → kept_at d.act ≡ Some room
+  rooms_apart : (room : ℕ) (r : IsUpdateRoomOf part root room) (d : Due) → IsListedIn part d → kept_at d.act ≡ Some room
       → d.place.node ≡ r.due.place.node
   rooms_apart room r d is k =
       let u = update_found room r in
-      let it = found d is in
+      let it = found d (listed_at code.listing.items laid d is) in
       let y = it.0 in
       let kept = kept_act firsts code.tables y.initializer (head_at (out-Typed y.tree.now).node) (sight_of firsts count d.place.node y) d.place.kind d.act room
       it.2.does k in
@@ -264,5 +290,5 @@ rooms_there code firsts nodes n laid lists at lays roomed = record {
   nodes = let own = roomed.own in let count = lays.numbered.count in let same = ap size (same_tree laid.root.now) in omega (arith, own, count, same);
   within = rooms_within code firsts nodes laid lays roomed;
   apart = rooms_apart code firsts nodes laid lays roomed;
-  effects = λ d is kind. effects_store code firsts nodes n laid d lists at lays is kind;
+  effects = λ d is kind. effects_store code firsts nodes n laid d lists at lays (listed_at code.listing.items laid d is) kind;
 }

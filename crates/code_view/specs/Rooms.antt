@@ -15,14 +15,15 @@ use Rattle.run_code.specs.declared.steps.Act.TheVariants as act
 use Rattle.run_code.specs.declared.steps.Due.{Due}
 use Rattle.run_code.specs.declared.steps.Expression.{Expression as Laid}
 use Rattle.run_code.specs.declared.steps.Listed.{Listed}
+use Rattle.run_code.specs.declared.steps.Listed.TheVariants as listed
 use Rattle.run_code.specs.declared.steps.Operand.{Operand}
 use Rattle.run_code.specs.declared.steps.Operand.TheVariants.{Done}
 use Rattle.run_code.specs.declared.whole.Code.{Code}
 use Rattle.run_code.specs.EventActs.{head_at}
 use Rattle.run_code.specs.LaidOut.{LaidOutBy}
-use Rattle.run_code.specs.OfTrees.{ListsTrees}
+use Rattle.run_code.specs.OfTrees.{ListsTrees, listing_in}
 use Rattle.run_state.specs.Stands.{IsUpdate}
-use Rattle.code_view.specs.Events.{IsListedAt, stores}
+use Rattle.code_view.specs.Events.{stores}
 
 -- 1. What the code is to have.
 
@@ -44,18 +45,22 @@ pub record IsRoomedBy (nodes : List NodeInfo) (laid : Laid) : Type 0 where
 
 -- 2. What a run asks.
 
+-- the event stands among these entries
+abbrev pub IsListedIn : List Listed → Due → Type 0
+IsListedIn entries d = (at : ℕ) × (slice_get entries at ≡ Some (listed.Event d))
+
 -- the room from which the effect of an update takes what it stores
-pub record IsUpdateRoomOf (entries : List Listed) (laid : Laid) (room : ℕ) : Type 0 where
+pub record IsUpdateRoomOf (entries : List Listed) (root : Expr) (room : ℕ) : Type 0 where
   pub due : Due
   pub store : ℕ
   pub target : Operand
   pub change : Change
   pub old : Bool
   pub operands : Exprs
-  pub is_listed : IsListedAt entries laid due
+  pub is_listed : IsListedIn entries due
   pub act : due.act ≡ act.Store store target (Done room)
   pub effect : due.place.kind ≡ Eff
-  pub update : IsUpdate (at_node 0 (expr_of laid.root.now) due.place.node) change old operands
+  pub update : IsUpdate (at_node 0 root due.place.node) change old operands
 
 -- the room in which the value of an update keeps what its effect will store, beside its own
 abbrev pub kept_at : Act → Option ℕ
@@ -64,15 +69,15 @@ kept_at a = None
 
 -- There is a room for each node, and for what each update is to store; no event of another node than the update's keeps anything there. An effect stores, and
 -- gives no value.
-pub record HasRoomsOf (entries : List Listed) (laid : Laid) : Type 0 where
-  pub nodes : size (tree_of (expr_of laid.root.now)) ≤ laid.rooms
-  pub within : (room : ℕ) → IsUpdateRoomOf entries laid room → room < laid.rooms
-  pub apart : (room : ℕ) (r : IsUpdateRoomOf entries laid room) (d : Due) → IsListedAt entries laid d → kept_at d.act ≡ Some room
+pub record HasRoomsOf (entries : List Listed) (rooms : ℕ) (root : Expr) : Type 0 where
+  pub nodes : size (tree_of root) ≤ rooms
+  pub within : (room : ℕ) → IsUpdateRoomOf entries root room → room < rooms
+  pub apart : (room : ℕ) (r : IsUpdateRoomOf entries root room) (d : Due) → IsListedIn entries d → kept_at d.act ≡ Some room
       → d.place.node ≡ r.due.place.node
-  pub effects : (d : Due) → IsListedAt entries laid d → d.place.kind ≡ Eff → stores d.act ≡ true
+  pub effects : (d : Due) → IsListedIn entries d → d.place.kind ≡ Eff → stores d.act ≡ true
 
 -- So it is where the code has these rooms.
 abbrev pub RoomsAreThere : Type 0
 RoomsAreThere = (code : Code) (firsts : List ℕ) (nodes : List NodeInfo) (n : ℕ) (laid : Laid) → ListsTrees code
     → slice_get code.expressions.items n ≡ Some laid → LaidOutBy firsts nodes code.tables code.listing.items laid → IsRoomedBy nodes laid
-    → HasRoomsOf code.listing.items laid
+    → HasRoomsOf (listing_in code.listing.items laid) laid.rooms (expr_of laid.root.now)
