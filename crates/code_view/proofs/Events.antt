@@ -1,9 +1,8 @@
 -- Each event that is listed of a full expression is one that its node has.
-use Rattle.std.proofs.Common.{arith, ◌≡◌, ◌+◌, ◌-◌, ◌<◌, ◌≤◌, ◌⊎◌, inl, inr, ℕ, zero, suc, Bool, true, false, List, [], ◌∷◌, map, length, take, drop}
+use Rattle.std.proofs.Common.{arith, ◌≡◌, ◌+◌, ◌-◌, ◌<◌, ◌≤◌, inl, inr, ℕ, zero, suc, Bool, true, false, List, [], ◌∷◌, length, take, drop}
 use Rattle.std.proofs.Common.{Option, Some, None, slice_get, if◌then◌else◌, refl, sym, ap, subst, ◌∙◌}
 use Rattle.ub_base.specs.declared.clause.Kind.{Kind}
 use Rattle.ub_base.specs.declared.clause.Kind.TheVariants.{Val, Eff, Body}
-use Rattle.std.specs.List.{All}
 use Rattle.std.specs.Option.{option_map}
 use Rattle.std.proofs.lemmas.Option.{slice_get-map}
 use Rattle.c_typed.specs.declared.class.Class.{Class}
@@ -19,8 +18,6 @@ use Rattle.c_typed.specs.Lawful.{root_of}
 use Rattle.c_typed.specs.Sites.{Seen, SeenNode, seen_node, seen_tree}
 use Rattle.c_typed.specs.Tree.{Tree, Trees, node, size, sizes, tree_of, trees_of, is_quiet, is_quiet_class, class_of, kinds_of, node_class, typed_tree}
 use Rattle.c_typed.specs.Tree.{first_class, class_over, conversion_class, member_class}
-use Rattle.c_model.specs.Program as model
-use Rattle.program_view.specs.Trees.{expr_of}
 use Rattle.program_view.proofs.Seen.{operands_in, by_size, same_tree}
 use Rattle.elaborate.specs.Terms.{term_for}
 use Rattle.run_code.specs.declared.nodes.NodeInfo.{NodeInfo}
@@ -31,7 +28,7 @@ use Rattle.run_code.specs.declared.steps.Listed.{Listed}
 use Rattle.run_code.specs.declared.steps.Listed.TheVariants as listed
 use Rattle.run_code.specs.declared.tables.Tables.{Tables}
 use Rattle.run_code.specs.EventActs.{head_at, sight_of, Sight, IsAct, IsEffect}
-use Rattle.run_code.specs.Listings.{Entry, event, entry_of, flat}
+use Rattle.run_code.specs.Listings.{event, entry_of, flat}
 use Rattle.run_code.specs.Numbered.{IsAt, AreBelow, AreNoted, AreNodes}
 use Rattle.run_code.specs.OfTrees.{listing_in, HasListing}
 use Rattle.code_view.specs.Events.{IsOneOf, IsListedAt, stores, EventsAreOfClasses, EventsAreEvaluated, EffectsStore, EventsAreOfCode}

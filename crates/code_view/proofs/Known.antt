@@ -1,17 +1,16 @@
 -- What is known beforehand in the full expressions of a lawful program.
-use Rattle.std.proofs.Common.{arith, ◌≡◌, ◌+◌, ◌<◌, ◌≤◌, ◌⊎◌, inl, inr, ℕ, suc, ◌==◌, Bool, true, false, not, ◌&&◌, if◌then◌else◌, List, [], ◌∷◌, ◌++◌, map, length}
-use Rattle.std.proofs.Common.{Option, Some, None, ℤ, pos, refl, sym, ap, subst, ◌∙◌}
+use Rattle.std.proofs.Common.{arith, ◌≡◌, ◌+◌, ◌<◌, ◌≤◌, ◌⊎◌, inl, inr, ℕ, suc, ◌==◌, Bool, true, false, not, ◌&&◌, if◌then◌else◌, List, [], ◌∷◌, map}
+use Rattle.std.proofs.Common.{Option, Some, None, ℤ, refl, sym, ap, subst, ◌∙◌}
 use Rattle.std.specs.List.{All}
 use Rattle.std.specs.Prelude.{unsigned_abs}
 use Rattle.std.proofs.lemmas.Bool.Decides.{nat_tests}
-use Rattle.std.proofs.lemmas.List.Elements.{All-head, All-tail, All-weaker}
-use Rattle.ub_base.specs.declared.names.ObjName.TheVariants as object
+use Rattle.std.proofs.lemmas.List.Elements.{All-weaker}
 use Rattle.addr_map.specs.Rows.{row_of}
 use Rattle.exposure.specs.declared.prov.Prov.{Prov}
 use Rattle.exposure.specs.declared.prov.Prov.TheVariants.{Whole}
 use Rattle.c_arith.specs.Operators.{conv}
 use Rattle.c_types.specs.declared.kind.IntKind.{IntKind}
-use Rattle.c_types.specs.Types.{CType, void, int, enumeration, pointer, array, struct, union, function, type_of}
+use Rattle.c_types.specs.Types.{CType, void, int, enumeration, pointer, array, struct, union, function}
 use Rattle.c_types.specs.declared.tags.Tag.{Tag}
 use Rattle.c_typed.specs.declared.class.Class.{Class}
 use Rattle.c_typed.specs.declared.class.Class.TheVariants as class
@@ -24,9 +23,8 @@ use Rattle.c_typed.specs.declared.tree.Node.TheOpen.{Node-F}
 use Rattle.c_typed.specs.declared.tree.Slot.{Slot}
 use Rattle.c_typed.specs.declared.tree.Slot.TheVariants as slot
 use Rattle.c_typed.specs.declared.tree.Typed.{Typed, out-Typed, fold_out-Typed}
-use Rattle.c_typed.specs.Lawful.{There, IsPointer, IsInteger, IsConstant, PointsTo, FunctionIs, MemberOf, SiteIsLawful, ExpressionIsLawful, TypesAre}
-use Rattle.c_typed.specs.Lawful.{root_of, operands_of}
-use Rattle.c_typed.specs.Sites.{Site, Blocks, Seen, SeenNode, seen_node, seen_tree, type_seen, all_sites, seen, sites, type_at}
+use Rattle.c_typed.specs.Lawful.{There, IsPointer, IsInteger, IsConstant, PointsTo, FunctionIs, MemberOf, SiteIsLawful}
+use Rattle.c_typed.specs.Sites.{Site, Blocks, all_sites, seen, sites, type_at}
 use Rattle.c_typed.specs.Tree as order
 use Rattle.c_typed.specs.Tree.{is_quiet, is_quiet_class, member_class, class_over, class_of, size, sizes, trees_of}
 use Rattle.elaborate.specs.Expressions.{full_trees}
@@ -35,7 +33,7 @@ use Rattle.c_model.specs.Program as model
 use Rattle.c_model.specs.Program.{Expr, expr, Exprs, tree_of}
 use Rattle.c_model.specs.Steps as steps
 use Rattle.c_model.specs.Steps.{Scene, quiet_value, moved_place, name_of, pointer_to}
-use Rattle.c_model.specs.Values.{Value, Int, Ptr, Fun, address_after, integer_of, truth}
+use Rattle.c_model.specs.Values.{Value, Int, Ptr, address_after, integer_of, truth}
 use Rattle.c_model.specs.World.{World}
 use Rattle.program_view.specs.Trees.{expr_of, exprs_of, is_pointer, constant_head}
 use Rattle.program_view.proofs.Seen.{node_in, operands_in, own_type, head_in, expr_at, by_size, same_tree}
@@ -48,7 +46,6 @@ use Rattle.run_code.specs.Resolved.{NodeResolved, node_resolved, tree_resolved, 
 use Rattle.code_view.specs.Known.{IsPlaced, NamedIsPlaced, CodeIsKnown}
 use Rattle.code_view.proofs.Viewed.{all_both}
 use Rattle.code_view.proofs.Own.{all_own}
-use Rattle.code_view.proofs.Listed.{opened, seen_root, sites_of}
 use Rattle.code_view.proofs.Whole.{both_give}
 use Rattle.code_view.proofs.Each.{each_laid}
 use Rattle.code_view.proofs.Parts.{type_in, site_in, parts}

@@ -1,5 +1,5 @@
 -- The labels of each function that has a body are kept.
-use Rattle.std.proofs.Common.{◌≡◌, ℕ, List, map, Option, Some, None, slice_get, refl, sym, ap, ◌∙◌}
+use Rattle.std.proofs.Common.{◌≡◌, ℕ, List, Option, Some, None, slice_get, refl, sym, ap, ◌∙◌}
 use Rattle.std.specs.Option.{option_map}
 use Rattle.std.proofs.lemmas.Option.{slice_get-map}
 use Rattle.c_types.specs.declared.tags.Tag.{Tag}
@@ -11,7 +11,6 @@ use Rattle.c_typed.specs.declared.statement.Entry.{Entry}
 use Rattle.c_typed.specs.declared.statement.ForStart.{ForStart}
 use Rattle.c_typed.specs.declared.program.Function.{Function}
 use Rattle.c_typed.specs.declared.program.Program.{Program}
-use Rattle.c_model.specs.Program as model
 use Rattle.c_model.specs.Program.{Stmt}
 use Rattle.c_model.specs.Steps.{body_of}
 use Rattle.c_model.specs.World.{World}

@@ -1,6 +1,6 @@
 -- What a full expression of a lawful program names is there, where the blocks of its automatic objects are open.
-use Rattle.std.proofs.Common.{arith, ◌≡◌, ◌+◌, ◌<◌, ◌≤◌, ◌⊎◌, ℕ, zero, suc, ◌==◌, ◌||◌, Bool, true, false, if◌then◌else◌, List, [], ◌∷◌, ◌++◌, map, length}
-use Rattle.std.proofs.Common.{Option, Some, None, slice_get, ℤ, pos, refl, sym, ap, subst, ◌∙◌}
+use Rattle.std.proofs.Common.{arith, ◌≡◌, ◌+◌, ◌<◌, ◌≤◌, ℕ, zero, suc, ◌==◌, ◌||◌, Bool, true, false, if◌then◌else◌, List, [], ◌∷◌, ◌++◌, map, length}
+use Rattle.std.proofs.Common.{Option, Some, None, slice_get, ℤ, refl, sym, ap, subst, ◌∙◌}
 use Rattle.std.specs.List.{All}
 use Rattle.std.specs.Prelude.{IsSome, is_some, ◌&&◌, unsigned_abs}
 use Rattle.std.proofs.lemmas.Bool.Decides.{nat_tests}
@@ -24,7 +24,7 @@ use Rattle.c_typed.specs.declared.tree.Node.TheOpen.{Node-F}
 use Rattle.c_typed.specs.declared.tree.Slot.{Slot}
 use Rattle.c_typed.specs.declared.tree.Slot.TheVariants as slot
 use Rattle.c_typed.specs.declared.tree.Typed.{Typed, out-Typed, fold_out-Typed}
-use Rattle.c_typed.specs.Lawful.{IsInteger, IsConstant, CountIs, SiteIsLawful, NamesThere, object_at, object_of_static, root_of, operands_of}
+use Rattle.c_typed.specs.Lawful.{IsInteger, IsConstant, CountIs, SiteIsLawful, NamesThere, object_at, object_of_static}
 use Rattle.c_typed.specs.Sites.{Head, Site, Blocks, Seen, SeenNode, seen_node, seen_tree, type_seen, all_sites, seen, sites, type_at}
 use Rattle.c_typed.specs.Tree as order
 use Rattle.c_typed.specs.Tree.{is_quiet, is_quiet_class, member_class, class_of, size, sizes, trees_of}
@@ -42,13 +42,11 @@ use Rattle.program_view.specs.Trees.{expr_of, exprs_of, constant_head, is_pointe
 use Rattle.program_view.proofs.Seen.{node_in, operands_in, own_type, head_in, expr_at, by_size}
 use Rattle.run_acts.specs.Contents.{StandsAt}
 use Rattle.run_acts.proofs.Starting.{all_at}
-use Rattle.run_code.specs.declared.nodes.NodeInfo.{NodeInfo}
 use Rattle.run_code.specs.declared.steps.BlockCode.{BlockCode}
-use Rattle.run_code.specs.declared.steps.Expression.{Expression as Laid}
 use Rattle.run_code.specs.EventActs.{head_at}
 use Rattle.run_state.specs.declared.machine.Machine.{Machine}
 use Rattle.run_state.specs.Operands.{StandsObjects, is_open, IsThere, is_integer, IsNamed}
-use Rattle.run_state.specs.Stands.{StandsMemory, StandsLocal, StandLocals}
+use Rattle.run_state.specs.Stands.{StandsMemory, StandLocals}
 use Rattle.code_view.specs.Known.{IsPlaced, NamedIsPlaced}
 use Rattle.code_view.specs.Named.{SlotIsOpen, NamedIsOpen, ListIsThere, NodeIsNamed, OpenIsPlaced, OpenIsNamed}
 use Rattle.code_view.proofs.Viewed.{all_both}

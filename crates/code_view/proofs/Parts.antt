@@ -1,13 +1,13 @@
 -- What holds of each node of a tree holds of its root, and of those of the trees below it.
-use Rattle.std.proofs.Common.{arith, ◌≡◌, ◌+◌, ◌<◌, ◌≤◌, ◌⊎◌, inl, inr, ℕ, zero, suc, List, [], ◌∷◌, ◌++◌, map, length, Option, Some, None, slice_get}
-use Rattle.std.proofs.Common.{refl, sym, ap, subst, ◌∙◌}
+use Rattle.std.proofs.Common.{arith, ◌≡◌, ◌+◌, ◌<◌, ◌≤◌, ◌⊎◌, inl, inr, ℕ, zero, suc, List, [], ◌∷◌, ◌++◌, map, Option, Some, None, slice_get}
+use Rattle.std.proofs.Common.{sym, ap, subst, ◌∙◌}
 use Rattle.std.specs.List.{All}
 use Rattle.std.proofs.lemmas.List.Elements.{All-head, All-tail}
 use Rattle.std.proofs.lemmas.Option.{slice_get_within}
 use Rattle.c_types.specs.Types.{CType}
 use Rattle.c_typed.specs.declared.tree.Node.{Node}
 use Rattle.c_typed.specs.declared.tree.Node.TheOpen.{Node-F}
-use Rattle.c_typed.specs.declared.tree.Typed.{Typed, out-Typed, fold_out-Typed}
+use Rattle.c_typed.specs.declared.tree.Typed.{Typed, fold_out-Typed}
 use Rattle.c_typed.specs.Lawful.{root_of, operands_of}
 use Rattle.c_typed.specs.Sites.{Site, Seen, SeenNode, seen_node, seen_tree, type_seen, all_sites, seen, sites, type_at}
 use Rattle.c_typed.specs.Tree.{size, sizes, tree_of, trees_of}

@@ -12,7 +12,6 @@ use Rattle.c_typed.specs.declared.tree.Node.{Node}
 use Rattle.c_typed.specs.declared.tree.Node.TheOpen as shape
 use Rattle.c_typed.specs.declared.tree.Node.TheOpen.{Node-F}
 use Rattle.c_typed.specs.declared.tree.Typed.{Typed, out-Typed}
-use Rattle.c_typed.specs.Lawful.{root_of}
 use Rattle.c_typed.specs.Sites.{Head}
 use Rattle.c_typed.specs.Tree as order
 use Rattle.c_typed.specs.Tree.{size, sizes, trees_of}

@@ -1,5 +1,5 @@
 -- What is laid out of the term of a tree lists events that its nodes have.
-use Rattle.std.proofs.Common.{arith, ◌≡◌, ◌+◌, ◌≤◌, ◌⊎◌, inl, inr, ℕ, suc, Bool, true, false, if◌then◌else◌, nat_lt, List, [], ◌∷◌, ◌++◌, length, refl}
+use Rattle.std.proofs.Common.{◌≡◌, ◌+◌, ◌⊎◌, inl, inr, ℕ, suc, Bool, true, false, if◌then◌else◌, nat_lt, List, [], ◌∷◌, ◌++◌, length, refl}
 use Rattle.std.specs.List.{All}
 use Rattle.std.proofs.lemmas.List.Elements.{All-nil, All-cons, All-head, All-tail, All-append}
 use Rattle.ub_base.specs.declared.clause.Kind.{Kind}
@@ -9,8 +9,7 @@ use Rattle.c_typed.specs.declared.class.Class.TheVariants.{Object, Constant, Pla
 use Rattle.c_typed.specs.declared.tree.Place.{Place}
 use Rattle.c_typed.specs.Order.{place}
 use Rattle.c_typed.specs.Tree.{Tree, Trees, node, none, more, size, kinds_of}
-use Rattle.core_ir.specs.Term as core
-use Rattle.core_ir.specs.Term.{Term, Terms, pure, act, unseq, weak, strong, choose, atomic, indet, invoke, terms_from}
+use Rattle.core_ir.specs.Term.{Term, act, unseq, invoke, terms_from}
 use Rattle.elaborate.specs.Terms.{head_of, rest_of, choice_of, comma_of, node_term, term_for, terms_for}
 use Rattle.code_view.specs.Events.{IsOneOf}
 use Rattle.run_code.specs.Listings.{Entry, event, operand, continuation, flat, all_flat}

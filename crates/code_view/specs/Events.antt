@@ -19,7 +19,7 @@ use Rattle.run_code.specs.declared.steps.Listed.TheVariants as listed
 use Rattle.run_code.specs.declared.whole.Code.{Code}
 use Rattle.run_code.specs.Chosen.{Views}
 use Rattle.run_code.specs.LaidOut.{LaidOutBy}
-use Rattle.run_code.specs.OfTrees.{HasListing, ListsTrees}
+use Rattle.run_code.specs.OfTrees.{ListsTrees}
 use Rattle.code_view.specs.Known.{AreInOrder, NamesArePlaced}
 
 -- the event is listed of the full expression
