@@ -48,11 +48,11 @@ use Rattle.run_state.specs.declared.machine.Machine.{Machine}
 use Rattle.run_state.specs.Operands.{StandsObjects, is_open, IsThere, is_integer, IsNamed}
 use Rattle.run_state.specs.Stands.{StandsMemory, StandLocals}
 use Rattle.code_view.specs.Known.{IsPlaced, NamedIsPlaced}
-use Rattle.code_view.specs.Named.{SlotIsOpen, NamedIsOpen, ListIsThere, NodeIsNamed, OpenIsPlaced, OpenIsNamed}
+use Rattle.code_view.specs.Named.{SlotIsOpen, NamedIsOpen, ListIsThere, NodeIsNamed, OpenIsPlaced, OpenIsKnown, OpenIsNamed}
 use Rattle.code_view.proofs.Viewed.{all_both}
 use Rattle.code_view.proofs.Whole.{both_give}
 use Rattle.code_view.proofs.Each.{each_laid}
-use Rattle.code_view.proofs.Known.{IsLawfulTree, own_lawful, no_integer, there_pointer, function_pointer, member_pointer}
+use Rattle.code_view.proofs.Known.{IsLawfulTree, own_lawful, code_known, no_integer, there_pointer, function_pointer, member_pointer}
 use Rattle.code_view.proofs.Parts.{type_in, site_in, parts, in_nodes}
 
 -- ---- an object that was created stands
@@ -288,6 +288,10 @@ open_placed world m f s firsts n laid lawful order at memory objects is =
     let h = each_laid p (IsLawfulTree p) (own_lawful p) (λ g e l. (e.blocks, l.nodes)) m.code.now n laid lawful order at in
     both_give (SiteIsLawful p h.0) (λ x. NamedIsOpen m firsts f.blocks x.head) (λ x. NamedIsPlaced world f x.head)
     (λ x l o. head_placed h.0 m firsts f.blocks world f s memory objects refl x (l, o)) (sites t) h.1 is
+
+pub open_known : OpenIsKnown
+open_known world m f s firsts n laid lawful order at memory objects is =
+    code_known m.program.now m.code.now world f firsts n laid lawful order at (open_placed world m f s firsts n laid lawful order at memory objects is)
 
 pub open_named : OpenIsNamed
 open_named m firsts open_blocks nodes n laid i x lawful order at are is node_at =

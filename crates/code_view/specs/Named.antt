@@ -15,6 +15,7 @@ use Rattle.c_model.specs.World.{World}
 use Rattle.program_view.specs.Trees.{expr_of}
 use Rattle.run_code.specs.declared.nodes.NodeInfo.{NodeInfo}
 use Rattle.run_code.specs.declared.steps.Expression.{Expression as Laid}
+use Rattle.run_code.specs.Chosen.{Views}
 use Rattle.run_code.specs.EventActs.{head_at}
 use Rattle.run_code.specs.Numbered.{AreNodes}
 use Rattle.run_state.specs.declared.machine.Machine.{Machine}
@@ -41,6 +42,12 @@ abbrev pub OpenIsPlaced : Type 0
 OpenIsPlaced = (world : World) (m : Machine) (f : Scene) (s : Store) (firsts : List ℕ) (n : ℕ) (laid : Laid) → IsLawful m.program.now
     → AreInOrder m.program.now m.code.now → slice_get m.code.now.expressions.items n ≡ Some laid → StandsMemory world m.memory m.streams s
     → StandsObjects world m f → NamesAreOpen m firsts f.blocks laid.root.now → NamesArePlaced world f laid.root.now
+
+-- So what the code takes to be known beforehand in it is so by the definitions.
+abbrev pub OpenIsKnown : Type 0
+OpenIsKnown = (world : World) (m : Machine) (f : Scene) (s : Store) (firsts : List ℕ) (n : ℕ) (laid : Laid) → IsLawful m.program.now
+    → AreInOrder m.program.now m.code.now → slice_get m.code.now.expressions.items n ≡ Some laid → StandsMemory world m.memory m.streams s
+    → StandsObjects world m f → NamesAreOpen m firsts f.blocks laid.root.now → Views world f firsts 0 laid.root.now (expr_of laid.root.now)
 
 -- 3. And each node stands as the acts of its events ask.
 

@@ -8,7 +8,7 @@ ghost use Rattle.code_view.specs.Known.{CodeIsKnown};
 ghost use Rattle.code_view.specs.Events.{EventsAreOfClasses, EventsAreEvaluated, EffectsStore, EventsAreOfCode};
 ghost use Rattle.code_view.specs.Labels.{DefinedKeepLabels};
 ghost use Rattle.code_view.specs.Rooms.{RoomsAreThere};
-ghost use Rattle.code_view.specs.Named.{OpenIsPlaced, OpenIsNamed};
+ghost use Rattle.code_view.specs.Named.{OpenIsPlaced, OpenIsKnown, OpenIsNamed};
 ghost use Rattle.code_view.specs.Starting.{LawfulStartStands};
 
 /// The number of a full expression in the code stands for the expression of its typed tree.
@@ -50,10 +50,12 @@ pub fn law_views()
     ensures { CodeIsKnown }
 {}
 
-/// Where the blocks of the automatic objects are open that a full expression of a lawful program names, each object that it names stands (6.2.4), and each
-/// of its nodes has the operands that its operator takes, with what is known beforehand of them named.
+/// Where the blocks of the automatic objects are open that a full expression of a lawful program names, each object that it names stands (6.2.4), so
+/// that what the code takes to be known beforehand is so; and each of its nodes has the operands that its operator takes, with what is known beforehand of them
+/// named.
 pub fn law_named()
     ensures placed { OpenIsPlaced }
+    ensures known { OpenIsKnown }
     ensures nodes { OpenIsNamed }
 {}
 
