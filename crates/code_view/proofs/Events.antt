@@ -70,7 +70,7 @@ module _ (firsts : List ℕ) (nodes : List NodeInfo) (noted : AreNoted firsts no
   all_see [] ih parent m b u h = absurd h
   all_see (t ∷ ts) ih parent m b u h =
       elim h [
-        inl l ↦ ih t (omega arith) m (Some parent) b.0 u l
+        | inl l ↦ ih t (omega arith) m (Some parent) b.0 u l
         | inr r ↦ all_see ts (λ z le. ih z (omega (arith, le))) parent (m + size (tree_of t)) b.1 u r
       ]
 
@@ -87,7 +87,7 @@ module _ (firsts : List ℕ) (nodes : List NodeInfo) (noted : AreNoted firsts no
       let shape : tree_of t ≡ node kind (trees_of (operands_in t)) = fold_out-Typed (Trees → Class) Tree node_class typed_tree t in
       let there : HasEventIn k (node kind (trees_of (operands_in t))) u = subst (λ z. HasEventIn k z u) shape h in
       elim there [
-        inl l ↦ of_root t k parent is u l.0 (subst (λ z. IsOneOf u.kind (kinds_of (class_of z))) (sym shape) l.1)
+        | inl l ↦ of_root t k parent is u l.0 (subst (λ z. IsOneOf u.kind (kinds_of (class_of z))) (sym shape) l.1)
         | inr r ↦ all_see (operands_in t) ih k (suc k) (operands_below firsts nodes noted t k parent is) u r
       ])
 

@@ -234,12 +234,11 @@ module _ (around : Blocks) (m : Machine) (firsts : List ℕ) (open_blocks : List
   names = by_size Names (λ t ih all.
       let s = parts Fine t all in
       let first = first_named (operands_in t) ih s.1 in
-      let line = (out-Typed t).line in
-      (
+      let line = (out-Typed t).line in (
         subst NamedAt (sym (expr_at t)) (named_opened (node_in t) (own_type t) line (operands_in t) s.0 first),
         subst (IntegerAt (type_at t)) (sym (expr_at t))
-        (subst (λ ty. IntegerAt ty (expr (head_in (node_in t) (own_type t)) (own_type t) line (exprs_of (operands_in t)))) (sym (type_in t))
-        (integer_opened (node_in t) (own_type t) line (operands_in t) s.0 first)),
+            (subst (λ ty. IntegerAt ty (expr (head_in (node_in t) (own_type t)) (own_type t) line (exprs_of (operands_in t)))) (sym (type_in t))
+            (integer_opened (node_in t) (own_type t) line (operands_in t) s.0 first)),
       ))
 
   -- ---- each node
@@ -298,5 +297,6 @@ open_named m firsts open_blocks nodes n laid i x lawful order at are is node_at 
     let t = laid.root.now in
     let p = m.program.now in
     let h = each_laid p (IsLawfulTree p) (own_lawful p) (λ g e l. (e.blocks, l.nodes)) m.code.now n laid lawful order at in
-    let fine = both_give (SiteIsLawful p h.0) (λ y. NamedIsOpen m firsts open_blocks y.head) (Fine h.0 m firsts open_blocks) (λ y l o. (l, o)) (sites t) h.1 is in
+    let fine =
+    both_give (SiteIsLawful p h.0) (λ y. NamedIsOpen m firsts open_blocks y.head) (Fine h.0 m firsts open_blocks) (λ y l o. (l, o)) (sites t) h.1 is in
     node_named h.0 m firsts open_blocks x.tree.now (in_nodes (Fine h.0 m firsts open_blocks) firsts t nodes i x are fine node_at)

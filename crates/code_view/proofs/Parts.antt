@@ -23,7 +23,8 @@ type_in t = ap type_seen (fold_out-Typed SeenNode Seen seen_node seen_tree t)
 abbrev pub site_in : Node-F Node Typed → CType → List Typed → Site
 site_in d ty ts = record { head = (seen_root d).head; ty = ty; operands = map type_seen (map seen ts) }
 
-pub parts : (Q : Site → Type 0) (t : Typed) → All Q (sites t) → Q (site_in (root_of t) (own_type t) (operands_of t)) × All Q (all_sites (map seen (operands_of t)))
+pub parts : (Q : Site → Type 0) (t : Typed) → All Q (sites t)
+    → Q (site_in (root_of t) (own_type t) (operands_of t)) × All Q (all_sites (map seen (operands_of t)))
 parts Q t all =
     let root = site_in (root_of t) (own_type t) (operands_of t) in
     let inner = (seen_root (root_of t)).inner in
@@ -57,7 +58,7 @@ module _ (Q : Site → Type 0) (firsts : List ℕ) (nodes : List NodeInfo) (note
   all_spread (t ∷ ts) ih all parent m b n from to =
       let s = all_both Q (sites t) (all_sites (map seen ts)) all in
       elim (less_or n (m + size (tree_of t))) [
-        inl l ↦ ih t (omega arith) s.0 m (Some parent) b.0 n from l
+        | inl l ↦ ih t (omega arith) s.0 m (Some parent) b.0 n from l
         | inr r ↦ all_spread ts (λ u le. ih u (omega (arith, le))) s.1 parent (m + size (tree_of t)) b.1 n r (omega (arith, to))
       ]
 
@@ -71,7 +72,7 @@ module _ (Q : Site → Type 0) (firsts : List ℕ) (nodes : List NodeInfo) (note
   spreads = by_size Spreads (λ t ih all k parent is n from to.
       let count = size_at t in
       elim (less_or n (suc k)) [
-        inl l ↦ root_holds t k parent all is n (omega (arith, from, l))
+        | inl l ↦ root_holds t k parent all is n (omega (arith, from, l))
         | inr r ↦ all_spread (operands_in t) ih (parts Q t all).1 k (suc k) (operands_below firsts nodes noted t k parent is) n r (omega (arith, to, count))
       ])
 

@@ -1,5 +1,6 @@
 -- The rooms of a full expression's updates are there, and apart.
-use Rattle.std.proofs.Common.{arith, ◌≡◌, ◌+◌, ◌-◌, ◌<◌, ◌≤◌, ◌^◌, min, ℕ, zero, suc, ◌==◌, nat_lt, Bool, true, false, ◌&&◌, if◌then◌else◌, List, [], ◌∷◌, length, take, drop}
+use Rattle.std.proofs.Common.{arith, ◌≡◌, ◌+◌, ◌-◌, ◌<◌, ◌≤◌, ◌^◌, min, ℕ, zero, suc, ◌==◌, nat_lt, Bool, true, false, ◌&&◌, if◌then◌else◌}
+use Rattle.std.proofs.Common.{List, [], ◌∷◌, length, take, drop}
 use Rattle.std.proofs.Common.{Option, Some, None, slice_get, ℤ, refl, sym, ap, subst, ◌∙◌}
 use Rattle.std.specs.Prelude.{unsigned_abs}
 use Rattle.std.proofs.lemmas.Bool.Decides.{nat_tests}
@@ -74,7 +75,7 @@ listed_at all laid d is =
       first = omega arith;
       end = omega (arith, few);
       entry =
-      sym (from_there all laid.first is.0) ∙ (sym (in_part (drop laid.first all) (laid.end - laid.first) is.0 few) ∙ is.1);
+          sym (from_there all laid.first is.0) ∙ (sym (in_part (drop laid.first all) (laid.end - laid.first) is.0 few) ∙ is.1);
     }
 
 -- ---- the node of a number is that of the expression
@@ -104,8 +105,8 @@ module _ (firsts : List ℕ) (nodes : List NodeInfo) (noted : AreNoted firsts no
       subst (λ (e : Expr). at_node k e n ≡ Some (expr_of x.tree.now)) (sym (expr_at t))
       (choose (k == n) (Some own) (at_node_among (suc k) es n) (Some (expr_of x.tree.now))
       (λ e.
-        let here = same_node nodes k x is.0 (ap (slice_get nodes) (sym (equal k n e)) ∙ at) is.1 in
-        ap Some (sym (expr_at t) ∙ (ap expr_of (sym is.2) ∙ ap (λ (z : NodeInfo). expr_of z.tree.now) (sym here))))
+      let here = same_node nodes k x is.0 (ap (slice_get nodes) (sym (equal k n e)) ∙ at) is.1 in
+      ap Some (sym (expr_at t) ∙ (ap expr_of (sym is.2) ∙ ap (λ (z : NodeInfo). expr_of z.tree.now) (sym here))))
       (λ e. all_seat (operands_in t) ih k (suc k) (operands_below firsts nodes noted t k parent is) n
       (let l = unequal k n e from in omega (arith, l)) (omega (arith, to, count)) x at)))
 
@@ -266,9 +267,11 @@ module _ (code : Code) (firsts : List ℕ) (nodes : List NodeInfo) (laid : Laid)
       let s = sight_of firsts count d.place.node x in
       let there = node_at firsts nodes laid.root.now lays.numbered d.place.node x it.1 in
       let is = tree_update x.tree.now r.operands r.change r.old (subst (λ o. IsUpdate o r.change r.old r.operands) there r.update) in
-      let does : IsEffect firsts code.tables h s d.act = subst (λ z. IsAct firsts code.tables x.initializer h s z d.act) r.effect it.2.does in
-      (x, room_is d.place.node x r.change r.old room it.1 is
-      (update_room firsts code.tables h r.change r.old s d.act r.store room r.target is does r.act))
+      let does : IsEffect firsts code.tables h s d.act = subst (λ z. IsAct firsts code.tables x.initializer h s z d.act) r.effect it.2.does in (
+        x,
+        room_is d.place.node x r.change r.old room it.1 is
+            (update_room firsts code.tables h r.change r.old s d.act r.store room r.target is does r.act),
+      )
 
   rooms_within : (room : ℕ) → IsUpdateRoomOf part root room → room < laid.rooms
   rooms_within room r = let u = update_found room r in room_within r.due.place.node u.0 r.old room u.1
