@@ -3,6 +3,7 @@ use Rattle.std.proofs.Common.{arith, ◌≡◌, ◌+◌, ◌-◌, ◌<◌, ◌�
 use Rattle.std.proofs.Common.{Option, Some, None, slice_get, if◌then◌else◌, refl, sym, ap, subst, ◌∙◌}
 use Rattle.ub_base.specs.declared.clause.Kind.{Kind}
 use Rattle.ub_base.specs.declared.clause.Kind.TheVariants.{Val, Eff, Body}
+use Rattle.std.proofs.Math.Logic.{∥∥₁_map}
 use Rattle.std.specs.Option.{option_map}
 use Rattle.std.proofs.lemmas.Option.{slice_get-map}
 use Rattle.c_typed.specs.declared.class.Class.{Class}
@@ -28,10 +29,11 @@ use Rattle.run_code.specs.declared.steps.Listed.{Listed}
 use Rattle.run_code.specs.declared.steps.Listed.TheVariants as listed
 use Rattle.run_code.specs.declared.tables.Tables.{Tables}
 use Rattle.run_code.specs.EventActs.{head_at, sight_of, Sight, IsAct, IsEffect}
+use Rattle.run_code.specs.LaidOut.{IsLaidOut}
 use Rattle.run_code.specs.Listings.{event, entry_of, flat}
 use Rattle.run_code.specs.Numbered.{IsAt, AreBelow, AreNoted, AreNodes}
 use Rattle.run_code.specs.OfTrees.{listing_in, HasListing}
-use Rattle.code_view.specs.Events.{IsOneOf, IsListedAt, stores, EventsAreOfClasses, EventsAreEvaluated, EffectsStore, EventsAreOfCode}
+use Rattle.code_view.specs.Events.{IsOneOf, IsListedAt, stores, EventsAreOfClasses, EventsAreEvaluated, EffectsStore, EventsAreOfCode, EventsAreInCode}
 use Rattle.code_view.proofs.Whole.{each_at}
 use Rattle.code_view.proofs.Listed.{seen_root}
 use Rattle.code_view.proofs.Terms.{HasEventIn, HasEventAmong, Good, tree_good}
@@ -226,3 +228,9 @@ events_of_code p code world f firsts nodes n laid d lawful order lists at lays p
   is_listed = is;
   quiet = λ x node_at. events_evaluated code firsts nodes n laid d x lists at lays is node_at;
 }
+
+pub events_in_code : EventsAreInCode
+events_in_code p code world f n laid d lawful order lists all at placed is =
+    ∥∥₁_map all (λ them.
+    let it = each_at (IsLaidOut code.tables code.listing.items) code.expressions.items n laid at them in
+    events_of_code p code world f it.0 it.1 n laid d lawful order lists at it.2 placed is)

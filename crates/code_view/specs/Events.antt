@@ -1,5 +1,6 @@
 -- The events that are listed of the full expressions of a lawful program.
 use Rattle.std.specs.Prelude.{◌≡◌, ◌<◌, ◌≤◌, ◌⊎◌, ℕ, Bool, true, false, List, [], ◌∷◌, Some, slice_get}
+use Rattle.std.specs.List.{All}
 use Rattle.ub_base.specs.declared.clause.Kind.TheVariants.{Eff}
 use Rattle.c_typed.specs.declared.program.Program.{Program}
 use Rattle.c_typed.specs.Lawful.{IsLawful}
@@ -18,7 +19,7 @@ use Rattle.run_code.specs.declared.steps.Listed.{Listed}
 use Rattle.run_code.specs.declared.steps.Listed.TheVariants as listed
 use Rattle.run_code.specs.declared.whole.Code.{Code}
 use Rattle.run_code.specs.Chosen.{Views}
-use Rattle.run_code.specs.LaidOut.{LaidOutBy}
+use Rattle.run_code.specs.LaidOut.{LaidOutBy, IsLaidOut}
 use Rattle.run_code.specs.OfTrees.{ListsTrees}
 use Rattle.code_view.specs.Known.{AreInOrder, NamesArePlaced}
 
@@ -74,3 +75,9 @@ EventsAreOfCode = (p : Program) (code : Code) (world : World) (f : Scene) (first
     → IsLawful p → AreInOrder p code → ListsTrees code → slice_get code.expressions.items n ≡ Some laid
     → LaidOutBy firsts nodes code.tables code.listing.items laid → NamesArePlaced world f laid.root.now → IsListedAt code.listing.items laid d
     → IsEventOfCode world code f laid (expr_of laid.root.now) d
+
+-- .. by some nodes, as `code_of` has it of all full expressions
+abbrev pub EventsAreInCode : Type 0
+EventsAreInCode = (p : Program) (code : Code) (world : World) (f : Scene) (n : ℕ) (laid : Laid) (d : Due) → IsLawful p → AreInOrder p code
+    → ListsTrees code → ∥ All (IsLaidOut code.tables code.listing.items) code.expressions.items ∥₁ → slice_get code.expressions.items n ≡ Some laid
+    → NamesArePlaced world f laid.root.now → IsListedAt code.listing.items laid d → ∥ IsEventOfCode world code f laid (expr_of laid.root.now) d ∥₁

@@ -37,8 +37,8 @@ abbrev pub NamesArePlaced : World → Scene → Typed → Type 0
 NamesArePlaced world f t = All (λ s. NamedIsPlaced world f s.head) (sites t)
 
 -- What the code takes to be known beforehand in a full expression is so by the definitions, and has their truth, in each scene of a world in which the
--- objects that the expression names stand: its number or address, or what an integer constant or an address is converted to. The objects of blocks
--- may have any numbers.
+-- objects that the expression names stand: a number, a null pointer, an address, or an integer constant that is converted. The objects of blocks may
+-- have any numbers.
 abbrev pub CodeIsKnown : Type 0
 CodeIsKnown = (p : Program) (code : Code) (world : World) (f : Scene) (firsts : List ℕ) (n : ℕ) (laid : Laid) → IsLawful p → AreInOrder p code
     → slice_get code.expressions.items n ≡ Some laid → NamesArePlaced world f laid.root.now → Views world f firsts 0 laid.root.now (expr_of laid.root.now)

@@ -5,7 +5,7 @@
 
 ghost use Rattle.code_view.specs.Laws.{RootsStand, BodiesStand, SwitchesStand, TreesFit, TreesAreFormed, ConstantsAreLawful, LawfulCodeStands};
 ghost use Rattle.code_view.specs.Known.{CodeIsKnown};
-ghost use Rattle.code_view.specs.Events.{EventsAreOfClasses, EventsAreEvaluated, EffectsStore, EventsAreOfCode};
+ghost use Rattle.code_view.specs.Events.{EventsAreOfClasses, EventsAreEvaluated, EffectsStore, EventsAreOfCode, EventsAreInCode};
 ghost use Rattle.code_view.specs.Labels.{DefinedKeepLabels};
 ghost use Rattle.code_view.specs.Rooms.{RoomsAreThere};
 ghost use Rattle.code_view.specs.Named.{OpenIsPlaced, OpenIsKnown, OpenIsNamed};
@@ -66,6 +66,7 @@ pub fn law_events()
     ensures effects { EffectsStore }
     ensures evaluated { EventsAreEvaluated }
     ensures code { EventsAreOfCode }
+    ensures laid { EventsAreInCode }
 {}
 
 /// Where the code has a room for each node of a full expression, and one behind these for each update that gives its old value, no two of them one, what each
