@@ -28,11 +28,11 @@ abbrev sites_seen : Seen → List Site
 sites_seen s = s.sites
 
 -- a root as the node above sees it
-abbrev seen_root : Root → SeenNode
+abbrev pub seen_root : Root → SeenNode
 seen_root z = seen_node (map-Node Node Typed SeenNode Seen (fold-Node SeenNode Seen seen_node seen_tree) seen z)
 
 -- the nodes of a tree with this root and these operands
-abbrev opened : Root → CType → List Typed → List Site
+abbrev pub opened : Root → CType → List Typed → List Site
 opened z ty ts =
     record { head = (seen_root z).head; ty = ty; operands = map type_seen (map seen ts) } ∷ ((seen_root z).inner ++ all_sites (map seen ts))
 
@@ -41,7 +41,7 @@ by_node t n =
     let ss = map seen (out-Typed t).children in
     record { head = n.head; ty = type_of (out-Typed t).ty; operands = map type_seen ss } ∷ (n.inner ++ all_sites ss)
 
-sites_of : (t : Typed) → sites t ≡ opened (root_of t) (type_of (out-Typed t).ty) (operands_of t)
+pub sites_of : (t : Typed) → sites t ≡ opened (root_of t) (type_of (out-Typed t).ty) (operands_of t)
 sites_of t =
     ap sites_seen (fold_out-Typed SeenNode Seen seen_node seen_tree t)
     ∙ ap (by_node t) (fold_out-Node SeenNode Seen seen_node seen_tree (out-Typed t).node)

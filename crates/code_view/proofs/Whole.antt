@@ -41,7 +41,7 @@ use Rattle.run_code.specs.Fitting.{AccessFits, SiteFits, TreeFits, StoreFits}
 use Rattle.run_code.specs.Roots.{as_block, block_in, trees_in, code_trees, IsCodeOf, AreCodeOf, IsNumberedBy}
 use Rattle.run_state.specs.Meaning.{AccessSuits}
 use Rattle.code_view.specs.Numbering.{RowHas, root_by, row_decls, body_decls, function_decls, decls_in, switch_by, meaning_of}
-use Rattle.code_view.specs.Laws.{RootsStand, BodiesStand, SwitchesStand, TreesFit, LawfulCodeStands}
+use Rattle.code_view.specs.Laws.{RootsStand, BodiesStand, SwitchesStand, TreesFit, ConstantsAreLawful, LawfulCodeStands}
 use Rattle.code_view.proofs.Viewed.{body_seen}
 use Rattle.code_view.proofs.Full.{body_full}
 use Rattle.code_view.proofs.Own.{all_own}
@@ -86,11 +86,11 @@ form_of : (z : Body-F Body Entry ForStart Block) (b : Block) → as_block z ≡ 
 form_of (form.Block y) b e = let same : y ≡ b = cc in ap form.Block same
 form_of _ b e = absurd (cc)
 
-body_there : (o : Option Body) (b : Block) → block_in o ≡ Some b → o ≡ Some (body.Block b)
+pub body_there : (o : Option Body) (b : Block) → block_in o ≡ Some b → o ≡ Some (body.Block b)
 body_there None b e = absurd (cc)
 body_there (Some x) b e = ap Some (sym (roll-out-Body x) ∙ (ap roll-Body (form_of (out-Body x) b e) ∙ body.rolls-Block b))
 
-function_body : (world : World) (n : ℕ) (f : model.Function) → slice_get world.program.functions n ≡ Some f → body_of world (Some n) ≡ f.body
+pub function_body : (world : World) (n : ℕ) (f : model.Function) → slice_get world.program.functions n ≡ Some f → body_of world (Some n) ≡ f.body
 function_body world n f e = rw e
 
 -- blocks that are numbered from one on have the objects of their rows
@@ -102,7 +102,7 @@ rows_have tags all (b ∷ bs) k h at =
     let here : slice_get all b.number ≡ Some b = ap (slice_get all) (let n = h.0 in omega (arith, n)) ∙ at 0 in
     All-cons P b bs (ap (row_decls tags) here) (rows_have tags all bs (1 + k) h.1 (λ i. ap (slice_get all) (omega arith) ∙ at (suc i)))
 
-where_some : {A : Type 0} (P : A → Type 0) (o : Option A) (x : A) → o ≡ Some x → Where P o → P x
+pub where_some : {A : Type 0} (P : A → Type 0) (o : Option A) (x : A) → o ≡ Some x → Where P o → P x
 where_some P o x e h = let k : Where P (Some x) = subst (Where P) e h in k
 
 -- the code of a function, and the block that it is of
@@ -117,7 +117,7 @@ found p numbers c laid n fc at =
     let b = block_there numbers (block_in f.0.body) fc f.2 in
     (f.0, f.1, b.0, body_there f.0.body b.0 b.1, b.2)
 
-each_at : {A : Type 0} (P : A → Type 0) (xs : List A) (n : ℕ) (x : A) → slice_get xs n ≡ Some x → All P xs → P x
+pub each_at : {A : Type 0} (P : A → Type 0) (xs : List A) (n : ℕ) (x : A) → slice_get xs n ≡ Some x → All P xs → P x
 each_at P [] zero x at h = absurd (cc)
 each_at P [] (suc n) x at h = absurd (cc)
 each_at P (y ∷ ys) zero x at h = let is : y ≡ x = cc in subst P is (All-head P y ys h)
@@ -155,7 +155,7 @@ bodies_stand p numbers c world lawful laid stands n fc at =
     ∙ (definition-block p.tags it.2
     ∙ ap Some (sym (stmt-block p.tags it.2) ∙ (body_seen p.tags (decls_in p (Some n)) x have ∙ sym told.0))))
 
-both_give : {A : Type 0} (P Q R : A → Type 0) → ((x : A) → P x → Q x → R x) → (xs : List A) → All P xs → All Q xs → All R xs
+pub both_give : {A : Type 0} (P Q R : A → Type 0) → ((x : A) → P x → Q x → R x) → (xs : List A) → All P xs → All Q xs → All R xs
 both_give P Q R f [] h k = All-nil R
 both_give P Q R f (x ∷ xs) h k = All-cons R x xs (f x (All-head P x xs h) (All-head Q x xs k)) (both_give P Q R f xs (All-tail P x xs h) (All-tail Q x xs k))
 
@@ -170,7 +170,7 @@ body_fits p f x h =
     body_full (TreeFits p) (all_own (SiteFits p)) x no_block
     (All-weaker (ExpressionIsLawful p f) (λ e. TreeFits p e.tree) (expression_fits p f) (expressions x) h.full)
 
-block_form : (b : Block) → body_trees (body.Block b) ≡ block_trees b
+pub block_form : (b : Block) → body_trees (body.Block b) ≡ block_trees b
 block_form b = search (rules, folds.the_lemmas)
 
 function_fits : (p : Program) (f : Function) (o : Option Block) → block_in f.body ≡ o → FunctionIsLawful p f → All (TreeFits p) (trees_in o)
@@ -205,6 +205,9 @@ suits (access.Whole size align) ty h = tt
 
 pub trees_fit : TreesFit
 trees_fit p lawful = functions_fit p p.functions lawful.functions
+
+pub constants_lawful : ConstantsAreLawful
+constants_lawful p numbers c lawful laid = (laid.fit (trees_fit p lawful)).constants
 
 pub code_stands : LawfulCodeStands
 code_stands p numbers c world lawful laid stands =

@@ -2,7 +2,7 @@
 use Rattle.std.specs.Prelude.{◌≡◌, ℕ, flat_map, Option, Some, slice_get}
 use Rattle.std.specs.List.{All}
 use Rattle.c_typed.specs.declared.program.Program.{Program}
-use Rattle.c_typed.specs.Lawful.{IsLawful}
+use Rattle.c_typed.specs.Lawful.{IsLawful, ContentIsLawful}
 use Rattle.elaborate.specs.Expressions.{program_trees}
 use Rattle.elaborate.specs.Formed.{EachFormed}
 use Rattle.c_model.specs.World.{World}
@@ -47,6 +47,11 @@ TreesFit = (p : Program) → IsLawful p → All (TreeFits p) (flat_map code_tree
 -- the nodes of the full expressions of a lawful program have the operands that their operators take
 abbrev pub TreesAreFormed : Type 0
 TreesAreFormed = (p : Program) → IsLawful p → EachFormed (program_trees p)
+
+-- the constants of the code's table are lawful (6.7.9)
+abbrev pub ConstantsAreLawful : Type 0
+ConstantsAreLawful = (p : Program) (numbers : Numbers) (code : Code) → IsLawful p → IsCodeOfProgram p numbers code
+    → All (λ cs. All (λ c. ContentIsLawful p c.content) cs.now) code.tables.constants.items
 
 -- all together, in each world of the program
 abbrev pub LawfulCodeStands : Type 0
