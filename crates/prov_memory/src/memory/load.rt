@@ -6,7 +6,7 @@ ghost use Rattle.c_types.specs.Types.{type_of};
 ghost use Rattle.c_types.specs.Same.{agrees};
 ghost use Rattle.c_types.specs.Shapes.{form_of};
 ghost use Rattle.mem_spec.specs.Agreement as agreement;
-ghost use Rattle.mem_spec.specs.Agreement.{suits_form};
+ghost use Rattle.mem_spec.specs.Agreement.{leaf_agrees, suits_form};
 ghost use Rattle.mem_spec.specs.Acts as acts;
 ghost use Rattle.mem_spec.specs.Acts.{candidates, origins_in, tag_agrees, tags_agree};
 ghost use Rattle.mem_spec.specs.Script.{run, Done, Raised};
@@ -543,10 +543,23 @@ fn fits_shape(shape: &Shape, ty: &Ty, from: u64) -> bool
     shape.suits(ty, from)
 }
 
-/// Whether the object is a scalar of that very integer type, which most are.
+/// Whether the scalar that begins there is of that very integer type, as most are: the object, or one of its elements.
 #[inline(always)]
 fn is_of_kind(shape: &Shape, ty: &Ty, from: u64) -> bool
     ensures { result ≡ true → suits_form (type_of ty.now) (form_of shape.now) from ≡ true }
+{
+    match shape {
+        Shape::Leaf(leaf) => from == 0 && is_same_kind(ty, leaf),
+        Shape::Repeat { count, step, part } => {
+            *step != 0 && from / *step < *count && is_leaf_of_kind(part.get(), ty, from % *step)
+        }
+        Shape::Parts(_) => false,
+    }
+}
+
+#[inline(always)]
+fn is_leaf_of_kind(shape: &Shape, ty: &Ty, from: u64) -> bool
+    ensures { result ≡ true → leaf_agrees (type_of ty.now) (form_of shape.now) from ≡ true }
 {
     match shape {
         Shape::Leaf(leaf) => from == 0 && is_same_kind(ty, leaf),
