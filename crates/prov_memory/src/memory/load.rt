@@ -1,12 +1,12 @@
 // Loads.
-ghost use Rattle.std.specs.Prelude.{◌≡◌, ℕ, ◌+◌, ◌<◌, ◌≤◌, ◌^◌, ◌&&◌, ◌==◌, ◌++◌, ◌∷◌, [], List, Some, Ok, Err, false, length, map, slice_get, option_map, IfOk, IfErr, IfSome, OnOk, OnErr};
+ghost use Rattle.std.specs.Prelude.{◌≡◌, ℕ, ◌+◌, ◌<◌, ◌≤◌, ◌^◌, ◌&&◌, ◌==◌, ◌++◌, ◌∷◌, [], List, Some, Ok, Err, true, false, length, map, slice_get, option_map, IfOk, IfErr, IfSome, OnOk, OnErr};
 ghost use Rattle.ub_base.specs.Names.{same_event, same_object};
 ghost use Rattle.ub_base.specs.declared.names.Item.TheVariants.{Alive, Expose, Read};
 ghost use Rattle.c_types.specs.Types.{type_of};
 ghost use Rattle.c_types.specs.Same.{agrees};
 ghost use Rattle.c_types.specs.Shapes.{form_of};
 ghost use Rattle.mem_spec.specs.Agreement as agreement;
-ghost use Rattle.mem_spec.specs.Agreement.{suits_form};
+ghost use Rattle.mem_spec.specs.Agreement.{leaf_agrees, suits_form};
 ghost use Rattle.mem_spec.specs.Acts as acts;
 ghost use Rattle.mem_spec.specs.Acts.{candidates, origins_in, tag_agrees, tags_agree};
 ghost use Rattle.mem_spec.specs.Script.{run, Done, Raised};
@@ -533,10 +533,51 @@ fn is_pointer_piece(cell: Cell) -> bool
 }
 
 /// Whether a load of the type suits an object of this shape.
+#[inline(always)]
 fn fits_shape(shape: &Shape, ty: &Ty, from: u64) -> bool
     ensures { result ≡ suits_form (type_of ty.now) (form_of shape.now) from }
 {
+    if is_of_kind(shape, ty, from) {
+        return true;
+    }
     shape.suits(ty, from)
+}
+
+/// Whether the scalar that begins there is of that very integer type, as most are: the object, or one of its elements.
+#[inline(always)]
+fn is_of_kind(shape: &Shape, ty: &Ty, from: u64) -> bool
+    ensures { result ≡ true → suits_form (type_of ty.now) (form_of shape.now) from ≡ true }
+{
+    match shape {
+        Shape::Leaf(leaf) => from == 0 && is_same_kind(ty, leaf),
+        Shape::Repeat { count, step, part } => {
+            *step != 0 && from / *step < *count && is_leaf_of_kind(part.get(), ty, from % *step)
+        }
+        Shape::Parts(_) => false,
+    }
+}
+
+#[inline(always)]
+fn is_leaf_of_kind(shape: &Shape, ty: &Ty, from: u64) -> bool
+    ensures { result ≡ true → leaf_agrees (type_of ty.now) (form_of shape.now) from ≡ true }
+{
+    match shape {
+        Shape::Leaf(leaf) => from == 0 && is_same_kind(ty, leaf),
+        _ => false,
+    }
+}
+
+#[inline(always)]
+fn is_same_kind(ty: &Ty, leaf: &Ty) -> bool
+    ensures { result ≡ true → agrees (type_of ty.now) (type_of leaf.now) ≡ true }
+{
+    match ty {
+        Ty::Int(kind) => match leaf {
+            Ty::Int(other) => kind == other,
+            _ => false,
+        },
+        _ => false,
+    }
 }
 
 /// Whether the tag is that of this byte of a scalar of the type, with which the access agrees.

@@ -17,7 +17,8 @@ returns-in_err-left-clause-exact c =
     rw (p.1, p.2) (λ can given. tt)
 
 pub returns-in_err-left-clause-changes : goal.returns-in_err-left-clause-changes
-returns-in_err-left-clause-changes c = touches_all c.args.machine.now c.args.machine.now c.args.event.node (act.Equal c.args.op c.args.left.now c.args.right.now) refl
+returns-in_err-left-clause-changes c =
+    touches_all c.args.machine.now c.args.machine.now c.args.event.node (act.Equal c.args.op c.args.left.now c.args.right.now) refl
 
 pub returns-in_err-right-clause-exact : goal.returns-in_err-right-clause-exact
 returns-in_err-right-clause-exact c =

@@ -32,7 +32,8 @@ returns-clause-exact c = λ can given.
     c.keep.ensures.others
     c.args.event (act.Load c.args.access.now c.args.ty c.args.place.now) refl refl
     (by_script m (nodes.load m.memory.rows c.args.event c.args.access.now (type_of c.args.ty.now) (pointer_at c.pointer-place.result)) _ _ (place_same m
-    c.args.place.now c.pointer-place.result (λ q. nodes.load m.memory.rows c.args.event c.args.access.now (type_of c.args.ty.now) q) c.pointer-place.ensures given)
+    c.args.place.now c.pointer-place.result (λ q. nodes.load m.memory.rows c.args.event c.args.access.now (type_of c.args.ty.now) q)
+    c.pointer-place.ensures given)
     (c.in_ok-value.ensures.exact (cell_of m.memory c.pointer-place.result.prov made) can.sound.known can.tagged m.streams))
     (c.in_ok-value.ensures.made can.sound can.tagged)
     c.in_ok-value.ensures.kept

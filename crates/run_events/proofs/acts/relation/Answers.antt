@@ -33,7 +33,8 @@ returns-in_err-value-clause-exact c =
     let made1 = copy_made m c.args.left.now c.in_ok-left.left c.in_ok-left.ensures given.0 in
     let made2 = copy_made m c.args.right.now c.in_ok-right.right c.in_ok-right.ensures given.1 in
     by_script m (nodes.relational c.args.op c.args.pointers (value_in m.memory c.in_ok-left.left) (value_in m.memory c.in_ok-right.right)) _ _
-    (copies_same m c.args.left.now c.args.right.now c.in_ok-left.left c.in_ok-right.right (λ v w. nodes.relational c.args.op c.args.pointers v w) c.in_ok-left.ensures
+    (copies_same m c.args.left.now c.args.right.now c.in_ok-left.left c.in_ok-right.right (λ v w. nodes.relational c.args.op c.args.pointers v w)
+    c.in_ok-left.ensures
     c.in_ok-right.ensures given.0 given.1)
     (c.in_err-value.ensures.exact made1 made2 m.streams))
 
@@ -52,7 +53,8 @@ returns-clause-exact c = λ can given.
     c.keep.ensures.others
     c.args.event (act.Related c.args.op c.args.pointers c.args.left.now c.args.right.now) refl refl
     (by_script m (nodes.relational c.args.op c.args.pointers (value_in m.memory c.in_ok-left.left) (value_in m.memory c.in_ok-right.right)) _ _
-    (copies_same m c.args.left.now c.args.right.now c.in_ok-left.left c.in_ok-right.right (λ v w. nodes.relational c.args.op c.args.pointers v w) c.in_ok-left.ensures
+    (copies_same m c.args.left.now c.args.right.now c.in_ok-left.left c.in_ok-right.right (λ v w. nodes.relational c.args.op c.args.pointers v w)
+    c.in_ok-left.ensures
     c.in_ok-right.ensures given.0 given.1)
     (c.in_ok-value.ensures.exact made1 made2 m.streams))
     c.in_ok-value.ensures.made

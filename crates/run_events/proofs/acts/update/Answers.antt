@@ -32,8 +32,8 @@ returns-in_err-both-clause-changes c =
 pub returns-then-old-clause-exact : goal.returns-then-old-clause-exact
 returns-then-old-clause-exact c = λ can given.
     let m = c.args.machine.now in
-    subst (λ (b : Bool). Does m c.keep-then-old.new.self c.args.event (act.Change c.args.change b c.args.ty c.args.place.now c.args.operand.now c.args.room) (Ok
-    outcome.Done))
+    subst (λ (b : Bool). Does m c.keep-then-old.new.self c.args.event (act.Change c.args.change b c.args.ty c.args.place.now c.args.operand.now c.args.room)
+    (Ok outcome.Done))
     (sym c.if-old.true)
     (both_done m c.args.event c.args.change c.args.ty c.args.place.now c.args.operand.now c.pointer-place.result (to_z w128 (of_z w128
     c.integer-operand.result)) c.changed.new.m c.changed.new.t c.changed.new.spare c.in_ok-both.both.0 c.in_ok-both.both.1 c.pointer-place.ensures
