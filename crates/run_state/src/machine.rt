@@ -187,6 +187,7 @@ impl<'p, 'c> Machine<'p, 'c> {
     }
 
     // A copy of an operand's value.
+    #[inline(always)]
     pub fn value(&self, operand: Operand) -> Result<Value, NoMemory>
         ensures { IfOk result (λ v. (h : Kept_value) → operand_in self.now operand ≡ Some h → v ≡ h) }
     {

@@ -271,6 +271,7 @@ impl Memory {
     }
 
     // The number of what the eight bytes where a load falls were made from, where they are the pieces of one pointer value, from 0 on.
+    #[inline(always)]
     fn pointer_of(&self, found: Accessed) -> Option<Origin>
         requires { IsReached self.now.objects found 8 }
         ensures { (h : Held) → slice_get self.now.objects found.object ≡ Some h → named_in self.now.origins result ≡ acts.pointer_in (bytes_in self.now h found.from 8) }
@@ -356,6 +357,7 @@ impl Memory {
 
     // The provenance of a pointer that is loaded, by the number of that of its pieces, if any: it isn't loaded where its candidates are dead,
     // and a number is looked up.
+    #[inline(always)]
     fn resolved(
         &mut self,
         pointer: Option<Origin>,
