@@ -1,48 +1,13 @@
 -- What is answered to an event that isn't a body: the definitions' event.
-use Rattle.std.proofs.Common.{
-  ◌≡◌,
-  ℕ,
-  zero,
-  suc,
-  ◌+◌,
-  ◌-◌,
-  ◌^◌,
-  ◌<◌,
-  ◌≤◌,
-  min,
-  Bool,
-  true,
-  false,
-  if◌then◌else◌,
-  refl,
-  sym,
-  ap,
-  ◌∙◌,
-  subst,
-  arith,
-  List,
-  [],
-  ◌∷◌,
-  take,
-  drop,
-  Option,
-  Some,
-  None,
-  Result,
-  Ok,
-  Err,
-  slice_get,
-}
-use Rattle.std.specs.Borrow.{Bor}
+use Rattle.std.proofs.Common.{◌≡◌, ℕ, zero, suc, ◌+◌, ◌-◌, ◌^◌, ◌<◌, min, Bool, true, false, if◌then◌else◌, refl, sym, ap, ◌∙◌, subst, arith, List, [], ◌∷◌, take, drop, Option, Some, None, Result, Ok, Err, slice_get}
 use Rattle.ub_base.specs.declared.clause.Clause.{Clause}
 use Rattle.ub_base.specs.declared.names.Event.{Event}
 use Rattle.addr_map.specs.declared.map.Row.{Row}
 use Rattle.c_typed.specs.declared.tree.Place.{Place}
-use Rattle.mem_spec.specs.Script.{Act, Raised, Script, run}
+use Rattle.mem_spec.specs.Script.{Raised, Script, run}
 use Rattle.prov_memory.specs.Keeps.{RowsStay}
 use Rattle.prov_memory.specs.Memory.{store_of}
-use Rattle.c_model.specs.Program.{Expr}
-use Rattle.c_model.specs.Runs.{Outcome, Raises, State, acted, entry_of, step}
+use Rattle.c_model.specs.Runs.{Raises, State, acted, entry_of, step}
 use Rattle.c_model.specs.Steps.{Begun, Ev, at_node, does, event_act, event_of}
 use Rattle.c_model.specs.Values.{Value}
 use Rattle.c_model.specs.World.{World}
@@ -51,7 +16,6 @@ use Rattle.run_code.specs.declared.steps.Due.{Due}
 use Rattle.run_code.specs.declared.steps.Expression.{Expression}
 use Rattle.run_code.specs.declared.whole.Code.{Code}
 use Rattle.run_state.specs.declared.halt.Halt.{Halt}
-use Rattle.run_state.specs.declared.halt.Halt.TheVariants as halt
 use Rattle.run_state.specs.declared.machine.Machine.{Machine}
 use Rattle.run_state.specs.declared.machine.Stage.{Stage}
 use Rattle.run_events.specs.declared.acts.Outcome.{Outcome as Done_as}

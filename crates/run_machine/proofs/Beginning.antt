@@ -1,60 +1,26 @@
 -- A full expression begins: the machine then stands for the definitions' next state.
-use Rattle.std.proofs.Common.{
-  ◌≡◌,
-  ◌≢◌,
-  ℕ,
-  suc,
-  ◌+◌,
-  ◌-◌,
-  ◌<◌,
-  ◌≤◌,
-  ◌^◌,
-  ◌==◌,
-  min,
-  Bool,
-  true,
-  false,
-  refl,
-  sym,
-  ap,
-  ◌∙◌,
-  subst,
-  arith,
-  List,
-  [],
-  ◌∷◌,
-  length,
-  map,
-  reverse,
-  Option,
-  Some,
-  None,
-  slice_get,
-}
+use Rattle.std.proofs.Common.{◌≡◌, ℕ, suc, ◌+◌, ◌-◌, ◌<◌, ◌≤◌, ◌^◌, min, Bool, true, false, refl, sym, ap, ◌∙◌, subst, arith, List, [], ◌∷◌, length, map, reverse, Option, Some, None, slice_get}
 use Rattle.std.proofs.Math.Logic.{∥∥₁_elim}
 use Rattle.std.proofs.Math.Nat.{ℕ_set}
 use Rattle.std.proofs.Props.{props}
 use Rattle.std.proofs.lemmas.List.{length-reverse}
 use Rattle.std.proofs.lemmas.Option.{slice_get_within}
-use Rattle.std.specs.Borrow.{Bor}
-use Rattle.std.specs.Prelude.{is_some, if◌then◌else◌, Result, Ok, Err}
+use Rattle.std.specs.Prelude.{if◌then◌else◌, Ok}
 use Rattle.ub_base.specs.declared.clause.Kind.TheVariants.{Val}
 use Rattle.c_typed.specs.declared.tree.Place.{Place}
-use Rattle.c_typed.specs.declared.tree.Typed.{Typed}
 use Rattle.c_typed.specs.Order.{place, is_due}
 use Rattle.c_typed.specs.Tree as typed
-use Rattle.prov_memory.specs.Memory.{Kept}
 use Rattle.prov_memory.specs.declared.value.Value.{Value as Kept_value}
 use Rattle.c_model.specs.Control as todo
 use Rattle.c_model.specs.Control.{Todo, ready_work}
-use Rattle.c_model.specs.Program.{Expr, tree_of}
-use Rattle.c_model.specs.Runs.{Entry, Running, State, depth_of, entry_of, limit_passed, step}
+use Rattle.c_model.specs.Program.{tree_of}
+use Rattle.c_model.specs.Runs.{Entry, State, entry_of, limit_passed}
 use Rattle.c_model.specs.Steps.{Begun, Control, Local, Scene, begin, taken_by}
 use Rattle.c_model.specs.Values.{Value, Nothing}
 use Rattle.c_model.specs.World.{World}
 use Rattle.program_view.specs.Laws.{TreesAreKept}
 use Rattle.program_view.specs.Trees.{expr_of}
-use Rattle.seq_order.specs.Marked.{taken_in, choice_in}
+use Rattle.seq_order.specs.Marked.{taken_in}
 use Rattle.run_control.specs.declared.work.Step.TheVariants as taking
 use Rattle.run_control.specs.declared.work.Use.{Use}
 use Rattle.run_control.specs.declared.work.Work.{Work}
@@ -62,7 +28,7 @@ use Rattle.run_control.specs.View.{Meaning, todo_of, use_of}
 use Rattle.run_code.specs.declared.steps.Expression.{Expression}
 use Rattle.run_code.specs.declared.steps.Listed.{Listed}
 use Rattle.run_code.specs.declared.whole.Code.{Code}
-use Rattle.run_code.specs.Chosen.{Views, with_chosen, where_due}
+use Rattle.run_code.specs.Chosen.{Views, with_chosen}
 use Rattle.run_code.specs.InRange.{part_of}
 use Rattle.run_code.specs.Keeping.{KeepsAtBegin}
 use Rattle.run_code.specs.LaidOut.{IsLaidOut}
@@ -74,22 +40,9 @@ use Rattle.run_state.specs.declared.machine.Machine.{Machine}
 use Rattle.run_state.specs.declared.machine.Open.{Open}
 use Rattle.run_state.specs.declared.machine.Stage.{Stage}
 use Rattle.run_state.specs.declared.watch.Begun.{Begun as Shown}
-use Rattle.run_state.specs.Stands.{
-  Holds,
-  HoldsAll,
-  StandFrames,
-  StandLocals,
-  Stands,
-  StandsBegun,
-  StandsDone,
-  StandsExpression,
-  StandsFrame,
-  StandsTables,
-  StandsValues,
-  frames_of,
-}
+use Rattle.run_state.specs.Stands.{Holds, HoldsAll, StandFrames, StandLocals, Stands, StandsBegun, StandsDone, StandsExpression, StandsFrame, StandsValues}
 use Rattle.run_events.specs.Choices.{HasChosen}
-use Rattle.run_machine.specs.Answering.{Answers, AnswersStep, HasTaken, as_before}
+use Rattle.run_machine.specs.Answering.{AnswersStep, as_before}
 use Rattle.run_machine.specs.Beginning.{CanBegin, HasShown, next_turn}
 use Rattle.run_machine.proofs.Parts.{each_at}
 use Rattle.run_machine.proofs.Staying.{control_stays, not_both}

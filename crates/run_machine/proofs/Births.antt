@@ -1,44 +1,8 @@
 -- The objects of a block are created, one after the other.
-use Rattle.std.proofs.Common.{
-  ◌≡◌,
-  ◌≢◌,
-  ℕ,
-  zero,
-  suc,
-  ◌+◌,
-  ◌-◌,
-  ◌<◌,
-  ◌≤◌,
-  ◌^◌,
-  ◌==◌,
-  min,
-  max,
-  Bool,
-  true,
-  false,
-  refl,
-  sym,
-  ap,
-  ◌∙◌,
-  subst,
-  arith,
-  append_assoc,
-  rules,
-  get_or,
-  List,
-  [],
-  ◌∷◌,
-  ◌++◌,
-  length,
-  map,
-  Option,
-  Some,
-  None,
-  slice_get,
-}
+use Rattle.std.proofs.Common.{◌≡◌, ◌≢◌, ℕ, zero, suc, ◌+◌, ◌-◌, ◌<◌, ◌^◌, ◌==◌, min, Bool, true, false, refl, sym, ap, ◌∙◌, subst, arith, append_assoc, rules, get_or, List, [], ◌∷◌, ◌++◌, length, map, Option, Some, None, slice_get}
 use Rattle.std.proofs.lemmas.Bool.Decides.{nat_tests}
 use Rattle.std.specs.Prelude.{is_some, if◌then◌else◌, option_map, Result, Ok, Err, ◌&&◌, ◌||◌, not}
-use Rattle.std.proofs.lemmas.Option.{slice_get-map, slice_get_within}
+use Rattle.std.proofs.lemmas.Option.{slice_get-map}
 use Rattle.ub_base.specs.declared.names.Item.{Item}
 use Rattle.ub_base.specs.declared.names.Item.TheVariants.{Born}
 use Rattle.ub_base.specs.declared.names.ObjName.{ObjName}
@@ -49,20 +13,19 @@ use Rattle.addr_map.specs.declared.map.Row.{Row}
 use Rattle.addr_map.specs.Rows.{row_at, row_of}
 use Rattle.exposure.specs.declared.prov.Prov.TheVariants.{Whole}
 use Rattle.c_types.specs.declared.shape.Shape.{Shape}
-use Rattle.c_types.specs.Shapes.{Form, form_of}
+use Rattle.c_types.specs.Shapes.{Form}
 use Rattle.mem_spec.specs.declared.kind.ObjKind.{ObjKind}
 use Rattle.mem_spec.specs.Acts.{base_in, create, has_place}
-use Rattle.mem_spec.specs.Script.{Act, Bear, Done, Give, Misplace, Raised, Ended, Outside, Unplaced, Script, run, touch, touched, ◌>>◌}
+use Rattle.mem_spec.specs.Script.{Act, Bear, Done, Give, Misplace, Unplaced, Script, run, touch, touched, ◌>>◌}
 use Rattle.mem_spec.specs.Store.{Life, Store, born}
 use Rattle.mem_spec.specs.Streams.{Io}
 use Rattle.prov_memory.specs.Held.{Held, held_of}
-use Rattle.prov_memory.specs.Keeps.{Keeps, RowsStay}
+use Rattle.prov_memory.specs.Keeps.{Keeps}
 use Rattle.prov_memory.specs.Made.{IsMade}
 use Rattle.prov_memory.specs.Memory.{AreKnown, IsBorn, Kept, cannot_create, life_in, no_place, store_of}
 use Rattle.prov_memory.specs.Sound.{IsSound}
 use Rattle.prov_memory.proofs.KeepLemmas.{keeps_none, keeps_then}
 use Rattle.c_model.specs.Program.{Decl}
-use Rattle.c_model.specs.Runs.{created_after}
 use Rattle.c_model.specs.Steps.{Scene, auto_name, bear_all, object_kind}
 use Rattle.c_model.specs.Values.{Value}
 use Rattle.c_model.specs.World.{World}
@@ -70,22 +33,7 @@ use Rattle.run_code.specs.declared.steps.ObjectCode.{ObjectCode}
 use Rattle.run_state.specs.declared.halt.Halt.{Halt}
 use Rattle.run_state.specs.declared.halt.Halt.TheVariants as halt
 use Rattle.run_state.specs.declared.machine.Machine.{Machine}
-use Rattle.run_machine.specs.Entering.{
-  AreNew,
-  BearsAll,
-  Birth,
-  CanBear,
-  CreatesOne,
-  HasNoPlace,
-  IsNew,
-  IsOneNew,
-  birth_in,
-  birth_of,
-  births,
-  born_by,
-  born_first,
-  new_name,
-}
+use Rattle.run_machine.specs.Entering.{AreNew, BearsAll, Birth, CanBear, CreatesOne, IsNew, IsOneNew, birth_in, birth_of, births, born_by, born_first, new_name}
 
 -- ---- the machine: at first nothing is created
 nothing_more : (is : List Item) → is ≡ is ++ []

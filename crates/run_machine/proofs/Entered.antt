@@ -51,8 +51,8 @@ use Rattle.addr_map.specs.Rows.{row_at, row_of}
 use Rattle.exposure.specs.declared.prov.Prov.TheVariants.{Whole}
 use Rattle.c_typed.specs.declared.tree.Place.{Place}
 use Rattle.mem_spec.specs.Acts.{base_in, has_place}
-use Rattle.mem_spec.specs.Script.{Act, Done, Give, Script, Unplaced, run}
-use Rattle.mem_spec.specs.Store.{Life, Store}
+use Rattle.mem_spec.specs.Script.{Done, Give, Script, Unplaced, run}
+use Rattle.mem_spec.specs.Store.{Store}
 use Rattle.mem_spec.specs.Streams.{Io}
 use Rattle.prov_memory.specs.declared.value.Value.{Value as Kept_value}
 use Rattle.prov_memory.specs.Keeps.{Keeps, RowsStay}
@@ -61,26 +61,8 @@ use Rattle.prov_memory.specs.Memory.{Kept, cannot_create, store_of}
 use Rattle.c_model.specs.Control as todo
 use Rattle.c_model.specs.Control.{Todo, ready_work}
 use Rattle.c_model.specs.Program.{Decl}
-use Rattle.c_model.specs.Runs.{
-  Entry,
-  No_row,
-  Outcome,
-  Over,
-  Running,
-  State,
-  acted,
-  allocation_passes,
-  block_passes,
-  created_after,
-  depth_of,
-  entry_of,
-  limit_passed,
-  pick_allocates,
-  step,
-  too_many,
-  within,
-}
-use Rattle.c_model.specs.Steps.{Begun, Control, Local, Scene, auto_name, bear_all, control_act, control_next, does, pass_all}
+use Rattle.c_model.specs.Runs.{Entry, No_row, Outcome, Over, State, acted, allocation_passes, block_passes, created_after, depth_of, entry_of, limit_passed, pick_allocates, step, too_many, within}
+use Rattle.c_model.specs.Steps.{Begun, Control, Local, Scene, auto_name, bear_all, control_act, does, pass_all}
 use Rattle.c_model.specs.Values.{Value, Nothing}
 use Rattle.c_model.specs.World.{World, Limits}
 use Rattle.run_control.specs.declared.statement.Block.{Block}
@@ -96,30 +78,9 @@ use Rattle.run_state.specs.declared.halt.Halt.TheVariants as halt
 use Rattle.run_state.specs.declared.machine.Machine.{Machine}
 use Rattle.run_state.specs.declared.machine.Open.{Open}
 use Rattle.run_state.specs.declared.machine.Stage.{Stage}
-use Rattle.run_state.specs.Stands.{IsAbove, SeesLocals, StandLocals, Stands, StandsBegun, StandsControl, StandsFrame, StandsLocal, frames_of}
+use Rattle.run_state.specs.Stands.{IsAbove, SeesLocals, StandLocals, Stands, StandsBegun, StandsControl, StandsFrame, StandsLocal}
 use Rattle.run_machine.specs.Answering.{Answers, AnswersStep, HasTaken, as_before}
-use Rattle.run_machine.specs.Entering.{
-  AreBelow,
-  AreNew,
-  BearsAll,
-  Birth,
-  CanBear,
-  CanEnter,
-  Enters,
-  EntersWithin,
-  HasBirths,
-  HasNoPlace,
-  IsNew,
-  KeepPlaces,
-  birth_in,
-  birth_of,
-  births,
-  born_by,
-  born_first,
-  new_name,
-  reached_with,
-  turned,
-}
+use Rattle.run_machine.specs.Entering.{AreNew, BearsAll, Birth, CanBear, CanEnter, Enters, EntersWithin, HasBirths, HasNoPlace, IsNew, birth_in, birth_of, births, born_by, born_first, new_name, reached_with, turned}
 use Rattle.run_machine.proofs.Births.{CanAll, StopsAt, bears, births_joined, cannot_so, stops}
 use Rattle.run_machine.proofs.Growing.{frame_grown, frames_grown, tables_grown, with_objects_of}
 use Rattle.run_machine.proofs.Staying.{by_step, control_stays}

@@ -1,11 +1,11 @@
 -- What a body gives chooses no operand, and changes no value of a node.
-use Rattle.std.proofs.Common.{◌≡◌, ◌≢◌, ℕ, suc, ◌+◌, ◌==◌, Bool, true, false, refl, sym, ap, ◌∙◌, List, [], ◌∷◌, Option, Some, None}
+use Rattle.std.proofs.Common.{◌≡◌, ◌≢◌, ℕ, suc, ◌+◌, ◌==◌, Bool, true, false, refl, ap, ◌∙◌, List, ◌∷◌, Option, Some, None}
 use Rattle.std.specs.Prelude.{◌&&◌, ◌||◌, is_some, if◌then◌else◌}
 use Rattle.std.proofs.lemmas.Bool.{eqb-true}
 use Rattle.ub_base.specs.declared.clause.Kind.TheVariants.{Val, Body}
 use Rattle.c_typed.specs.declared.tree.Place.{Place}
 use Rattle.c_typed.specs.Tree.{is_quiet, size}
-use Rattle.c_typed.specs.Order.{Taken, place, same_place}
+use Rattle.c_typed.specs.Order.{place, same_place}
 use Rattle.c_model.specs.Program.{Expr, expr, Exprs, none, more, tree_of}
 use Rattle.c_model.specs.Steps.{Begun, Scene, at_node, choice_by, choice_in, first_known, is_done, quiet_value, taken_by, values_of, with_given}
 use Rattle.c_model.specs.Values.{Value, or_nothing}

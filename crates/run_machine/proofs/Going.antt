@@ -1,10 +1,8 @@
 -- `goto` goes where the definitions go: to the work that they find from its label on.
 use Rattle.std.proofs.Common.{◌≡◌, ℕ, refl, sym, ap, ◌∙◌, subst, List, Option, Some, None, slice_get}
-use Rattle.std.specs.Prelude.{Result, Ok, Err}
+use Rattle.std.specs.Prelude.{Ok}
 use Rattle.std.specs.Borrow.{Bor}
-use Rattle.c_model.specs.Control.{Todo, find, gone_to, to_label}
-use Rattle.c_model.specs.Program.{Stmt}
-use Rattle.c_model.specs.Runs.{State}
+use Rattle.c_model.specs.Control.{find, gone_to, to_label}
 use Rattle.c_model.specs.Steps.{body_of, found_label}
 use Rattle.c_model.specs.World.{World}
 use Rattle.c_typed.specs.declared.program.Program.{Program}
@@ -16,14 +14,12 @@ use Rattle.run_control.specs.declared.work.Work.{Work as Kept_work}
 use Rattle.run_control.specs.Links.{work_from}
 use Rattle.run_control.specs.Targets.{AllEqual, bodies}
 use Rattle.run_control.specs.View.{Meaning, stmt_of, todo_of}
-use Rattle.run_code.specs.declared.steps.FunctionCode.{FunctionCode}
 use Rattle.run_code.specs.declared.whole.Code.{Code}
 use Rattle.run_statements.specs.declared.jumps.Jumps.{Jumps}
 use Rattle.run_statements.specs.Jumping.{HasJumps, IsFound}
-use Rattle.run_state.specs.declared.halt.Halt.{Halt}
 use Rattle.run_state.specs.declared.machine.Machine.{Machine}
 use Rattle.run_state.specs.Meaning.{StandsCode}
-use Rattle.run_machine.specs.Answering.{AnswersStep, HasLabels, HasTaken}
+use Rattle.run_machine.specs.Answering.{AnswersStep, HasLabels}
 use Rattle.run_machine.proofs.Staying.{left_answers, with_work}
 
 -- the label's function has a body

@@ -1,39 +1,10 @@
 -- A machine stands as it stood where its memory has more objects, with as many types, and the objects of its frames stand where they stood.
-use Rattle.std.proofs.Common.{
-  ◌≡◌,
-  ℕ,
-  suc,
-  ◌+◌,
-  ◌<◌,
-  ◌≤◌,
-  Bool,
-  true,
-  false,
-  refl,
-  sym,
-  ap,
-  ap₂,
-  arith,
-  ◌∙◌,
-  subst,
-  List,
-  [],
-  ◌∷◌,
-  ◌++◌,
-  length,
-  map,
-  reverse,
-  Option,
-  Some,
-  None,
-  slice_get,
-}
+use Rattle.std.proofs.Common.{◌≡◌, ℕ, suc, ◌+◌, ◌<◌, ◌≤◌, Bool, true, false, refl, sym, ap, ap₂, arith, ◌∙◌, subst, List, [], ◌∷◌, ◌++◌, length, map, Option, Some, None, slice_get}
 use Rattle.std.specs.Borrow.{Bor}
 use Rattle.std.specs.List.{All}
 use Rattle.std.proofs.lemmas.List.Elements.{All-head, All-tail}
 use Rattle.ub_base.specs.declared.names.ObjName.TheVariants as names
 use Rattle.addr_map.specs.declared.map.Row.{Row}
-use Rattle.addr_map.specs.Rows.{row_of}
 use Rattle.exposure.specs.declared.prov.Prov.{Prov}
 use Rattle.exposure.specs.declared.prov.Prov.TheVariants.{Whole}
 use Rattle.c_types.specs.declared.ty.Ty.{Ty}
@@ -59,20 +30,18 @@ use Rattle.prov_memory.specs.declared.value.Value.{Value as Kept_value}
 use Rattle.prov_memory.specs.declared.value.Value.TheVariants as values
 use Rattle.prov_memory.specs.Cells.{byte_in_state, tagged_in, type_numbered}
 use Rattle.prov_memory.specs.Keeps.{IsNumbered, Keeps, RowsStay}
-use Rattle.prov_memory.specs.Memory.{CellsKnown, Kept, store_of}
+use Rattle.prov_memory.specs.Memory.{CellsKnown, Kept}
 use Rattle.prov_memory.specs.Pieces.{seen}
 use Rattle.prov_memory.specs.Stores.{Sees}
 use Rattle.prov_memory.proofs.ProvLemmas.{prov_more}
 use Rattle.c_model.specs.Nodes.{content_bytes}
-use Rattle.c_model.specs.Program.{Filling as Filled}
-use Rattle.c_model.specs.Runs.{State}
 use Rattle.c_model.specs.Steps.{Begun, Local, Scene, auto_name}
 use Rattle.c_model.specs.Values.{Value, Whole as Block_value}
 use Rattle.c_model.specs.World.{World}
 use Rattle.run_acts.specs.declared.initial.Places.{Places}
 use Rattle.run_acts.specs.declared.storage.Filling.{Filling}
-use Rattle.run_acts.specs.Contents.{CanHold, CanHoldAll, IsPlaced, Stands as StandsAt, address_of, content_of, filled_by}
-use Rattle.run_acts.specs.Fills.{AreFillings, IsFilling}
+use Rattle.run_acts.specs.Contents.{CanHold, CanHoldAll, IsPlaced, address_of, content_of, filled_by}
+use Rattle.run_acts.specs.Fills.{AreFillings}
 use Rattle.run_acts.specs.Kept.{AreOf, IsOf}
 use Rattle.run_acts.specs.Starting.{ArePlaced}
 use Rattle.run_acts.specs.Stores.{SeesAs}
@@ -80,7 +49,6 @@ use Rattle.run_acts.specs.Views.{value_in}
 use Rattle.run_acts.proofs.Keeping.{fillings_stay, values_stay}
 use Rattle.run_acts.proofs.Starting.{can_hold_all, placed_still}
 use Rattle.run_acts.proofs.Statics.{named_still}
-use Rattle.run_code.specs.declared.steps.BlockCode.{BlockCode}
 use Rattle.run_code.specs.declared.steps.StoreCode.{StoreCode}
 use Rattle.run_control.specs.declared.work.Work.{Work}
 use Rattle.run_control.specs.View.{Meaning}

@@ -1,32 +1,10 @@
 -- The lives of a block's objects end, one after the other.
-use Rattle.std.proofs.Common.{
-  ◌≡◌,
-  ℕ,
-  suc,
-  ◌+◌,
-  ◌-◌,
-  ◌^◌,
-  min,
-  refl,
-  sym,
-  ap,
-  ◌∙◌,
-  subst,
-  append_assoc,
-  List,
-  [],
-  ◌∷◌,
-  ◌++◌,
-  Option,
-  Some,
-  None,
-  slice_get,
-}
+use Rattle.std.proofs.Common.{◌≡◌, ℕ, suc, ◌+◌, ◌-◌, ◌^◌, min, refl, sym, ap, ◌∙◌, subst, append_assoc, List, [], ◌∷◌, ◌++◌, Some, slice_get}
 use Rattle.ub_base.specs.declared.names.Item.{Item}
 use Rattle.ub_base.specs.declared.names.Item.TheVariants.{Dies}
 use Rattle.ub_base.specs.declared.names.ObjName.{ObjName}
 use Rattle.mem_spec.specs.Acts.{kill}
-use Rattle.mem_spec.specs.Script.{Act, Done, Raised, Ended, Outside, Unplaced, run}
+use Rattle.mem_spec.specs.Script.{Act, Done, run}
 use Rattle.mem_spec.specs.Store.{Store, buried}
 use Rattle.mem_spec.specs.Streams.{Io}
 use Rattle.prov_memory.specs.Keeps.{Keeps}

@@ -40,7 +40,7 @@ use Rattle.ub_base.specs.declared.names.Item.TheVariants.{Dies}
 use Rattle.ub_base.specs.declared.names.ObjName.{ObjName}
 use Rattle.addr_map.specs.declared.map.Row.{Row}
 use Rattle.c_typed.specs.declared.tree.Place.{Place}
-use Rattle.mem_spec.specs.Script.{Act, Done, Give, Script, run, touched}
+use Rattle.mem_spec.specs.Script.{Done, Give, Script, run, touched}
 use Rattle.mem_spec.specs.Store.{Store, buried}
 use Rattle.prov_memory.specs.Held.{Held}
 use Rattle.prov_memory.specs.Keeps.{Keeps}

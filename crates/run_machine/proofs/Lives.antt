@@ -1,29 +1,5 @@
 -- A machine stands as it stood where nothing but the objects of its memory changes, and these go on: a life ends, or bytes become unwritten.
-use Rattle.std.proofs.Common.{
-  ◌≡◌,
-  ℕ,
-  suc,
-  ◌+◌,
-  ◌≤◌,
-  Bool,
-  true,
-  false,
-  refl,
-  sym,
-  ap,
-  ◌∙◌,
-  subst,
-  List,
-  [],
-  ◌∷◌,
-  length,
-  map,
-  reverse,
-  Option,
-  Some,
-  None,
-  slice_get,
-}
+use Rattle.std.proofs.Common.{◌≡◌, ℕ, suc, ◌+◌, Bool, true, false, refl, sym, ap, ◌∙◌, List, [], ◌∷◌, length, map, reverse, Option, Some, None}
 use Rattle.std.specs.Borrow.{Bor}
 use Rattle.c_types.specs.Types.{CType, int}
 use Rattle.c_typed.specs.declared.program.Constant.{Constant}
@@ -47,7 +23,7 @@ use Rattle.c_model.specs.Values.{Value}
 use Rattle.c_model.specs.World.{World}
 use Rattle.run_acts.specs.declared.storage.Filling.{Filling}
 use Rattle.run_acts.specs.Contents.{filled_by}
-use Rattle.run_acts.specs.Fills.{AreFillings, IsFilling}
+use Rattle.run_acts.specs.Fills.{AreFillings}
 use Rattle.run_acts.specs.Stores.{SeesAs}
 use Rattle.run_acts.specs.Views.{value_in}
 use Rattle.run_acts.proofs.Keeping.{values_stay, fillings_stay}

@@ -1,15 +1,14 @@
 -- Along the canonical way the next event is taken as the definitions' event.
-use Rattle.std.proofs.Common.{◌≡◌, ◌+◌, ◌-◌, ◌^◌, min, ℕ, Bool, true, false, refl, sym, ap, ◌∙◌, subst, List, [], length, Option, Some, None, Result}
+use Rattle.std.proofs.Common.{◌≡◌, ◌+◌, ◌-◌, ◌^◌, min, ℕ, Bool, true, false, refl, sym, ap, ◌∙◌, subst, List, [], Option, Some, None, Result}
 use Rattle.std.proofs.lemmas.Option.{same_Some}
 use Rattle.std.specs.Borrow.{Bor}
 use Rattle.ub_base.specs.declared.names.Item.{Item}
 use Rattle.c_typed.specs.declared.tree.Place.{Place}
-use Rattle.c_model.specs.Runs.{State, canonical_pick, chosen_pick, step}
+use Rattle.c_model.specs.Runs.{State, chosen_pick, step}
 use Rattle.c_model.specs.Steps.{Begun, Control, Ev, MayPick}
 use Rattle.c_model.specs.World.{World}
 use Rattle.run_control.specs.View.{Meaning}
 use Rattle.run_code.specs.declared.steps.Due.{Due}
-use Rattle.run_code.specs.declared.steps.Expression.{Expression}
 use Rattle.run_listing.specs.Along.{place_of}
 use Rattle.run_state.specs.declared.halt.Halt.{Halt}
 use Rattle.run_state.specs.declared.machine.Machine.{Machine}
@@ -17,7 +16,7 @@ use Rattle.run_state.specs.declared.machine.Stage.{Stage}
 use Rattle.run_state.specs.declared.watch.Begun.{Begun as Shown}
 use Rattle.run_machine.specs.declared.pick.Pick.{Pick}
 use Rattle.run_machine.specs.Picks.{at_cursor, top_of, ByWay, ComesNext, Follows, FollowsIn, NextIsPermitted, TakesCanonical}
-use Rattle.run_machine.specs.Taking.{AnswersEvent, AnswersNext, AnswersTaken, IsAt, MayTake, MayTakeNext, StandsOpen, at_next}
+use Rattle.run_machine.specs.Taking.{AnswersEvent, AnswersNext, AnswersTaken, IsAt, MayTake, StandsOpen, at_next}
 use Rattle.run_machine.proofs.Still.{items_stand}
 
 -- ---- what comes next, to which the machine has gone on

@@ -1,5 +1,5 @@
 -- What a frame leaves is what the definitions leave of it (6.9.1p12).
-use Rattle.std.proofs.Common.{◌≡◌, ◌≢◌, ℕ, ◌+◌, ◌-◌, ◌==◌, Bool, true, false, refl, sym, ap, ◌∙◌, subst, arith, List, map, Option, Some, None, slice_get}
+use Rattle.std.proofs.Common.{◌≡◌, ◌≢◌, ℕ, ◌+◌, ◌==◌, Bool, true, false, refl, sym, ap, ◌∙◌, subst, arith, List, Option, Some, None, slice_get}
 use Rattle.std.specs.Prelude.{is_some, if◌then◌else◌, option_map, pos}
 use Rattle.std.proofs.lemmas.Bool.{eqb-true}
 use Rattle.std.proofs.lemmas.Option.{slice_get-map}

@@ -1,64 +1,27 @@
 -- A frame ends: the one below it goes on, and stands with what was left; or the run ends.
-use Rattle.std.proofs.Common.{
-  ◌≡◌,
-  ◌≢◌,
-  ℕ,
-  zero,
-  suc,
-  set,
-  ◌+◌,
-  ◌-◌,
-  ◌<◌,
-  ◌≤◌,
-  ◌==◌,
-  Bool,
-  true,
-  false,
-  refl,
-  sym,
-  ap,
-  ◌∙◌,
-  subst,
-  arith,
-  List,
-  [],
-  ◌∷◌,
-  ◌++◌,
-  length,
-  map,
-  reverse,
-  Option,
-  Some,
-  None,
-  slice_get,
-}
+use Rattle.std.proofs.Common.{◌≡◌, ◌≢◌, ℕ, zero, suc, set, ◌+◌, ◌<◌, ◌≤◌, ◌==◌, Bool, true, false, refl, sym, ap, ◌∙◌, subst, arith, List, [], ◌∷◌, ◌++◌, length, map, reverse, Option, Some, None, slice_get}
 use Rattle.std.specs.Prelude.{◌||◌, is_some, if◌then◌else◌, nat_lt, Result, Ok, Err, OnOk}
 use Rattle.std.proofs.lemmas.Bool.Decides.{nat_tests}
 use Rattle.std.specs.Option.{unwrap_or}
 use Rattle.std.proofs.lemmas.Bool.{eqb-true}
 use Rattle.std.proofs.lemmas.List.{length-reverse, reverse-append}
-use Rattle.ub_base.specs.declared.clause.Kind.TheVariants.{Val, Eff, Body}
+use Rattle.ub_base.specs.declared.clause.Kind.TheVariants.{Val, Body}
 use Rattle.ub_base.specs.declared.clause.Cause.{Cause}
-use Rattle.c_typed.specs.declared.tree.Change.{Change}
 use Rattle.c_typed.specs.declared.tree.Place.{Place}
 use Rattle.c_typed.specs.Order.{is_due, place, same_place}
-use Rattle.c_typed.specs.Decide.{canonical}
 use Rattle.c_typed.specs.declared.program.Program.{Program}
 use Rattle.prov_memory.specs.declared.value.Value.{Value as Kept_value}
-use Rattle.prov_memory.specs.Memory.{Kept}
 use Rattle.mem_spec.specs.Store.{Store}
 use Rattle.mem_spec.specs.Streams.{Outputs}
 use Rattle.c_model.specs.Nodes.{amount, new_value}
-use Rattle.c_model.specs.Program.{Exprs, tree_of}
-use Rattle.c_model.specs.Runs.{Entry, Outcome, Ends, Running, State, back, depth_of, limit_passed, limited, status_of, within}
-use Rattle.c_model.specs.Steps.{Begun, Ev, Local, Scene, is_done, next, result_of, taken_by, values_of, with_given}
+use Rattle.c_model.specs.Program.{tree_of}
+use Rattle.c_model.specs.Runs.{Entry, Ends, Running, State, back, depth_of, limit_passed, limited, status_of, within}
+use Rattle.c_model.specs.Steps.{Begun, Ev, Local, Scene, next, result_of, values_of, with_given}
 use Rattle.c_model.specs.Values.{Value}
 use Rattle.c_model.specs.World.{World, Limits}
 use Rattle.seq_order.specs.declared.done.Marks.{Marks}
-use Rattle.seq_order.specs.Marked.{done_in, taken_in}
-use Rattle.run_code.specs.declared.steps.Due.{Due}
+use Rattle.seq_order.specs.Marked.{done_in}
 use Rattle.run_code.specs.declared.steps.Listed.{Listed}
-use Rattle.run_code.specs.declared.steps.Operand.{Operand}
 use Rattle.run_code.specs.declared.whole.Code.{Code}
 use Rattle.run_control.specs.declared.work.Work.{Work}
 use Rattle.run_control.specs.Stacked.{Closes, Stacked}
@@ -69,48 +32,14 @@ use Rattle.run_state.specs.declared.halt.Halt.{Halt}
 use Rattle.run_state.specs.declared.machine.Machine.{Machine}
 use Rattle.run_state.specs.declared.machine.Open.{Open}
 use Rattle.run_state.specs.declared.machine.Stage.{Stage}
-use Rattle.run_state.specs.Stands.{
-  Holds,
-  HoldsAll,
-  IsAbove,
-  StandFrames,
-  Stands,
-  StandsBegun,
-  StandsControl,
-  StandsDone,
-  StandsExpression,
-  StandsFrame,
-  StandsOn,
-  StandsTables,
-  StandsValues,
-}
-use Rattle.run_machine.specs.Answering.{ComesTo, IsWithin, newest_items}
+use Rattle.run_state.specs.Stands.{Holds, HoldsAll, IsAbove, StandFrames, Stands, StandsBegun, StandsDone, StandsExpression, StandsFrame, StandsValues}
+use Rattle.run_machine.specs.Answering.{ComesTo, newest_items}
 use Rattle.run_machine.specs.Ended.{AnswersEnd}
-use Rattle.run_machine.specs.Ending.{
-  CanEnd,
-  EndsFrame,
-  EndsRun,
-  GoesBack,
-  HasGiven,
-  HasNoted,
-  HasRoomBelow,
-  HasRoomIn,
-  IsRoomFree,
-  IsUpdateRoom,
-  KeepsTo,
-  KeepToRooms,
-  LeavesNone,
-  LeavesValue,
-  Notes,
-  NotesIn,
-  NotesWay,
-  depth_without,
-  stage_part,
-}
+use Rattle.run_machine.specs.Ending.{EndsFrame, EndsRun, GoesBack, HasGiven, HasNoted, HasRoomBelow, HasRoomIn, IsRoomFree, KeepsTo, KeepToRooms, LeavesNone, LeavesValue, Notes, NotesIn, NotesWay, depth_without, stage_part}
 use Rattle.run_machine.proofs.Given.{done_given, given_other, given_own, given_value, taken_given, values_given}
 use Rattle.run_machine.proofs.Results.{depth_left, left_as}
 use Rattle.run_machine.proofs.Rooms.{frames_below, holds_apart, locals_below, part_same, with_rooms}
-use Rattle.run_machine.proofs.Still.{SamePlace, SameScene, above_same, depth_same, frame_aside, frames_aside}
+use Rattle.run_machine.proofs.Still.{above_same, depth_same, frame_aside, frames_aside}
 
 -- ---- the full expression of the frame that goes on
 -- what was noted of it, off the canonical way

@@ -1,31 +1,5 @@
 -- A room gets a value, and an event is noted of one frame: the frames below it stand as they stood.
-use Rattle.std.proofs.Common.{
-  ◌≡◌,
-  ◌≢◌,
-  ℕ,
-  suc,
-  ◌+◌,
-  ◌<◌,
-  ◌≤◌,
-  Bool,
-  true,
-  false,
-  refl,
-  sym,
-  ap,
-  ◌∙◌,
-  subst,
-  arith,
-  List,
-  [],
-  ◌∷◌,
-  length,
-  map,
-  Option,
-  Some,
-  None,
-  slice_get,
-}
+use Rattle.std.proofs.Common.{◌≡◌, ◌≢◌, ℕ, ◌+◌, ◌<◌, ◌≤◌, Bool, true, false, sym, ap, ◌∙◌, subst, arith, List, [], ◌∷◌, length, map, Option, Some, None, slice_get}
 use Rattle.std.specs.Prelude.{is_some}
 use Rattle.ub_base.specs.declared.clause.Kind.TheVariants.{Val, Body}
 use Rattle.c_typed.specs.declared.tree.Place.{Place}
@@ -43,19 +17,7 @@ use Rattle.run_listing.specs.Along.{part_of}
 use Rattle.run_state.specs.declared.machine.Machine.{Machine}
 use Rattle.run_state.specs.declared.machine.Open.{Open}
 use Rattle.run_state.specs.declared.machine.Stage.{Stage}
-use Rattle.run_state.specs.Stands.{
-  Holds,
-  HoldsAll,
-  IsAbove,
-  StandFrames,
-  StandLocals,
-  StandsBegun,
-  StandsDone,
-  StandsExpression,
-  StandsFrame,
-  StandsTables,
-  StandsValues,
-}
+use Rattle.run_state.specs.Stands.{Holds, HoldsAll, IsAbove, StandFrames, StandLocals, StandsBegun, StandsDone, StandsExpression, StandsFrame, StandsValues}
 use Rattle.run_machine.specs.Ending.{IsInRooms, KeepsTo, KeepToRooms, stage_part}
 
 -- the one machine with the values of another, and what is noted in a third

@@ -1,5 +1,5 @@
 -- The value of a full expression in which no event is left: what the operand of the machine gives is the definitions'.
-use Rattle.std.proofs.Common.{◌≡◌, ℕ, not, Bool, true, false, refl, sym, ap, ◌∙◌, subst, true≢false, List, [], length, reverse, Option, Some, None, slice_get}
+use Rattle.std.proofs.Common.{◌≡◌, ℕ, not, Bool, true, false, refl, sym, ap, ◌∙◌, subst, true≢false, List, [], length, reverse, Option, Some, None}
 use Rattle.std.specs.Prelude.{is_some, if◌then◌else◌}
 use Rattle.ub_base.specs.declared.names.Item.{Item}
 use Rattle.ub_base.specs.declared.clause.Kind.TheVariants.{Val}
@@ -13,13 +13,12 @@ use Rattle.c_model.specs.World.{World}
 use Rattle.c_model.proofs.Decided.{due_has, val_due}
 use Rattle.program_view.specs.Trees.{expr_of}
 use Rattle.run_control.specs.View.{Meaning}
-use Rattle.run_code.specs.declared.steps.Expression.{Expression}
 use Rattle.run_code.specs.declared.steps.Operand.{Operand}
 use Rattle.run_code.specs.Resolved.{resolved}
 use Rattle.run_state.specs.declared.machine.Machine.{Machine}
 use Rattle.run_state.specs.declared.machine.Stage.{Stage}
 use Rattle.run_state.specs.Operands.{AreAddresses, Gives, IsNamed, QuietGives, RoomGives, StandsObjects}
-use Rattle.run_state.specs.Stands.{Holds, Stands, StandsExpression}
+use Rattle.run_state.specs.Stands.{Stands, StandsExpression}
 use Rattle.run_machine.specs.Settling.{IsUsable}
 use Rattle.run_machine.proofs.Finished.{done_at}
 

@@ -1,35 +1,17 @@
 -- Control steps after which the frame goes on, and what the machine then stands for.
-use Rattle.std.proofs.Common.{◌≡◌, ℕ, suc, ◌+◌, Bool, true, false, refl, sym, ap, ◌∙◌, subst, List, [], ◌∷◌, length, reverse, Option, Some, None}
+use Rattle.std.proofs.Common.{◌≡◌, ℕ, Bool, true, false, refl, sym, ap, ◌∙◌, subst, List, [], ◌∷◌, length, reverse, Option, Some, None}
 use Rattle.std.specs.Borrow.{Bor}
 use Rattle.std.specs.Prelude.{is_some, if◌then◌else◌, Result, Ok, Err, IfOk}
 use Rattle.ub_base.specs.declared.names.Item.{Item}
-use Rattle.c_typed.specs.declared.tree.Place.{Place}
 use Rattle.mem_spec.specs.Store.{Store}
-use Rattle.mem_spec.specs.Script.{Act, Done, run}
+use Rattle.mem_spec.specs.Script.{Done, run}
 use Rattle.c_model.specs.Control.{Todo, Use as Model_use, Work, Enter, ready_work, out_of, on_with, leaves}
 use Rattle.c_model.specs.Moves.{Move, End, Stay}
-use Rattle.c_model.specs.Steps.{Pick as Model_pick, Begun, Local, Scene, Control, Ev, MayPick, control_act, control_move, control_next, does, move, next}
+use Rattle.c_model.specs.Steps.{Pick as Model_pick, Begun, Local, Control, control_act, control_move, control_next, does, move, next}
 use Rattle.c_model.specs.Steps.{root_value, settled}
 use Rattle.c_model.specs.Values.{Value, Nothing}
 use Rattle.c_model.specs.World.{World}
-use Rattle.c_model.specs.Runs.{
-  Entry,
-  Outcome,
-  Running,
-  State,
-  acted,
-  back,
-  block_passes,
-  chosen_pick,
-  depth_of,
-  enter_passes,
-  entry_of,
-  limit_passed,
-  limited,
-  moved,
-  step,
-  within,
-}
+use Rattle.c_model.specs.Runs.{Outcome, Running, State, acted, back, block_passes, chosen_pick, depth_of, enter_passes, entry_of, limit_passed, limited, moved, step, within}
 use Rattle.run_control.specs.declared.work.Work.{Work as Kept_work}
 use Rattle.run_control.specs.declared.moves.Move.{Move as Kept_move}
 use Rattle.run_control.specs.declared.moves.Move.TheVariants.{Out, On, Back}
@@ -42,30 +24,16 @@ use Rattle.run_listing.specs.Along.{place_of}
 use Rattle.run_state.specs.declared.halt.Halt.{Halt}
 use Rattle.run_state.specs.declared.halt.Halt.TheVariants as halt
 use Rattle.run_state.specs.declared.machine.Machine.{Machine}
-use Rattle.run_state.specs.declared.machine.Open.{Open}
 use Rattle.run_state.specs.declared.machine.Stage.{Stage}
 use Rattle.run_state.specs.declared.watch.Begun.{Begun as Shown}
 use Rattle.run_state.specs.Stands.{Stands}
 use Rattle.run_machine.specs.declared.pick.Pick.{Pick}
 use Rattle.run_machine.specs.declared.pick.Pick.TheVariants as pick
-use Rattle.run_machine.specs.Answering.{
-  Answers,
-  AnswersCanonical,
-  AnswersControl,
-  AnswersPick,
-  AnswersStep,
-  CanGoOn,
-  CanTake,
-  HasTaken,
-  MayGoOn,
-  TakesControl,
-  as_before,
-  step_of_move,
-}
+use Rattle.run_machine.specs.Answering.{Answers, AnswersCanonical, AnswersControl, AnswersStep, CanGoOn, CanTake, HasTaken, MayGoOn, TakesControl, as_before, step_of_move}
 use Rattle.run_machine.specs.Ending.{CanEnd, is_last}
 use Rattle.run_machine.specs.Entering.{CanEnterFirst}
 use Rattle.run_machine.specs.Picks.{ByWay, Follows, FollowsCanonical, FollowsIn, IsPick, IsStep, top_of}
-use Rattle.run_machine.specs.Settling.{CanSettle, GoesBehind}
+use Rattle.run_machine.specs.Settling.{GoesBehind}
 use Rattle.run_machine.proofs.Finished.{control_first, no_event}
 use Rattle.run_machine.proofs.Opened.{none_open}
 use Rattle.run_machine.proofs.Still.{depth_same, items_stand, left_stands}

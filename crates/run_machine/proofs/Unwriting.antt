@@ -1,35 +1,6 @@
 -- A declaration is reached again: the bytes of its object become unwritten.
-use Rattle.std.proofs.Common.{
-  ◌≡◌,
-  ℕ,
-  ◌+◌,
-  ◌-◌,
-  ◌<◌,
-  ◌^◌,
-  min,
-  Bool,
-  true,
-  false,
-  refl,
-  sym,
-  ap,
-  ◌∙◌,
-  subst,
-  arith,
-  List,
-  [],
-  ◌∷◌,
-  length,
-  map,
-  reverse,
-  replicate,
-  rules,
-  Option,
-  Some,
-  None,
-  slice_get,
-}
-use Rattle.std.specs.Prelude.{is_some, if◌then◌else◌, Result, Ok, Err}
+use Rattle.std.proofs.Common.{◌≡◌, ℕ, ◌+◌, ◌-◌, ◌<◌, ◌^◌, min, true, refl, sym, ap, ◌∙◌, subst, arith, List, [], ◌∷◌, length, map, replicate, rules, Option, Some, None, slice_get}
+use Rattle.std.specs.Prelude.{is_some, if◌then◌else◌, Ok}
 use Rattle.std.specs.Borrow.{Bor}
 use Rattle.ub_base.specs.declared.names.Item.{Item}
 use Rattle.ub_base.specs.declared.names.Item.TheVariants.{Alive, Write}
@@ -61,9 +32,7 @@ use Rattle.run_state.specs.declared.machine.Local.{Local as Kept_local}
 use Rattle.run_state.specs.declared.machine.Machine.{Machine}
 use Rattle.run_state.specs.Stands.{StandLocals, Stands, StandsControl}
 use Rattle.run_control.specs.declared.work.Step.TheVariants as taking
-use Rattle.run_code.specs.declared.whole.Code.{Code}
-use Rattle.run_state.specs.declared.machine.Open.{Open}
-use Rattle.run_machine.specs.Answering.{AnswersStep, HasTaken, IsDeclared, as_before}
+use Rattle.run_machine.specs.Answering.{AnswersStep, IsDeclared, as_before}
 use Rattle.run_machine.proofs.Lives.{stands_live, with_lives, with_objects}
 use Rattle.run_machine.proofs.Staying.{control_stays}
 use Rattle.run_machine.proofs.Still.{depth_same, left_stands}

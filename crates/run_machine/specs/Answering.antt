@@ -1,5 +1,5 @@
 -- What control steps come to is what the control steps of the definitions come to (own).
-use Rattle.std.specs.Prelude.{◌≡◌, ℕ, ◌+◌, ◌<◌, ◌^◌, true, false, List, [], ◌∷◌, length, map, slice_get, is_some, Option, Some, None, Result, Ok, Err}
+use Rattle.std.specs.Prelude.{◌≡◌, ℕ, ◌+◌, ◌<◌, ◌^◌, true, List, [], ◌∷◌, length, map, slice_get, is_some, Option, Some, None, Result, Ok, Err}
 use Rattle.std.specs.Borrow.{Bor}
 use Rattle.ub_base.specs.declared.names.Item.{Item}
 use Rattle.ub_base.specs.declared.names.ObjName.{ObjName}

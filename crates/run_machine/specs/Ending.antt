@@ -12,16 +12,15 @@ use Rattle.prov_memory.specs.declared.value.Value.TheVariants as kept
 use Rattle.prov_memory.specs.Memory.{Kept}
 use Rattle.c_model.specs.Control.{Todo, Leave, ready_work}
 use Rattle.c_model.specs.Program.{Exprs}
-use Rattle.c_model.specs.Runs.{Entry, State, back, limited, status_of}
-use Rattle.c_model.specs.Steps.{Begun, Local, at_node, result_of}
+use Rattle.c_model.specs.Runs.{State, status_of}
+use Rattle.c_model.specs.Steps.{Begun, Local, at_node}
 use Rattle.c_model.specs.Values.{Int}
-use Rattle.c_model.specs.World.{World}
 use Rattle.seq_order.specs.declared.done.Marks.{Marks}
 use Rattle.seq_order.specs.Marked.{done_in}
 use Rattle.run_acts.specs.Calls.{left_of}
 use Rattle.run_acts.specs.Kept.{IsOf}
 use Rattle.run_acts.specs.Views.{value_in}
-use Rattle.run_control.specs.View.{Meaning, is_nothing}
+use Rattle.run_control.specs.View.{is_nothing}
 use Rattle.run_code.specs.declared.steps.Act.TheVariants as act
 use Rattle.run_code.specs.declared.steps.Due.{Due}
 use Rattle.run_code.specs.declared.steps.Listed.{Listed}

@@ -1,4 +1,4 @@
-use Rattle.std.proofs.Common.{◌≡◌, ◌+◌, suc, arith, refl}
+use Rattle.std.proofs.Common.{suc, arith, refl}
 use Rattle.run_machine.proofs.Leaving.{as_many, none_died, one_more}
 use Rattle.run_machine.proofs.control.leave.Goals as goal
 

@@ -1,4 +1,4 @@
-use Rattle.std.proofs.Common.{◌≡◌, ◌≢◌, ◌<◌, ◌∙◌, ap, sym, length, ℕ, Some, refl, rules, slice_get}
+use Rattle.std.proofs.Common.{◌<◌, ◌∙◌, ap, sym, length, Some, refl, rules}
 use Rattle.std.proofs.lemmas.Option.{slice_get-get_or}
 use Rattle.run_machine.proofs.Returning.{noted_one, set_other, set_there, strayed_notes}
 use Rattle.run_machine.proofs.events.note.Goals as goal

@@ -1,4 +1,4 @@
-use Rattle.std.proofs.Common.{◌≡◌, ◌∙◌, ap, refl, Ok}
+use Rattle.std.proofs.Common.{◌∙◌, ap, refl, Ok}
 use Rattle.run_machine.specs.declared.pick.Pick.TheVariants as pick
 use Rattle.run_machine.specs.Picks.{event_at}
 use Rattle.run_machine.proofs.Answered.{taken_done, taken_ended, taken_started, taken_stopped}
