@@ -73,7 +73,6 @@ impl<'p> Control<'p> {
     }
 
     /// Whether nothing is left to do in the top frame. Ends of blocks and of `switch` statements that come first are taken off.
-    #[inline(always)]
     pub fn is_over(&mut self) -> Result<bool, NoMemory>
         ensures below { OnOk result (self.new.below ≡ self.old.below) }
         ensures now { OnOk result ((m : Meaning) → ready_work (todo_of m self.new.now) ≡ ready_work (todo_of m self.old.now)) }
