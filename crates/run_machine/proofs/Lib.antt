@@ -19,6 +19,7 @@ mod Results
 mod Returning
 mod Rooms
 mod RootValue
+mod Selecting
 mod Settling
 mod Standing
 mod Staying

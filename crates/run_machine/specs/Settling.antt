@@ -1,8 +1,9 @@
 -- A full expression is settled: its value is used (6.8p4).
-use Rattle.std.specs.Prelude.{◌≡◌, ℕ, true, false, Bool, List, [], slice_get, Option, Some, None}
+use Rattle.std.specs.Prelude.{◌≡◌, ℕ, true, false, Bool, List, [], ◌∷◌, slice_get, Option, Some, None}
+use Rattle.std.specs.Borrow.{Bor}
 use Rattle.prov_memory.specs.Memory.{Kept}
 use Rattle.prov_memory.specs.declared.value.Value.{Value as Kept_value}
-use Rattle.c_model.specs.Control.{Todo, ready_work, To_select, Unused}
+use Rattle.c_model.specs.Control.{Todo, Break_here, Unused, ready_work, selected}
 use Rattle.c_model.specs.Control as todo
 use Rattle.c_model.specs.Program.{tree_of}
 use Rattle.c_model.specs.Runs.{State}
@@ -12,11 +13,18 @@ use Rattle.c_model.specs.World.{World}
 use Rattle.c_typed.specs.Tree.{is_quiet}
 use Rattle.program_view.specs.Trees.{expr_of}
 use Rattle.run_acts.specs.Views.{value_in}
+use Rattle.run_control.specs.declared.statement.Statement.{Statement}
+use Rattle.run_control.specs.declared.statement.Switch.{Switch}
 use Rattle.run_control.specs.declared.work.Use.{Use}
 use Rattle.run_control.specs.declared.work.Use.TheVariants as for_use
-use Rattle.run_control.specs.View.{Meaning, after, is_nothing, todo_of}
+use Rattle.run_control.specs.Targets.{AllEqual, bodies}
+use Rattle.run_control.specs.View.{Meaning, after, is_nothing, stmt_of, todo_of}
+use Rattle.run_statements.specs.declared.jumps.Jumps.{Jumps}
+use Rattle.run_statements.specs.Jumping.{HasJumps, IsHeld}
 use Rattle.run_code.specs.declared.steps.Expression.{Expression}
+use Rattle.run_code.specs.declared.steps.FunctionCode.{FunctionCode}
 use Rattle.run_code.specs.declared.steps.Operand.{Operand}
+use Rattle.run_code.specs.declared.whole.Code.{Code}
 use Rattle.run_code.specs.Resolved.{resolved}
 use Rattle.run_state.specs.declared.machine.Machine.{Machine}
 use Rattle.run_state.specs.declared.machine.Stage.{Stage}
@@ -38,11 +46,33 @@ pub record HasUsed (old : Machine) (how : Use) (o : Operand) (new : Machine) : T
   pub now : (h : Kept_value) → operand_in old o ≡ Some h → (k : Kept) (m : Meaning)
       → todo_of m new.work.now ≡ after m (truth (value_in k h)) (integer_of (value_in k h)) how (todo_of m old.work.now)
 
+-- The `switch` of this number goes where the value of the operand names a case of its body.
+pub record HasSelected (old : Machine) (n : ℕ) (o : Operand) (new : Machine) : Type 0 where
+  pub rest : new ≡ record old { work = new.work }
+  pub below : new.work.below ≡ old.work.below
+  pub now : (h : Kept_value) → operand_in old o ≡ Some h → (k : Kept) (bs : List (Option (Bor Statement))) (has : HasJumps old.jumps bs) (s : Switch)
+      → slice_get has.switches n ≡ Some s → (m : Meaning) → AllEqual (bodies m s.body)
+      → todo_of m new.work.now ≡ selected (integer_of (value_in k h)) (stmt_of m s.body) (Break_here ∷ todo_of m old.work.now)
+
 -- 2. What is asked of a machine, and of the state that it stands for: so it is in each state of a run.
 
-abbrev pub is_select : todo.Use → Bool
-is_select (To_select s) = true
-is_select what = false
+-- The test of a `switch`: the one of this number stands in the body of the frame's function, and the cases that are kept are those of the bodies in the code.
+pub record HasCaseOf (code : Code) (jumps : Jumps) (n number : ℕ) : Type 0 where
+  pub function : FunctionCode
+  pub functions : List (Option (Bor Statement))
+  pub body : Bor Statement
+  pub at : slice_get code.functions.items n ≡ Some (Some function)
+  pub has : HasJumps jumps functions
+  pub there : slice_get functions n ≡ Some (Some body)
+  pub same : body.now ≡ function.body
+  pub chosen : Switch
+  pub case : slice_get has.switches number ≡ Some chosen
+  pub held : IsHeld body.now chosen
+
+abbrev pub HasCase : Code → Jumps → Option ℕ → Use → Type 0
+HasCase code jumps (Some n) (for_use.Select b) = HasCaseOf code jumps n b.now.number
+HasCase code jumps None (for_use.Select b) = ⊥
+HasCase code jumps function how = Unit {0}
 
 -- Behind it a function's frame has something left to do, its blocks at least. The value of an isolated initializer has no use, and its frame, which
 -- ends where nothing else is left to do, can be ended.
@@ -57,11 +87,10 @@ pub record IsUsable (m : Machine) (f : Scene) (laid : Expression) : Type 0 where
   pub value : laid.value ≡ resolved firsts laid.root.now 0
   pub named : is_quiet (tree_of (expr_of laid.root.now)) ≡ true → IsNamed (record m { items = [] }) firsts f.blocks (expr_of laid.root.now)
 
--- The full expression that is open in the top frame can be settled. That its value isn't that of the test of a `switch` is asked, too: of these nothing is
--- said yet. Rows begin at addresses.
+-- The full expression that is open in the top frame can be settled. Rows begin at addresses.
 pub record CanSettle (world : World) (m : Machine) (st : State) (e : Begun) : Type 0 where
   pub behind : GoesBehind m.top.function m st e.what (settled st.top (root_value world st.top e) e.what).todo
-  pub chooses : is_select e.what ≡ false
+  pub chooses : HasCase m.code.now m.jumps m.top.function m.top.how
   pub addresses : AreAddresses world.rows
   pub usable : (stage : Stage) (laid : Expression) → m.top.stage ≡ Some stage → slice_get m.code.now.expressions.items stage.expression ≡ Some laid
       → IsUsable m st.top.scene laid
