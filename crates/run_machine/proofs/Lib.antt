@@ -5,6 +5,7 @@ mod Births
 mod Creating
 mod Deciding
 mod Entered
+mod Entering
 mod Given
 mod Giving
 mod Going
@@ -16,6 +17,8 @@ mod Lives
 mod Onward
 mod Opened
 mod Parts
+mod Passed
+mod Passing
 mod Picked
 mod Results
 mod Returning
