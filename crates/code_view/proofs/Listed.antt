@@ -148,7 +148,8 @@ module _ (p : Program) (blocks : Blocks) where
   each_listed slot (t ∷ ts) h k =
       let two = all_both (SiteIsLawful p blocks) (sites t) (all_sites (map seen ts)) h in
       All-append (Lists p) (sites t) (all_sites (map seen ts))
-      (of_opened t (listed_sites slot (root_of t) (type_of (out-Typed t).ty) (operands_of t) (by_opened t two.0) (All-head (λ x. IsListed slot (root_of x)) t ts k)))
+      (of_opened t (listed_sites slot (root_of t) (type_of (out-Typed t).ty) (operands_of t) (by_opened t two.0)
+      (All-head (λ x. IsListed slot (root_of x)) t ts k)))
       (each_listed slot ts two.1 (All-tail (λ x. IsListed slot (root_of x)) t ts k))
 
   initial_sites : (z : Root) (ty : CType) (ts : List Typed) → Good (opened z ty ts) → Initializes p blocks z ts → Fine (opened z ty ts)

@@ -1,5 +1,39 @@
 -- The objects of a block are created, one after the other.
-use Rattle.std.proofs.Common.{◌≡◌, ◌≢◌, ℕ, zero, suc, ◌+◌, ◌-◌, ◌<◌, ◌^◌, ◌==◌, min, Bool, true, false, refl, sym, ap, ◌∙◌, subst, arith, append_assoc, rules, get_or, List, [], ◌∷◌, ◌++◌, length, map, Option, Some, None, slice_get}
+use Rattle.std.proofs.Common.{
+  ◌≡◌,
+  ◌≢◌,
+  ℕ,
+  zero,
+  suc,
+  ◌+◌,
+  ◌-◌,
+  ◌<◌,
+  ◌^◌,
+  ◌==◌,
+  min,
+  Bool,
+  true,
+  false,
+  refl,
+  sym,
+  ap,
+  ◌∙◌,
+  subst,
+  arith,
+  append_assoc,
+  rules,
+  get_or,
+  List,
+  [],
+  ◌∷◌,
+  ◌++◌,
+  length,
+  map,
+  Option,
+  Some,
+  None,
+  slice_get,
+}
 use Rattle.std.proofs.lemmas.Bool.Decides.{nat_tests}
 use Rattle.std.specs.Prelude.{is_some, if◌then◌else◌, option_map, Result, Ok, Err, ◌&&◌, ◌||◌, not}
 use Rattle.std.proofs.lemmas.Option.{slice_get-map}
@@ -155,7 +189,8 @@ stops_at objects first n old mid new o (halt.Over cause number) at lt same d one
 stops_at objects first n old mid new o (halt.Raised event line clause) at lt same d one can = absurd one
 
 -- ---- the definitions: a creation is that of the row, whatever rows are there besides
-by_place : (rows : List Row) (x : ObjName) (size base : ℕ) (kind : ObjKind) (form : Option Form) (rest : Script Value) (s : Store) (p : Bool) (l : Option Life) →
+by_place : (rows : List Row) (x : ObjName) (size base : ℕ) (kind : ObjKind) (form : Option Form) (rest : Script Value) (s : Store) (p : Bool)
+    (l : Option Life) →
     p ≡ true → s.life x ≡ l → l ≡ None →
     run rows ((if p then touch (Bear x size kind form) >> Give base else Misplace) >> rest) s ≡ touched (Born x) (run rows rest (born s x size kind form))
 by_place rows x size base kind form rest s true l place life none =

@@ -198,7 +198,11 @@ module _ (rows : List Row) where
   none_access len align a prov =
       none_then (not (a == 0)) InvalidPointer
       (acts.object_of rows len a prov >>= (λ x. touch (Ask x) >>= (λ life. require (is_live life) DeadObject
-      >> (require (acts.in_row (row_of rows x) a len) OutOfBounds >> (require (is_aligned align a) InvalidPointer >> Give (record { object = x; from = acts.offset_in (row_of rows x) a; life = life }))))))
+      >> (require (acts.in_row (row_of rows x) a len) OutOfBounds >> (require (is_aligned align a) InvalidPointer >> Give (record {
+        object = x;
+        from = acts.offset_in (row_of rows x) a;
+        life = life;
+      }))))))
       (none_bind (acts.object_of rows len a prov)
       (λ x. touch (Ask x) >>= (λ life. require (is_live life) DeadObject >> (require (acts.in_row (row_of rows x) a len) OutOfBounds
       >> (require (is_aligned align a) InvalidPointer >> Give (record { object = x; from = acts.offset_in (row_of rows x) a; life = life })))))

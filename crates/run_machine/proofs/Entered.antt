@@ -61,7 +61,24 @@ use Rattle.prov_memory.specs.Memory.{Kept, cannot_create, store_of}
 use Rattle.c_model.specs.Control as todo
 use Rattle.c_model.specs.Control.{Todo, ready_work}
 use Rattle.c_model.specs.Program.{Decl}
-use Rattle.c_model.specs.Runs.{Entry, No_row, Outcome, Over, State, acted, allocation_passes, block_passes, created_after, depth_of, entry_of, limit_passed, pick_allocates, step, too_many, within}
+use Rattle.c_model.specs.Runs.{
+  Entry,
+  No_row,
+  Outcome,
+  Over,
+  State,
+  acted,
+  allocation_passes,
+  block_passes,
+  created_after,
+  depth_of,
+  entry_of,
+  limit_passed,
+  pick_allocates,
+  step,
+  too_many,
+  within,
+}
 use Rattle.c_model.specs.Steps.{Begun, Control, Local, Scene, auto_name, bear_all, control_act, does, pass_all}
 use Rattle.c_model.specs.Values.{Value, Nothing}
 use Rattle.c_model.specs.World.{World, Limits}
@@ -80,7 +97,26 @@ use Rattle.run_state.specs.declared.machine.Open.{Open}
 use Rattle.run_state.specs.declared.machine.Stage.{Stage}
 use Rattle.run_state.specs.Stands.{IsAbove, SeesLocals, StandLocals, Stands, StandsBegun, StandsControl, StandsFrame, StandsLocal}
 use Rattle.run_machine.specs.Answering.{Answers, AnswersStep, HasTaken, as_before}
-use Rattle.run_machine.specs.Entering.{AreNew, BearsAll, Birth, CanBear, CanEnter, Enters, EntersWithin, HasBirths, HasNoPlace, IsNew, birth_in, birth_of, births, born_by, born_first, new_name, reached_with, turned}
+use Rattle.run_machine.specs.Entering.{
+  AreNew,
+  BearsAll,
+  Birth,
+  CanBear,
+  CanEnter,
+  Enters,
+  EntersWithin,
+  HasBirths,
+  HasNoPlace,
+  IsNew,
+  birth_in,
+  birth_of,
+  births,
+  born_by,
+  born_first,
+  new_name,
+  reached_with,
+  turned,
+}
 use Rattle.run_machine.proofs.Births.{CanAll, StopsAt, bears, births_joined, cannot_so, stops}
 use Rattle.run_machine.proofs.Growing.{frame_grown, frames_grown, tables_grown, with_objects_of}
 use Rattle.run_machine.proofs.Staying.{by_step, control_stays}
@@ -165,7 +201,8 @@ after_more n k (d ∷ ds) low small =
     ap (λ (z : ℕ). created_after z ds) (counted n k (max d.size 16)) ∙ after_more n (min (k + max d.size 16) (2 ^ 62)) ds low (omega arith)
 
 pub after_block : (n : ℕ) (ds : List Decl) → n ≤ 2 ^ 62 → created_after n ds ≡ min (n + created_after 0 ds) (2 ^ 62)
-after_block n ds low = ap (λ (z : ℕ). created_after z ds) (let same : n ≡ min (n + 0) (2 ^ 62) = omega (arith, low) in same) ∙ after_more n 0 ds low (omega arith)
+after_block n ds low = ap (λ (z : ℕ). created_after z ds) (let same : n ≡ min (n + 0) (2 ^ 62) = omega (arith, low) in same)
+    ∙ after_more n 0 ds low (omega arith)
 
 born_created : (x : ℕ → ObjName) (bs : List Birth) (k : ℕ) (s : Store) (ds : List Decl) (n : ℕ) → n ≡ k + length ds →
     ((j : ℕ) (d : Decl) → slice_get ds j ≡ Some d → slice_get bs (k + j) ≡ Some (birth_in d)) →
@@ -421,7 +458,8 @@ entered_so : (world : World) (meaning : Option ℕ → Meaning) (m new : Machine
     HasTaken world meaning (taking.Enter b) m st →
     (k : IsKnown world meaning m b.now.number (block_of (meaning m.top.function) b.now).number
     ((meaning m.top.function).decls (block_of (meaning m.top.function) b.now).number) st c) → reached_with (turned m b.now.number) c ≤ 2 ^ 26 →
-    AreNew (turned m b.now.number) (part_of m.code.now.tables.objects.items c.objects) c.first (length (part_of m.code.now.tables.objects.items c.objects)) new →
+    AreNew (turned m b.now.number) (part_of m.code.now.tables.objects.items c.objects) c.first (length (part_of m.code.now.tables.objects.items c.objects))
+    new →
     Answers world meaning (Ok None) new (step world st Control)
 entered_so world meaning m new b st c h k small d =
     let mg = meaning m.top.function in
@@ -450,7 +488,8 @@ entered_so world meaning m new b st c h k small d =
     subst (λ (q : Machine). Answers world meaning (Ok None) q (step world st Control)) (sym d.rest)
     (λ rows. (
       after,
-      control_stays world st (todo.Enter n ds) rest Nothing (births own many) t h.closed ready (too_many_not world.limits (created_after st.store.created ds) fits)
+      control_stays world st (todo.Enter n ds) rest Nothing (births own many) t h.closed ready
+          (too_many_not world.limits (created_after st.store.created ds) fits)
           (ap (λ (q : Store). run world.rows (control_act world f (todo.Enter n ds ∷ rest)) q) h.stands.memory.store
           ∙ ap (λ (vs : List Value). run world.rows (bear_all world f.scene turn 0 ds (pass_all world f.scene turn 0 ds vs)) s) k.can.arguments
           ∙ ap (λ (p : Script Value). run world.rows (bear_all world f.scene turn 0 ds p) s) (passes_none world f.scene turn 0 ds)
@@ -656,7 +695,8 @@ module _ (m mid : Machine) (number t reached : ℕ) (c : BlockCode) (os : List O
     at,
     λ none can. (
       subst (λ (k : ℕ). k ≤ 2 ^ 26) sum small,
-      bears_there m mid number t (min (m.top.turn + 1) (2 ^ 64 - 1)) c.first os (part_of m.code.now.tables.objects.items c.objects) (Err halt.Unplaced) is there d
+      bears_there m mid number t (min (m.top.turn + 1) (2 ^ 64 - 1)) c.first os (part_of m.code.now.tables.objects.items c.objects)
+          (Err halt.Unplaced) is there d
           can,
     ),
   )

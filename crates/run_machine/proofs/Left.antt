@@ -428,7 +428,8 @@ went_on m mid n b (Ok status) left still goes k on world meaning st so h =
 block_by : (over : Bool) (m mid n : Machine) (b : Bor Block) (r : Result (Option ℕ) Halt) → mid.work ≡ m.work → LeavesBlock m b.now.number mid →
     ((k : Meaning) → is_nothing (ready_work (todo_of k mid.work.now)) ≡ false → GoesStill mid n r) →
     OnOk r ((k : Meaning) → GoesOn k mid.work n.work) →
-    ((k : Meaning) → is_nothing (ready_work (todo_of k mid.work.now)) ≡ true → AnswersEnd mid n r) → (world : World) (meaning : Option ℕ → Meaning) (st : State) →
+    ((k : Meaning) → is_nothing (ready_work (todo_of k mid.work.now)) ≡ true → AnswersEnd mid n r) → (world : World)
+    (meaning : Option ℕ → Meaning) (st : State) →
     is_nothing (ready_work (todo_of (meaning m.top.function) m.work.now)) ≡ over → HasTaken world meaning (taking.Leave b) m st →
     Answers world meaning r n (step world st Control)
 block_by true m mid n b r same left still goes ends world meaning st over h =

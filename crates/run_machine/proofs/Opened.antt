@@ -27,7 +27,20 @@ use Rattle.run_state.specs.declared.machine.Open.{Open}
 use Rattle.run_state.specs.declared.machine.Stage.{Stage}
 use Rattle.run_state.specs.declared.watch.Begun.{Begun as Shown}
 use Rattle.run_state.specs.Stands.{Stands, StandsBegun, StandsDone, StandsExpression, StandsFrame}
-use Rattle.run_machine.specs.Picks.{top_of, whole_part, kept_in, kept_of, by_way, ByWay, FollowsIn, NoneIsPermitted, UnlistedIsRefused, NextIsPermitted, PermitsDecided, FollowsCanonical}
+use Rattle.run_machine.specs.Picks.{
+  top_of,
+  whole_part,
+  kept_in,
+  kept_of,
+  by_way,
+  ByWay,
+  FollowsIn,
+  NoneIsPermitted,
+  UnlistedIsRefused,
+  NextIsPermitted,
+  PermitsDecided,
+  FollowsCanonical,
+}
 use Rattle.run_machine.proofs.Parts.{each_at}
 
 -- ---- what the top frame's full expression is

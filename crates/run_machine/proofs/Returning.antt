@@ -1,5 +1,36 @@
 -- A frame ends: the one below it goes on, and stands with what was left; or the run ends.
-use Rattle.std.proofs.Common.{◌≡◌, ◌≢◌, ℕ, zero, suc, set, ◌+◌, ◌<◌, ◌≤◌, ◌==◌, Bool, true, false, refl, sym, ap, ◌∙◌, subst, arith, List, [], ◌∷◌, ◌++◌, length, map, reverse, Option, Some, None, slice_get}
+use Rattle.std.proofs.Common.{
+  ◌≡◌,
+  ◌≢◌,
+  ℕ,
+  zero,
+  suc,
+  set,
+  ◌+◌,
+  ◌<◌,
+  ◌≤◌,
+  ◌==◌,
+  Bool,
+  true,
+  false,
+  refl,
+  sym,
+  ap,
+  ◌∙◌,
+  subst,
+  arith,
+  List,
+  [],
+  ◌∷◌,
+  ◌++◌,
+  length,
+  map,
+  reverse,
+  Option,
+  Some,
+  None,
+  slice_get,
+}
 use Rattle.std.specs.Prelude.{◌||◌, is_some, if◌then◌else◌, nat_lt, Result, Ok, Err, OnOk}
 use Rattle.std.proofs.lemmas.Bool.Decides.{nat_tests}
 use Rattle.std.specs.Option.{unwrap_or}
@@ -35,7 +66,25 @@ use Rattle.run_state.specs.declared.machine.Stage.{Stage}
 use Rattle.run_state.specs.Stands.{Holds, HoldsAll, IsAbove, StandFrames, Stands, StandsBegun, StandsDone, StandsExpression, StandsFrame, StandsValues}
 use Rattle.run_machine.specs.Answering.{ComesTo, newest_items}
 use Rattle.run_machine.specs.Ended.{AnswersEnd}
-use Rattle.run_machine.specs.Ending.{EndsFrame, EndsRun, GoesBack, HasGiven, HasNoted, HasRoomBelow, HasRoomIn, IsRoomFree, KeepsTo, KeepToRooms, LeavesNone, LeavesValue, Notes, NotesIn, NotesWay, depth_without, stage_part}
+use Rattle.run_machine.specs.Ending.{
+  EndsFrame,
+  EndsRun,
+  GoesBack,
+  HasGiven,
+  HasNoted,
+  HasRoomBelow,
+  HasRoomIn,
+  IsRoomFree,
+  KeepsTo,
+  KeepToRooms,
+  LeavesNone,
+  LeavesValue,
+  Notes,
+  NotesIn,
+  NotesWay,
+  depth_without,
+  stage_part,
+}
 use Rattle.run_machine.proofs.Given.{done_given, given_other, given_own, given_value, taken_given, values_given}
 use Rattle.run_machine.proofs.Results.{depth_left, left_as}
 use Rattle.run_machine.proofs.Rooms.{frames_below, holds_apart, locals_below, part_same, with_rooms}
@@ -105,7 +154,8 @@ module _ (law : StandsAtEnd) (world : World) (m n z : Machine) (onto : Open) (no
         })) (s.update i due store room target c old es w there act kind is (sym (given_value e node due.place.node v) ∙ given)));
   }
 
-  done_ended : (straight : Bool) (height first cursor end : ℕ) (f : Scene) (e : Begun) → NotedAt straight m.strayed.items z.strayed.items height (place node Body) →
+  done_ended : (straight : Bool) (height first cursor end : ℕ) (f : Scene) (e : Begun) →
+      NotedAt straight m.strayed.items z.strayed.items height (place node Body) →
       StandsDone straight world m height first cursor end f e (Some (place node Body)) →
       StandsDone straight world (with_rooms m n z) height first cursor end f (with_given e (place node Body) v) None
   done_ended true height first cursor end f e noted d = law world f m.code.now.listing.items first cursor end e (place node Body) v refl d

@@ -1,5 +1,28 @@
 -- A full expression is settled: the machine then stands for the definitions' next state.
-use Rattle.std.proofs.Common.{◌≡◌, ℕ, ◌&&◌, Bool, true, false, refl, sym, ap, ◌∙◌, subst, true≢false, List, [], ◌∷◌, length, map, reverse, ℤ, Option, Some, None}
+use Rattle.std.proofs.Common.{
+  ◌≡◌,
+  ℕ,
+  ◌&&◌,
+  Bool,
+  true,
+  false,
+  refl,
+  sym,
+  ap,
+  ◌∙◌,
+  subst,
+  true≢false,
+  List,
+  [],
+  ◌∷◌,
+  length,
+  map,
+  reverse,
+  ℤ,
+  Option,
+  Some,
+  None,
+}
 use Rattle.std.specs.Borrow.{Bor}
 use Rattle.std.specs.Prelude.{is_none, is_some, if◌then◌else◌, OnOk, Result, Ok, Err}
 use Rattle.mem_spec.specs.Script.{run}
@@ -159,7 +182,8 @@ locals_closed : (world : World) (m : Machine) (o : Open) (f : Scene) (bs : List 
 locals_closed world m o f [] l = tt
 locals_closed world m o f (b ∷ bs) l = (l.0, locals_closed world m o f bs l.1)
 
-closed_stands : (world : World) (meaning : Option ℕ → Meaning) (m : Machine) (ws : List Work) (left : Option Kept_value) (st : State) (v : Value) (what : todo.Use)
+closed_stands : (world : World) (meaning : Option ℕ → Meaning) (m : Machine) (ws : List Work) (left : Option Kept_value) (st : State) (v : Value)
+    (what : todo.Use)
     (trace : List Entry) → StandsControl (meaning m.top.function) ws (settled world st.top v what) →
     (settled world st.top v what).result ≡ result_seen m.memory m.top.function left → Stands world meaning m st →
     Stands world meaning (settled_in m ws left) (record { top = settled world st.top v what; held = st.held; store = st.store; trace = trace })

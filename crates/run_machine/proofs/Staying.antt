@@ -11,7 +11,23 @@ use Rattle.c_model.specs.Steps.{Pick as Model_pick, Begun, Local, Control, contr
 use Rattle.c_model.specs.Steps.{root_value, settled}
 use Rattle.c_model.specs.Values.{Value, Nothing}
 use Rattle.c_model.specs.World.{World}
-use Rattle.c_model.specs.Runs.{Outcome, Running, State, acted, back, block_passes, chosen_pick, depth_of, enter_passes, entry_of, limit_passed, limited, moved, step, within}
+use Rattle.c_model.specs.Runs.{
+  Outcome,
+  Running,
+  State,
+  acted,
+  back,
+  block_passes,
+  chosen_pick,
+  depth_of,
+  enter_passes,
+  entry_of,
+  limit_passed,
+  limited,
+  moved,
+  step,
+  within,
+}
 use Rattle.run_control.specs.declared.work.Work.{Work as Kept_work}
 use Rattle.run_control.specs.declared.moves.Move.{Move as Kept_move}
 use Rattle.run_control.specs.declared.moves.Move.TheVariants.{Out, On, Back}
@@ -29,7 +45,19 @@ use Rattle.run_state.specs.declared.watch.Begun.{Begun as Shown}
 use Rattle.run_state.specs.Stands.{Stands}
 use Rattle.run_machine.specs.declared.pick.Pick.{Pick}
 use Rattle.run_machine.specs.declared.pick.Pick.TheVariants as pick
-use Rattle.run_machine.specs.Answering.{Answers, AnswersCanonical, AnswersControl, AnswersStep, CanGoOn, CanTake, HasTaken, MayGoOn, TakesControl, as_before, step_of_move}
+use Rattle.run_machine.specs.Answering.{
+  Answers,
+  AnswersCanonical,
+  AnswersControl,
+  AnswersStep,
+  CanGoOn,
+  CanTake,
+  HasTaken,
+  MayGoOn,
+  TakesControl,
+  as_before,
+  step_of_move,
+}
 use Rattle.run_machine.specs.Ending.{CanEnd, is_last}
 use Rattle.run_machine.specs.Entering.{CanEnterFirst}
 use Rattle.run_machine.specs.Picks.{ByWay, Follows, FollowsCanonical, FollowsIn, IsPick, IsStep, top_of}

@@ -1,5 +1,31 @@
 -- A declaration is reached again: the bytes of its object become unwritten.
-use Rattle.std.proofs.Common.{◌≡◌, ℕ, ◌+◌, ◌-◌, ◌<◌, ◌^◌, min, true, refl, sym, ap, ◌∙◌, subst, arith, List, [], ◌∷◌, length, map, replicate, rules, Option, Some, None, slice_get}
+use Rattle.std.proofs.Common.{
+  ◌≡◌,
+  ℕ,
+  ◌+◌,
+  ◌-◌,
+  ◌<◌,
+  ◌^◌,
+  min,
+  true,
+  refl,
+  sym,
+  ap,
+  ◌∙◌,
+  subst,
+  arith,
+  List,
+  [],
+  ◌∷◌,
+  length,
+  map,
+  replicate,
+  rules,
+  Option,
+  Some,
+  None,
+  slice_get,
+}
 use Rattle.std.specs.Prelude.{is_some, if◌then◌else◌, Ok}
 use Rattle.std.specs.Borrow.{Bor}
 use Rattle.ub_base.specs.declared.names.Item.{Item}

@@ -1,5 +1,35 @@
 -- Blocks are entered (6.2.4p6, 6.8p3): their objects are created one after the other.
-use Rattle.std.specs.Prelude.{◌≡◌, ◌≢◌, ℕ, zero, suc, ◌+◌, ◌-◌, ◌<◌, ◌≤◌, ◌^◌, min, Bool, true, List, [], ◌∷◌, ◌++◌, length, map, reverse, slice_get, Option, Some, None, is_some, option_map, Result, Ok, Err}
+use Rattle.std.specs.Prelude.{
+  ◌≡◌,
+  ◌≢◌,
+  ℕ,
+  zero,
+  suc,
+  ◌+◌,
+  ◌-◌,
+  ◌<◌,
+  ◌≤◌,
+  ◌^◌,
+  min,
+  Bool,
+  true,
+  List,
+  [],
+  ◌∷◌,
+  ◌++◌,
+  length,
+  map,
+  reverse,
+  slice_get,
+  Option,
+  Some,
+  None,
+  is_some,
+  option_map,
+  Result,
+  Ok,
+  Err,
+}
 use Rattle.addr_map.specs.Rows.{row_at, row_of}
 use Rattle.ub_base.specs.declared.clause.Cause.TheVariants.{Created}
 use Rattle.ub_base.specs.declared.names.Item.{Item}

@@ -12,12 +12,14 @@ returns-then-reached-gt-MOST_CREATED-clause-enters c =
 pub returns-in_err-create_objects-clause-enters : goal.returns-in_err-create_objects-clause-enters
 returns-in_err-create_objects-clause-enters c =
     let p = err_from_is_err_and c.from_residual-in_err-create_objects.result c.from_residual-in_err-create_objects.ensures.1 in
-    enters_not c.args.machine.now c.create_objects.new.machine c.args.number c.saturating_add-machine.result c.total-reached.result _ _ c.saturating_add-machine.ensures
+    enters_not c.args.machine.now c.create_objects.new.machine c.args.number c.saturating_add-machine.result c.total-reached.result _ _
+    c.saturating_add-machine.ensures
     c.in_ok-block.ensures.at c.in_ok-block.ensures.objects (reached_so _ _ _ _ c.total-reached.ensures c.created.ensures)
     c.from_residual-in_err-create_objects.result p.0 _ p.1 p.2 (omega (arith, c.if-reached-gt-MOST_CREATED.false)) c.in_err-create_objects.ensures.born
 
 pub returns-clause-enters : goal.returns-clause-enters
 returns-clause-enters c =
-    enters_ok c.args.machine.now c.create_objects.new.machine c.args.number c.saturating_add-machine.result c.total-reached.result _ _ c.saturating_add-machine.ensures
+    enters_ok c.args.machine.now c.create_objects.new.machine c.args.number c.saturating_add-machine.result c.total-reached.result _ _
+    c.saturating_add-machine.ensures
     c.in_ok-block.ensures.at c.in_ok-block.ensures.objects (reached_so _ _ _ _ c.total-reached.ensures c.created.ensures)
     c.store_arguments.new.machine (omega (arith, c.if-reached-gt-MOST_CREATED.false)) c.in_ok-create_objects.ensures.born c.in_ok-store_arguments.ensures.none
