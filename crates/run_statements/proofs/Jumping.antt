@@ -16,7 +16,7 @@ use Rattle.run_statements.specs.declared.jumps.Jumps.{Jumps}
 use Rattle.run_statements.specs.Jumping.{AreLabels, AreLabelsOf, HasJumps, HaveLabels, IsFound, labels_of}
 
 -- ---- further links
-range_more : (n k : ℕ) (fs : List Found) → n ≤ k → InRange n fs → InRange k fs
+pub range_more : (n k : ℕ) (fs : List Found) → n ≤ k → InRange n fs → InRange k fs
 range_more n k [] le r = tt
 range_more n k (f ∷ fs) le r = (omega (arith, le, r.0), range_more n k fs le r.1)
 
@@ -43,13 +43,13 @@ have_next links [] (g ∷ fs) b f a h = absurd h
 have_next links (c ∷ bs) [] b f a h = absurd h
 have_next links (c ∷ bs) (g ∷ fs) b f a h = (h.0, have_next links bs fs b f a h.1)
 
-map_next : {A B : Type 0} (g : A → B) (xs : List A) (x : A) → map g (xs ++ x ∷ []) ≡ map g xs ++ g x ∷ []
+pub map_next : {A B : Type 0} (g : A → B) (xs : List A) (x : A) → map g (xs ++ x ∷ []) ≡ map g xs ++ g x ∷ []
 map_next g [] x = refl
 map_next g (y ∷ xs) x = ap (λ ys. g y ∷ ys) (map_next g xs x)
 
 pub jumps_more : (old new : Jumps) (found : Vec Found Global) (bs : List (Option (Bor Statement))) (b : Option (Bor Statement)) → Older old.links.items new.links.items →
     length old.links.items ≤ length new.links.items → new.labels.items ≡ old.labels.items ++ found ∷ [] → AreLabels new.links.items found.items b →
-    HasJumps old bs → HasJumps new (bs ++ b ∷ [])
+    HaveLabels old.links.items bs (labels_of old) → HaveLabels new.links.items (bs ++ b ∷ []) (labels_of new)
 jumps_more old new found bs b older longer labels are has =
     subst (λ (fs : List (List Found)). HaveLabels new.links.items (bs ++ b ∷ []) fs)
     (sym (ap (map (λ (v : Vec Found Global). v.items)) labels ∙ map_next (λ (v : Vec Found Global). v.items) old.labels.items found))
@@ -60,7 +60,7 @@ abbrev or_this : {A : Type 0} → A → Option A → A
 or_this z None = z
 or_this z (Some w) = w
 
-some_same : {A : Type 0} (x y : A) → Some x ≡ Some y → x ≡ y
+pub some_same : {A : Type 0} (x y : A) → Some x ≡ Some y → x ≡ y
 some_same x y e = ap (or_this x) e
 
 labels_at : (links : List Link) (bs : List (Option (Bor Statement))) (fs : List (List Found)) (n : ℕ) (b : Bor Statement) (f : List Found) →
@@ -72,7 +72,7 @@ labels_at links (c ∷ bs) (g ∷ fs) zero b f h there is =
     (subst (λ (d : Option (Bor Statement)). AreLabels links g d) (some_same c (Some b) there) h.0)
 labels_at links (c ∷ bs) (g ∷ fs) (suc n) b f h there is = labels_at links bs fs n b f h.1 there is
 
-map_at : {A B : Type 0} (g : A → B) (xs : List A) (n : ℕ) (x : A) → slice_get xs n ≡ Some x → slice_get (map g xs) n ≡ Some (g x)
+pub map_at : {A B : Type 0} (g : A → B) (xs : List A) (n : ℕ) (x : A) → slice_get xs n ≡ Some x → slice_get (map g xs) n ≡ Some (g x)
 map_at g [] n x e = absurd (cc)
 map_at g (y ∷ xs) zero x e = ap (option_map g) e
 map_at g (y ∷ xs) (suc n) x e = map_at g xs n x e
@@ -82,7 +82,7 @@ pub is_found : (j : Jumps) (bs : List (Option (Bor Statement))) (body : Bor Stat
     ((m : Meaning) (links : List Link) → work_at m links (Some place) ≡ looked (to_label label) (map (seen m links) found.items)) →
     IsFound j.links.items body.now label place
 is_found j bs body function label found place has there at is =
-    let are = labels_at j.links.items bs (labels_of j) function body found.items has there (map_at (λ (v : Vec Found Global). v.items) j.labels.items function found at) in
+    let are = labels_at j.links.items bs (labels_of j) function body found.items has.labels there (map_at (λ (v : Vec Found Global). v.items) j.labels.items function found at) in
     λ m equal. is m j.links.items ∙ are.finds m equal (to_label label) refl
 
 pub older_twice : (a b c : List Link) → length a ≤ length b → Older a b → Older b c → Older a c
@@ -98,7 +98,7 @@ is_none_of (Some d) n = absurd (n d refl)
 
 pub jumps_for_none : (old new : Jumps) (found : Vec Found Global) (bs : List (Option (Bor Statement))) (b : Option (Bor Statement)) →
     ((d : Bor Statement) → b ≡ Some d → ⊥) → new.links.items ≡ old.links.items → new.labels.items ≡ old.labels.items ++ found ∷ [] → found.items ≡ [] →
-    HasJumps old bs → HasJumps new (bs ++ b ∷ [])
+    HaveLabels old.links.items bs (labels_of old) → HaveLabels new.links.items (bs ++ b ∷ []) (labels_of new)
 jumps_for_none old new found bs b none links labels empty has =
     jumps_more old new found bs b (older_same old.links.items new.links.items links) (omega (arith, ap (λ (ls : List Link). length ls) links)) labels
     (subst (λ (o : Option (Bor Statement)). AreLabels new.links.items found.items o) (sym (is_none_of b none)) tt) has
@@ -106,7 +106,8 @@ jumps_for_none old new found bs b none links labels empty has =
 pub jumps_for_body : (old new : Jumps) (mid : List Link) (found : Vec Found Global) (bs : List (Option (Bor Statement))) (b : Option (Bor Statement))
     (d : Bor Statement) → b ≡ Some d → Older old.links.items mid → length old.links.items ≤ length mid → Older mid new.links.items →
     length mid ≤ length new.links.items → new.labels.items ≡ old.labels.items ++ found ∷ [] → Finds new.links.items found.items d.now true →
-    InRange (length new.links.items) found.items → HasJumps old bs → HasJumps new (bs ++ b ∷ [])
+    InRange (length new.links.items) found.items → HaveLabels old.links.items bs (labels_of old) →
+    HaveLabels new.links.items (bs ++ b ∷ []) (labels_of new)
 jumps_for_body old new mid found bs b d is first_older first_longer then_older then_longer labels finds range has =
     jumps_more old new found bs b (older_twice old.links.items mid new.links.items first_longer first_older then_older)
     (omega (arith, first_longer, then_longer)) labels

@@ -3,3 +3,5 @@ pub mod Forms
 pub mod Loops
 pub mod Ordered
 pub mod Jumping
+pub mod Gathering
+pub mod Casing

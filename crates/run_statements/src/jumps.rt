@@ -1,10 +1,11 @@
 // Where jumps go: the labels of functions, and the cases of `switch` statements.
 
-ghost use Rattle.std.specs.Prelude.{◌≡◌, ◌≤◌, [], ◌∷◌, ◌++◌, List, length, Option, Some, slice_get, IfOk, OnOk};
+ghost use Rattle.std.specs.Prelude.{◌≡◌, ◌≤◌, [], ◌∷◌, ◌++◌, List, length, map, Option, Some, slice_get, IfOk, OnOk};
 ghost use Rattle.std.specs.Borrow.{Bor};
 ghost use Rattle.run_control.specs.declared.statement.Statement.{Statement as StatementOf};
+ghost use Rattle.run_control.specs.declared.statement.Switch.{Switch as SwitchOf};
 ghost use Rattle.run_control.specs.Search.{Older};
-ghost use Rattle.run_statements.specs.Jumping.{HasJumps, IsFound};
+ghost use Rattle.run_statements.specs.Jumping.{HasJumps, HaveCases, IsCase, IsFound, cases_of};
 
 use crate::switches_of;
 use run_control::{Found, Link, Place, Statement, Switch, Target, find, targets_of};
@@ -52,6 +53,8 @@ impl<'p> Jumps<'p> {
         ensures labels { OnOk result (self.new.labels ≡ self.old.labels) }
         ensures older { OnOk result (Older self.old.links.items self.new.links.items) }
         ensures longer { OnOk result (length self.old.links.items ≤ length self.new.links.items) }
+        ensures cases { OnOk result ((ss : List SwitchOf) → HaveCases self.old.links.items 0 ss (cases_of self.old)
+            → HaveCases self.new.links.items 0 (ss ++ map (λ s. s.now) switches.now) (cases_of self.new)) }
     {
         for switch in switches {
             if switch.number as usize != self.cases.len() {
@@ -77,7 +80,10 @@ impl<'p> Jumps<'p> {
     }
 
     /// Where the `switch` of this number goes by the value of its test, if there is a case for it (6.8.4.2p5).
-    pub fn case(&self, switch: u32, value: i128) -> Result<Option<Place<'p>>, NoMemory> {
+    pub fn case(&self, switch: u32, value: i128) -> Result<Option<Place<'p>>, NoMemory>
+        ensures { (bodies : List (Option (Bor StatementOf))) (has : HasJumps self.now bodies) (s : SwitchOf) → slice_get has.switches switch ≡ Some s
+            → IfOk result (IsCase self.now.links.items s.body value) }
+    {
         let Some(cases) = self.cases.get(switch as usize) else {
             return Err(NoMemory);
         };

@@ -1,5 +1,9 @@
 //! The `switch` statements in a statement.
 
+ghost use Rattle.std.specs.Prelude.{OnOk};
+ghost use Rattle.run_control.specs.declared.statement.Statement.{Statement as StatementOf};
+ghost use Rattle.run_statements.specs.Jumping.{AreHeld, AreWithin, IsWithin};
+
 use run_control::{Statement, Switch};
 use ub_base::NoMemory;
 
@@ -8,7 +12,9 @@ use ub_base::NoMemory;
 pub fn switches_of<'p>(
     statement: &'p Statement,
     found: &mut Vec<&'p Switch>,
-) -> Result<(), NoMemory> {
+) -> Result<(), NoMemory>
+    ensures { OnOk result ((body : StatementOf) → IsWithin body statement.now → AreHeld body found.old.items → AreHeld body found.new.items) }
+{
     match statement {
         Statement::Block(block) => switches_in(block.statements.as_slice(), found),
         Statement::If(_, yes, no) => {
@@ -40,7 +46,9 @@ pub fn switches_of<'p>(
 fn switches_in<'p>(
     statements: &'p [Statement],
     found: &mut Vec<&'p Switch>,
-) -> Result<(), NoMemory> {
+) -> Result<(), NoMemory>
+    ensures { OnOk result ((body : StatementOf) → AreWithin body statements.now → AreHeld body found.old.items → AreHeld body found.new.items) }
+{
     for statement in statements {
         switches_of(statement, found)?;
     }
