@@ -4,6 +4,7 @@ use Rattle.std.proofs.Common.{append_assoc, List, [], ◌∷◌, ◌++◌, lengt
 use Rattle.std.specs.Prelude.{option_map}
 use Rattle.std.specs.Borrow.{Bor}
 use Rattle.c_model.specs.Control.{Target, Todo, find, first_of, to_case, to_default}
+use Rattle.c_model.specs.Program.{Stmt}
 use Rattle.run_control.specs.declared.links.Link.{Link}
 use Rattle.run_control.specs.declared.links.Place.{Place}
 use Rattle.run_control.specs.declared.statement.Statement.{Statement}
@@ -11,12 +12,15 @@ use Rattle.run_control.specs.declared.statement.Switch.{Switch}
 use Rattle.run_control.specs.declared.targets.Found.{Found}
 use Rattle.run_control.specs.Links.{work_at}
 use Rattle.run_control.specs.Search.{Finds, Older, looked}
-use Rattle.run_control.specs.Targets.{InRange, seen}
+use Rattle.run_control.specs.Targets.{AllEqual, InRange, bodies, seen}
 use Rattle.run_control.specs.View.{Meaning, stmt_of}
 use Rattle.run_control.proofs.Adding.{seen_older}
 use Rattle.run_statements.specs.declared.jumps.Jumps.{Jumps}
-use Rattle.run_statements.specs.Jumping.{AreCases, AreHeld, AreHeldIn, HasJumps, HaveCases, HaveLabels, IsCase, IsHeld, IsHeldIn, IsWithin, cases_of, labels_of}
+use Rattle.run_statements.specs.Jumping.{AreCases, HasJumps, HaveCases, HaveLabels, IsCase, cases_of, labels_of}
+use Rattle.run_statements.specs.Switches.{StandsIn, Switches, switches_in, switches_of_all}
+use Rattle.run_statements.proofs.Gathering.{append_nothing, got, now_of, take_all}
 use Rattle.run_statements.proofs.Jumping.{map_at, map_next, range_more, some_same}
+use Rattle.run_statements.proofs.Standing.{AllStand, Stands, stand_in}
 
 -- ---- further links
 one_more : (links more : List Link) (found : List Found) (n : ℕ) (s : Switch) → Older links more → length links ≤ length more →
@@ -47,11 +51,6 @@ length_mapped : {A B : Type 0} (g : A → B) (xs : List A) → length (map g xs)
 length_mapped g [] = refl
 length_mapped g (x ∷ xs) = ap suc (length_mapped g xs)
 
-pub got : {A : Type 0} (xs : List A) (n : ℕ) (x : A) → n < length xs → x ≡ get_or xs n x → slice_get xs n ≡ Some x
-got [] n x lt e = absurd (omega (arith, lt))
-got (y ∷ xs) zero x lt e = ap Some (sym e)
-got (y ∷ xs) (suc n) x lt e = got xs n x (omega (arith, lt)) e
-
 take_next : {A : Type 0} (xs : List A) (n : ℕ) (x : A) → slice_get xs n ≡ Some x → take (suc n) xs ≡ take n xs ++ x ∷ []
 take_next [] n x at = absurd (cc)
 take_next (y ∷ xs) zero x at = ap (λ z. z ∷ []) (some_same y x at)
@@ -59,9 +58,6 @@ take_next (y ∷ xs) (suc n) x at = ap (λ ys. y ∷ ys) (take_next xs n x at)
 
 abbrev items_of : Vec Found Global → List Found
 items_of v = v.items
-
-abbrev now_of : Bor Switch → Switch
-now_of s = s.now
 
 abbrev pub So : Jumps → List (Bor Switch) → Jumps → Type 0
 So old switches new =
@@ -86,53 +82,52 @@ so_next old mid new switches n s found lt at number older longer cases finds ran
     (subst (λ (fs : List (List Found)). HaveCases new.links.items 0 ((ts ++ map now_of (take n switches)) ++ s.now ∷ []) fs)
     (sym (ap (map items_of) cases ∙ map_next items_of mid.cases.items found)) next)
 
-append_nothing : {A : Type 0} (xs : List A) → xs ++ [] ≡ xs
-append_nothing [] = refl
-append_nothing (x ∷ xs) = ap (λ ys. x ∷ ys) (append_nothing xs)
-
 pub so_first : (old : Jumps) (switches : List (Bor Switch)) → So old (take 0 switches) old
 so_first old switches = λ ss h. subst (λ (us : List Switch). HaveCases old.links.items 0 us (cases_of old)) (sym (append_nothing ss)) h
-
-take_all : {A : Type 0} (xs : List A) (n : ℕ) → length xs ≤ n → take n xs ≡ xs
-take_all [] zero le = refl
-take_all [] (suc n) le = refl
-take_all (x ∷ xs) zero le = absurd (omega (arith, le))
-take_all (x ∷ xs) (suc n) le = ap (λ ys. x ∷ ys) (take_all xs n (omega (arith, le)))
 
 pub so_all : (old new : Jumps) (switches : List (Bor Switch)) (n : ℕ) → length switches ≤ n → So old (take n switches) new → So old switches new
 so_all old new switches n le so = subst (λ (ss : List (Bor Switch)). So old ss new) (take_all switches n le) so
 
--- ---- held by one of the bodies
-held_later : (bs cs : List (Option (Bor Statement))) (n : ℕ) (x : Option (Bor Statement)) → slice_get bs n ≡ Some x → slice_get (bs ++ cs) n ≡ Some x
-held_later [] cs n x at = absurd (cc)
-held_later (b ∷ bs) cs zero x at = at
-held_later (b ∷ bs) cs (suc n) x at = held_later bs cs n x at
+-- ---- the `switch` statements of one function more
+all_later : (bs : List (Option (Bor Statement))) (b : Option (Bor Statement)) → switches_of_all (bs ++ b ∷ []) ≡ switches_of_all bs ++ switches_of_all (b ∷ [])
+all_later [] b = refl
+all_later (None ∷ bs) b = all_later bs b
+all_later (Some d ∷ bs) b =
+    ap (λ ss. switches_in d.now ++ ss) (all_later bs b)
+    ∙ (let along : switches_in d.now ++ (switches_of_all bs ++ switches_of_all (b ∷ []))
+    ≡ (switches_in d.now ++ switches_of_all bs) ++ switches_of_all (b ∷ []) = simp append_assoc in along)
 
-held_more : (bs cs : List (Option (Bor Statement))) (ss : List Switch) → AreHeldIn bs ss → AreHeldIn (bs ++ cs) ss
-held_more bs cs [] h = tt
-held_more bs cs (s ∷ ss) h = ((h.0.0, h.0.1, held_later bs cs h.0.0 (Some h.0.1) h.0.2, h.0.3), held_more bs cs ss h.1)
+-- where a `switch` stands in the body of one of them, it is among all
+later_at : (xs ys : List Switch) (k : ℕ) (s : Switch) → slice_get ys k ≡ Some s → (n : ℕ) × (slice_get (xs ++ ys) n ≡ Some s)
+later_at [] ys k s at = (k, at)
+later_at (x ∷ xs) ys k s at = let r = later_at xs ys k s at in (suc r.0, r.1)
 
-held_two : (bs : List (Option (Bor Statement))) (ss ts : List Switch) → AreHeldIn bs ss → AreHeldIn bs ts → AreHeldIn bs (ss ++ ts)
-held_two bs [] ts h k = k
-held_two bs (s ∷ ss) ts h k = (h.0, held_two bs ss ts h.1 k)
+first_at : (xs ys : List Switch) (k : ℕ) (s : Switch) → slice_get xs k ≡ Some s → slice_get (xs ++ ys) k ≡ Some s
+first_at [] ys k s at = absurd (cc)
+first_at (x ∷ xs) ys zero s at = at
+first_at (x ∷ xs) ys (suc k) s at = first_at xs ys k s at
 
-last_at : (bs : List (Option (Bor Statement))) (b : Option (Bor Statement)) → slice_get (bs ++ b ∷ []) (length bs) ≡ Some b
-last_at [] b = refl
-last_at (c ∷ bs) b = last_at bs b
+among : (bs : List (Option (Bor Statement))) (n : ℕ) (b : Bor Statement) (k : ℕ) (s : Switch) → slice_get bs n ≡ Some (Some b) →
+    slice_get (switches_in b.now) k ≡ Some s → (j : ℕ) × (slice_get (switches_of_all bs) j ≡ Some s)
+among [] n b k s there at = absurd (cc)
+among (None ∷ bs) zero b k s there at = absurd (cc)
+among (None ∷ bs) (suc n) b k s there at = among bs n b k s there at
+among (Some d ∷ bs) zero b k s there at =
+    let same : d ≡ b = cc in
+    (k, first_at (switches_in d.now) (switches_of_all bs) k s (subst (λ (c : Bor Statement). slice_get (switches_in c.now) k ≡ Some s) (sym same) at))
+among (Some d ∷ bs) (suc n) b k s there at =
+    let r = among bs n b k s there at in
+    later_at (switches_in d.now) (switches_of_all bs) r.0 s r.1
 
-held_last : (bs : List (Option (Bor Statement))) (b : Bor Statement) (ss : List (Bor Switch)) → AreHeld b.now ss →
-    AreHeldIn (bs ++ Some b ∷ []) (map now_of ss)
-held_last bs b [] h = tt
-held_last bs b (s ∷ ss) h = ((length bs, b, last_at bs (Some b), h.0), held_last bs b ss h.1)
-
-pub held_next : (bs : List (Option (Bor Statement))) (b : Option (Bor Statement)) (d : Bor Statement) (ss : List Switch) (more : List (Bor Switch)) →
-    b ≡ Some d → AreHeld d.now more → AreHeldIn bs ss → AreHeldIn (bs ++ b ∷ []) (ss ++ map now_of more)
-held_next bs b d ss more is held h =
-    subst (λ (o : Option (Bor Statement)). AreHeldIn (bs ++ o ∷ []) (ss ++ map now_of more)) (sym is)
-    (held_two (bs ++ Some d ∷ []) ss (map now_of more) (held_more bs (Some d ∷ []) ss h) (held_last bs d more held))
-
-pub held_none : (bs : List (Option (Bor Statement))) (b : Option (Bor Statement)) (ss : List Switch) → AreHeldIn bs ss → AreHeldIn (bs ++ b ∷ []) ss
-held_none bs b ss h = held_more bs (b ∷ []) ss h
+-- its number is its place among them
+number_at : (links : List Link) (n k : ℕ) (ss : List Switch) (fs : List (List Found)) (s : Switch) → HaveCases links n ss fs → slice_get ss k ≡ Some s →
+    s.number ≡ n + k
+number_at links n k [] fs s h at = absurd (cc)
+number_at links n k (t ∷ ss) [] s h at = absurd h
+number_at links n zero (t ∷ ss) (f ∷ fs) s h at =
+    (let same : t ≡ s = cc in ap (λ (u : Switch). u.number) (sym same)) ∙ h.0.number ∙ (let e : n ≡ n + zero = omega arith in e)
+number_at links n (suc k) (t ∷ ss) (f ∷ fs) s h at =
+    number_at links (suc n) k ss fs s h.1 at ∙ (let e : suc n + k ≡ n + suc k = omega arith in e)
 
 -- ---- a case is looked for
 cases_at : (links : List Link) (n k j : ℕ) (ss : List Switch) (fs : List (List Found)) (s : Switch) (f : List Found) → HaveCases links n ss fs →
@@ -144,52 +139,77 @@ cases_at links n zero j (t ∷ ss) (g ∷ fs) s f h there is at =
     (subst (λ (u : Switch). AreCases links f n u) (some_same t s there) (subst (λ (u : List Found). AreCases links u n t) (some_same g f is) h.0))
 cases_at links n (suc k) j (t ∷ ss) (g ∷ fs) s f h there is at = cases_at links (suc n) k j ss fs s f h.1 there is (omega (arith, at))
 
-pub case_there : (j : Jumps) (bs : List (Option (Bor Statement))) (n : ℕ) (s : Switch) (found : Vec Found Global) → (has : HasJumps j bs) →
-    slice_get has.switches n ≡ Some s → slice_get j.cases.items n ≡ Some found → AreCases j.links.items found.items n s
-case_there j bs n s found has there at =
-    cases_at j.links.items 0 n n has.switches (cases_of j) s found.items has.cases there (map_at items_of j.cases.items n found at) (omega arith)
+pub case_there : (j : Jumps) (bs : List (Option (Bor Statement))) (n : ℕ) (b : Bor Statement) (s : Switch) (k : ℕ) (found : Vec Found Global) → HasJumps j bs →
+    slice_get bs n ≡ Some (Some b) → StandsIn b.now s → s.number ≡ k → slice_get j.cases.items k ≡ Some found →
+    AreCases j.links.items found.items k s
+case_there j bs n b s k found has there stands is at =
+    let a = among bs n b stands.0 s there stands.1 in
+    let number : s.number ≡ 0 + a.0 = number_at j.links.items 0 a.0 (switches_of_all bs) (cases_of j) s has.cases a.1 in
+    let place : a.0 ≡ k = omega (arith, number, is) in
+    cases_at j.links.items 0 k k (switches_of_all bs) (cases_of j) s found.items has.cases
+    (subst (λ (i : ℕ). slice_get (switches_of_all bs) i ≡ Some s) place a.1) (map_at items_of j.cases.items k found at) (omega arith)
 
 -- what was looked for by the code
 abbrev Looks : List Found → Option Place → Target → Type 0
 Looks found target t = (m : Meaning) (links : List Link) → work_at m links target ≡ looked t (map (seen m links) found)
 
-pub case_found : (links : List Link) (found : List Found) (n : ℕ) (s : Switch) (z : ℤ) (place : Place) → AreCases links found n s →
-    Looks found (Some place) (to_case z) → IsCase links s.body z (Some place)
-case_found links found n s z place are looks = λ m equal.
-    let is = looks m links ∙ are.finds m equal (to_case z) refl in
-    ap (λ (o : Option Todo). first_of o (find to_default (stmt_of m s.body))) is
+-- where it stands in the body, its number stands for its body, and so do those in it
+all_at : (m : Meaning) (ss : Switches) (k : ℕ) (s : Switch) → AllStand m ss → slice_get ss k ≡ Some s → Stands m s
+all_at m [] k s h at = absurd (cc)
+all_at m (t ∷ ss) zero s h at = subst (λ (u : Switch). Stands m u) (some_same t s at) h.0
+all_at m (t ∷ ss) (suc k) s h at = all_at m ss k s h.1 at
 
-pub case_else : (links : List Link) (found : List Found) (n : ℕ) (s : Switch) (z : ℤ) (first target : Option Place) → first ≡ None →
-    AreCases links found n s → Looks found first (to_case z) → Looks found target to_default → IsCase links s.body z target
-case_else links found n s z first target is are looks after = λ m equal.
+stands_at : (m : Meaning) (body : Statement) (s : Switch) → StandsIn body s → AllEqual (bodies m body) → Stands m s
+stands_at m body s stands equal = all_at m (switches_in body) stands.0 s (stand_in m body equal) stands.1
+
+-- of its body, where its number is this one
+numbered : (links : List Link) (body : Statement) (s : Switch) (n : ℕ) (z : ℤ) (target : Option Place) → StandsIn body s → s.number ≡ n →
+    ((m : Meaning) → AllEqual (bodies m s.body) → work_at m links target ≡ first_of (find (to_case z) (stmt_of m s.body)) (find to_default (stmt_of m s.body))) →
+    IsCase links body n z target
+numbered links body s n z target stands is finds = λ m equal.
+    let own = stands_at m body s stands equal in
+    finds m own.1 ∙ ap (λ (t : Stmt). first_of (find (to_case z) t) (find to_default t)) (sym own.0 ∙ ap m.body is)
+
+pub case_found : (links : List Link) (found : List Found) (n : ℕ) (body : Statement) (s : Switch) (z : ℤ) (place : Place) → AreCases links found n s →
+    StandsIn body s → Looks found (Some place) (to_case z) → IsCase links body n z (Some place)
+case_found links found n body s z place are stands looks = numbered links body s n z (Some place) stands are.number (λ m equal.
+    let is = looks m links ∙ are.finds m equal (to_case z) refl in
+    ap (λ (o : Option Todo). first_of o (find to_default (stmt_of m s.body))) is)
+
+pub case_else : (links : List Link) (found : List Found) (n : ℕ) (body : Statement) (s : Switch) (z : ℤ) (first target : Option Place) → first ≡ None →
+    AreCases links found n s → StandsIn body s → Looks found first (to_case z) → Looks found target to_default → IsCase links body n z target
+case_else links found n body s z first target is are stands looks after = numbered links body s n z target stands are.number (λ m equal.
     let none_first : None ≡ find (to_case z) (stmt_of m s.body) =
         ap (work_at m links) (sym is) ∙ looks m links ∙ are.finds m equal (to_case z) refl in
     after m links ∙ are.finds m equal to_default refl
-    ∙ ap (λ (o : Option Todo). first_of o (find to_default (stmt_of m s.body))) none_first
+    ∙ ap (λ (o : Option Todo). first_of o (find to_default (stmt_of m s.body))) none_first)
 
 -- ---- a function is added
-pub add_none : (old new : Jumps) (bs : List (Option (Bor Statement))) (b : Option (Bor Statement)) → new.links ≡ old.links → new.cases ≡ old.cases →
-    (HaveLabels old.links.items bs (labels_of old) → HaveLabels new.links.items (bs ++ b ∷ []) (labels_of new)) → HasJumps old bs →
+pub add_none : (old new : Jumps) (bs : List (Option (Bor Statement))) (b : Option (Bor Statement)) → b ≡ None → new.links ≡ old.links →
+    new.cases ≡ old.cases → (HaveLabels old.links.items bs (labels_of old) → HaveLabels new.links.items (bs ++ b ∷ []) (labels_of new)) → HasJumps old bs →
     HasJumps new (bs ++ b ∷ [])
-add_none old new bs b links cases labels has = record {
+add_none old new bs b none links cases labels has = record {
   labels = labels has.labels;
-  switches = has.switches;
-  cases = subst (λ (ls : Vec Link Global). HaveCases ls.items 0 has.switches (cases_of new)) (sym links)
-      (subst (λ (fs : Vec (Vec Found Global) Global). HaveCases old.links.items 0 has.switches (map items_of fs.items)) (sym cases) has.cases);
-  held = held_none bs b has.switches has.held;
+  cases = subst (λ (ss : Switches). HaveCases new.links.items 0 ss (cases_of new))
+      (sym (all_later bs b ∙ ap (λ (o : Option (Bor Statement)). switches_of_all bs ++ switches_of_all (o ∷ [])) none ∙ append_nothing (switches_of_all bs)))
+      (subst (λ (ls : Vec Link Global). HaveCases ls.items 0 (switches_of_all bs) (cases_of new)) (sym links)
+      (subst (λ (fs : Vec (Vec Found Global) Global). HaveCases old.links.items 0 (switches_of_all bs) (map items_of fs.items)) (sym cases) has.cases));
 }
 
-pub add_body : (old mid new : Jumps) (bs : List (Option (Bor Statement))) (b : Option (Bor Statement)) (d : Bor Statement) (more more_of first : List (Bor Switch)) →
+pub add_body : (old mid new : Jumps) (bs : List (Option (Bor Statement))) (b : Option (Bor Statement)) (d : Bor Statement) (more gathered first : List (Bor Switch)) →
     b ≡ Some d → new.cases ≡ mid.cases → Older mid.links.items new.links.items → length mid.links.items ≤ length new.links.items → So old more mid →
-    more ≡ more_of → first ≡ [] → ((body : Statement) → IsWithin body d.now → AreHeld body first → AreHeld body more_of) →
+    more ≡ gathered → first ≡ [] → map now_of gathered ≡ map now_of first ++ switches_in d.now →
     (HaveLabels old.links.items bs (labels_of old) → HaveLabels new.links.items (bs ++ b ∷ []) (labels_of new)) → HasJumps old bs →
     HasJumps new (bs ++ b ∷ [])
-add_body old mid new bs b d more more_of first is cases older longer so same empty gathers labels has = record {
-  labels = labels has.labels;
-  switches = has.switches ++ map now_of more;
-  cases = subst (λ (fs : Vec (Vec Found Global) Global). HaveCases new.links.items 0 (has.switches ++ map now_of more) (map items_of fs.items)) (sym cases)
-      (cases_more mid.links.items new.links.items 0 (has.switches ++ map now_of more) (cases_of mid) older longer (so has.switches has.cases));
-  held = held_next bs b d has.switches more is
-      (subst (λ (ss : List (Bor Switch)). AreHeld d.now ss) (sym same)
-      (gathers d.now (λ m e. e) (subst (λ (ss : List (Bor Switch)). AreHeld d.now ss) (sym empty) tt))) has.held;
-}
+add_body old mid new bs b d more gathered first is cases older longer so same empty gathers labels has =
+    let own : map now_of more ≡ switches_in d.now =
+        ap (map now_of) same ∙ gathers ∙ ap (λ (ss : List (Bor Switch)). map now_of ss ++ switches_in d.now) empty in
+    let all : switches_of_all (bs ++ b ∷ []) ≡ switches_of_all bs ++ map now_of more =
+        all_later bs b ∙ ap (λ (o : Option (Bor Statement)). switches_of_all bs ++ switches_of_all (o ∷ [])) is
+        ∙ ap (λ (ss : Switches). switches_of_all bs ++ ss) (append_nothing (switches_in d.now) ∙ sym own) in
+    record {
+      labels = labels has.labels;
+      cases = subst (λ (ss : Switches). HaveCases new.links.items 0 ss (cases_of new)) (sym all)
+          (subst (λ (fs : Vec (Vec Found Global) Global). HaveCases new.links.items 0 (switches_of_all bs ++ map now_of more) (map items_of fs.items)) (sym cases)
+          (cases_more mid.links.items new.links.items 0 (switches_of_all bs ++ map now_of more) (cases_of mid) older longer (so (switches_of_all bs) has.cases)));
+    }

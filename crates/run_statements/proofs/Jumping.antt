@@ -92,7 +92,7 @@ pub older_same : (a b : List Link) → b ≡ a → Older a b
 older_same a b e = subst (λ (links : List Link). Older a links) (sym e) (λ n le. refl)
 
 -- ---- a function is added
-is_none_of : (b : Option (Bor Statement)) → ((d : Bor Statement) → b ≡ Some d → ⊥) → b ≡ None
+pub is_none_of : (b : Option (Bor Statement)) → ((d : Bor Statement) → b ≡ Some d → ⊥) → b ≡ None
 is_none_of None n = refl
 is_none_of (Some d) n = absurd (n d refl)
 

@@ -4,4 +4,5 @@ pub mod Loops
 pub mod Ordered
 pub mod Jumping
 pub mod Gathering
+pub mod Standing
 pub mod Casing

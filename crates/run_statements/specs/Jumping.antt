@@ -1,5 +1,5 @@
 -- Where the jumps of a program go: what is found among the labels of a function, and among the cases of a `switch`.
-use Rattle.std.specs.Prelude.{◌≡◌, ℕ, suc, ℤ, true, false, List, [], ◌∷◌, length, map, slice_get, Option, Some, None}
+use Rattle.std.specs.Prelude.{◌≡◌, ℕ, suc, ℤ, true, false, List, [], ◌∷◌, length, map, Option, Some, None}
 use Rattle.std.specs.Borrow.{Bor}
 use Rattle.c_model.specs.Control.{to_label, to_case, to_default, find, first_of}
 use Rattle.run_control.specs.declared.links.Link.{Link}
@@ -9,9 +9,10 @@ use Rattle.run_control.specs.declared.statement.Switch.{Switch}
 use Rattle.run_control.specs.declared.targets.Found.{Found}
 use Rattle.run_control.specs.Links.{work_at}
 use Rattle.run_control.specs.Search.{Finds}
-use Rattle.run_control.specs.Targets.{AllEqual, InRange, all_bodies, bodies}
+use Rattle.run_control.specs.Targets.{AllEqual, InRange, bodies}
 use Rattle.run_control.specs.View.{Meaning, stmt_of}
 use Rattle.run_statements.specs.declared.jumps.Jumps.{Jumps}
+use Rattle.run_statements.specs.Switches.{switches_of_all}
 
 -- these labels were found in the body, and the links round them are there
 pub record AreLabelsOf (links : List Link) (found : List Found) (body : Statement) : Type 0 where
@@ -47,41 +48,19 @@ HaveCases links n _ _ = ⊥
 abbrev pub cases_of : Jumps → List (List Found)
 cases_of j = map (λ v. v.items) j.cases.items
 
--- the statement, or those of a block, stand in the body: each `switch` number in them stands for the body that stands there, where those of the body do
-abbrev pub IsWithin : (body s : Statement) → Type 0
-IsWithin body s = (m : Meaning) → AllEqual (bodies m body) → AllEqual (bodies m s)
-
-abbrev pub AreWithin : (body : Statement) → List Statement → Type 0
-AreWithin body ss = (m : Meaning) → AllEqual (bodies m body) → AllEqual (all_bodies m ss)
-
--- a `switch` that stands in the body
-abbrev pub IsHeld : (body : Statement) → Switch → Type 0
-IsHeld body s = (m : Meaning) → AllEqual (bodies m body) → (m.body s.number ≡ stmt_of m s.body) × AllEqual (bodies m s.body)
-
-abbrev pub AreHeld : (body : Statement) → List (Bor Switch) → Type 0
-AreHeld body [] = Unit {0}
-AreHeld body (s ∷ ss) = IsHeld body s.now × AreHeld body ss
-
--- .. in that of one of the functions
-abbrev pub IsHeldIn : List (Option (Bor Statement)) → Switch → Type 0
-IsHeldIn bs s = (n : ℕ) × (b : Bor Statement) × (slice_get bs n ≡ Some (Some b)) × IsHeld b.now s
-
-abbrev pub AreHeldIn : List (Option (Bor Statement)) → List Switch → Type 0
-AreHeldIn bs [] = Unit {0}
-AreHeldIn bs (s ∷ ss) = IsHeldIn bs s × AreHeldIn bs ss
-
--- the functions in turn, with their bodies where they are defined, and the `switch` statements in these, in turn by their numbers
+-- the functions in turn have these labels, with their bodies where they are defined, and the `switch` statements in the bodies, in turn by their numbers,
+-- these cases
 pub record HasJumps (j : Jumps) (bs : List (Option (Bor Statement))) : Type 0 where
   pub labels : HaveLabels j.links.items bs (labels_of j)
-  pub switches : List Switch
-  pub cases : HaveCases j.links.items 0 switches (cases_of j)
-  pub held : AreHeldIn bs switches
+  pub cases : HaveCases j.links.items 0 (switches_of_all bs) (cases_of j)
 
 -- the place of this label in the body is the one that the definitions find, where each `switch` number stands for the body that stands there
 abbrev pub IsFound : List Link → Statement → (label : ℕ) → Place → Type 0
 IsFound links body label place = (m : Meaning) → AllEqual (bodies m body) → work_at m links (Some place) ≡ find (to_label label) (stmt_of m body)
 
--- the place of the case of this value in the body, of `default` where it has none, is the one that the definitions find (6.8.4.2p5)
-abbrev pub IsCase : List Link → (body : Statement) → ℤ → Option Place → Type 0
-IsCase links body z target =
-    (m : Meaning) → AllEqual (bodies m body) → work_at m links target ≡ first_of (find (to_case z) (stmt_of m body)) (find to_default (stmt_of m body))
+-- The place of the case of this value in the `switch` of this number, of `default` where it has no such case, is the one that the definitions find
+-- (6.8.4.2p5, p7), where each `switch` number in this body of a function stands for the body that stands there. Where it has neither, there is none.
+abbrev pub IsCase : List Link → Statement → (number : ℕ) → ℤ → Option Place → Type 0
+IsCase links body number z target =
+    (m : Meaning) → AllEqual (bodies m body)
+    → work_at m links target ≡ first_of (find (to_case z) (m.body number)) (find to_default (m.body number))

@@ -1,11 +1,12 @@
 // Where jumps go: the labels of functions, and the cases of `switch` statements.
 
-ghost use Rattle.std.specs.Prelude.{◌≡◌, ◌≤◌, [], ◌∷◌, ◌++◌, List, length, map, Option, Some, slice_get, IfOk, OnOk};
+ghost use Rattle.std.specs.Prelude.{◌≡◌, ℕ, ◌≤◌, [], ◌∷◌, ◌++◌, List, length, map, Option, Some, slice_get, IfOk, OnOk};
 ghost use Rattle.std.specs.Borrow.{Bor};
 ghost use Rattle.run_control.specs.declared.statement.Statement.{Statement as StatementOf};
 ghost use Rattle.run_control.specs.declared.statement.Switch.{Switch as SwitchOf};
 ghost use Rattle.run_control.specs.Search.{Older};
 ghost use Rattle.run_statements.specs.Jumping.{HasJumps, HaveCases, IsCase, IsFound, cases_of};
+ghost use Rattle.run_statements.specs.Switches.{StandsIn};
 
 use crate::switches_of;
 use run_control::{Found, Link, Place, Statement, Switch, Target, find, targets_of};
@@ -81,8 +82,9 @@ impl<'p> Jumps<'p> {
 
     /// Where the `switch` of this number goes by the value of its test, if there is a case for it (6.8.4.2p5).
     pub fn case(&self, switch: u32, value: i128) -> Result<Option<Place<'p>>, NoMemory>
-        ensures { (bodies : List (Option (Bor StatementOf))) (has : HasJumps self.now bodies) (s : SwitchOf) → slice_get has.switches switch ≡ Some s
-            → IfOk result (IsCase self.now.links.items s.body value) }
+        ensures { (bodies : List (Option (Bor StatementOf))) (function : ℕ) (body : Bor StatementOf) (s : SwitchOf) → HasJumps self.now bodies
+            → slice_get bodies function ≡ Some (Some body) → StandsIn body.now s → s.number ≡ switch
+            → IfOk result (IsCase self.now.links.items body.now switch value) }
     {
         let Some(cases) = self.cases.get(switch as usize) else {
             return Err(NoMemory);

@@ -1,8 +1,7 @@
 //! The `switch` statements in a statement.
 
-ghost use Rattle.std.specs.Prelude.{OnOk};
-ghost use Rattle.run_control.specs.declared.statement.Statement.{Statement as StatementOf};
-ghost use Rattle.run_statements.specs.Jumping.{AreHeld, AreWithin, IsWithin};
+ghost use Rattle.std.specs.Prelude.{◌≡◌, ◌++◌, map, OnOk};
+ghost use Rattle.run_statements.specs.Switches.{switches_in, switches_in_all};
 
 use run_control::{Statement, Switch};
 use ub_base::NoMemory;
@@ -13,7 +12,7 @@ pub fn switches_of<'p>(
     statement: &'p Statement,
     found: &mut Vec<&'p Switch>,
 ) -> Result<(), NoMemory>
-    ensures { OnOk result ((body : StatementOf) → IsWithin body statement.now → AreHeld body found.old.items → AreHeld body found.new.items) }
+    ensures { OnOk result (map (λ s. s.now) found.new.items ≡ map (λ s. s.now) found.old.items ++ switches_in statement.now) }
 {
     match statement {
         Statement::Block(block) => switches_in(block.statements.as_slice(), found),
@@ -47,7 +46,7 @@ fn switches_in<'p>(
     statements: &'p [Statement],
     found: &mut Vec<&'p Switch>,
 ) -> Result<(), NoMemory>
-    ensures { OnOk result ((body : StatementOf) → AreWithin body statements.now → AreHeld body found.old.items → AreHeld body found.new.items) }
+    ensures { OnOk result (map (λ s. s.now) found.new.items ≡ map (λ s. s.now) found.old.items ++ switches_in_all statements.now) }
 {
     for statement in statements {
         switches_of(statement, found)?;

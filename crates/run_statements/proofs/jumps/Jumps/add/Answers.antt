@@ -2,13 +2,13 @@ use Rattle.std.proofs.Common.{◌∙◌, ◌++◌, ◌∷◌, [], ap, refl, Vec,
 use Rattle.run_control.specs.declared.targets.Found.{Found}
 use Rattle.run_statements.specs.declared.jumps.Jumps.{Jumps}
 use Rattle.run_statements.proofs.Casing.{add_body, add_none}
-use Rattle.run_statements.proofs.Jumping.{jumps_for_body, jumps_for_none}
+use Rattle.run_statements.proofs.Jumping.{is_none_of, jumps_for_body, jumps_for_none}
 use Rattle.run_statements.proofs.jumps.Jumps.add.Goals as goal
 
 pub returns-in_default : goal.returns-in_default
 returns-in_default c = λ bodies has.
     let new : Jumps = record c.args.self.now { labels = c.push.new.self } in
-    add_none c.args.self.now new bodies c.args.body refl refl
+    add_none c.args.self.now new bodies c.args.body (is_none_of c.args.body c.in_default.not-Some) refl refl
     (jumps_for_none c.args.self.now new c.new.result bodies c.args.body c.in_default.not-Some refl c.in_ok-push.ensures.items c.new.ensures.items) has
 
 pub returns : goal.returns
