@@ -19,7 +19,8 @@ use Rattle.run_statements.specs.declared.jumps.Jumps.{Jumps}
 use Rattle.run_statements.specs.Jumping.{HasJumps, IsFound}
 use Rattle.run_state.specs.declared.machine.Machine.{Machine}
 use Rattle.run_state.specs.Meaning.{StandsCode}
-use Rattle.run_machine.specs.Answering.{AnswersStep, HasLabels}
+use Rattle.run_machine.specs.Answering.{AnswersStep}
+use Rattle.run_machine.specs.Jumps.{HasLabels}
 use Rattle.run_machine.proofs.Staying.{left_answers, with_work}
 
 -- the label's function has a body

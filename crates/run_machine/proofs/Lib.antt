@@ -27,6 +27,7 @@ mod Results
 mod Returning
 mod Rooms
 mod RootValue
+mod Selecting
 mod Settling
 mod Standing
 mod Started

@@ -70,10 +70,12 @@ use Rattle.run_machine.specs.Ended.{AnswersEnd}
 use Rattle.run_machine.specs.Ending.{CanEnd, IsResultOf}
 use Rattle.run_machine.specs.Leaving.{GoesStill}
 use Rattle.run_machine.specs.Moving.{GoesOn}
-use Rattle.run_machine.specs.Settling.{CanSettle, GoesBehind, HasUsed, is_select, left_by}
+use Rattle.run_machine.specs.Jumps.{HasCases}
+use Rattle.run_machine.specs.Settling.{CanSettle, GoesBehind, HasSelected, HasUsed, left_by}
 use Rattle.run_machine.proofs.Aside.{operand_aside}
 use Rattle.run_machine.proofs.Opened.{one_open}
 use Rattle.run_machine.proofs.RootValue.{root_gives}
+use Rattle.run_machine.proofs.Selecting.{selected_todo}
 use Rattle.run_machine.proofs.Staying.{no_memory}
 use Rattle.run_machine.proofs.Still.{above_same, depth_same, frame_aside, frames_aside, tables_aside}
 
@@ -125,12 +127,16 @@ module _ (world : World) (st : State) (e : Begun) (begun : st.top.begun ≡ Some
   settles_ends ends = steps_by End (moves_by true ends)
 
 -- ---- what is left to do, and the result
-after_same : (m : Meaning) (b : Bool) (z : ℤ) (how : Use) (rest : Todo) → is_select (use_of m how) ≡ false →
+-- of a value that isn't the test of a `switch`
+abbrev pub IsNoTest : Use → Type 0
+IsNoTest how = (b : Bor Switch) → how ≡ for_use.Select b → ⊥
+
+after_same : (m : Meaning) (b : Bool) (z : ℤ) (how : Use) (rest : Todo) → IsNoTest how →
     after m b z how rest ≡ work_after b z (use_of m how) rest
 after_same m b z for_use.Unused rest h = refl
 after_same m b z (for_use.Branch s t) rest h = refl
 after_same m b z (for_use.Enter s) rest h = refl
-after_same m b z (for_use.Select s) rest h = absurd (true≢false h)
+after_same m b z (for_use.Select s) rest h = absurd (h s refl)
 after_same m b z (for_use.GoRound s) rest h = refl
 after_same m b z (for_use.GoAgain s) rest h = refl
 after_same m b z for_use.Result rest h = refl
@@ -261,16 +267,21 @@ module _ (world : World) (meaning : Option ℕ → Meaning) (m : Machine) (stage
   v = root_value world st.top x.e
 
   -- what is left to do once the value was used
-  used_todo : (ws : List Work) →
-      todo_of mg ws ≡ after mg (truth (value_in m.memory x.value)) (integer_of (value_in m.memory x.value)) m.top.how (todo_of mg m.work.now) →
+  work_todo : (ws : List Work) →
+      todo_of mg ws ≡ work_after (truth (value_in m.memory x.value)) (integer_of (value_in m.memory x.value)) (use_of mg m.top.how) (todo_of mg m.work.now) →
       todo_of mg ws ≡ (settled world st.top v x.e.what).todo
-  used_todo ws now =
+  work_todo ws now =
       now
-      ∙ after_same mg (truth (value_in m.memory x.value)) (integer_of (value_in m.memory x.value)) m.top.how (todo_of mg m.work.now)
-      (ap is_select x.how ∙ x.can.chooses)
       ∙ ap (λ (w : Value). work_after (truth w) (integer_of w) (use_of mg m.top.how) (todo_of mg m.work.now)) x.seen
       ∙ ap (λ (u : todo.Use). work_after (truth v) (integer_of v) u (todo_of mg m.work.now)) x.how
       ∙ ap (work_after (truth v) (integer_of v) x.e.what) x.todo
+
+  used_todo : IsNoTest m.top.how → (ws : List Work) →
+      todo_of mg ws ≡ after mg (truth (value_in m.memory x.value)) (integer_of (value_in m.memory x.value)) m.top.how (todo_of mg m.work.now) →
+      todo_of mg ws ≡ (settled world st.top v x.e.what).todo
+  used_todo other ws now =
+      work_todo ws
+      (now ∙ after_same mg (truth (value_in m.memory x.value)) (integer_of (value_in m.memory x.value)) m.top.how (todo_of mg m.work.now) other)
 
   used_result : (left : Option Kept_value) → left ≡ left_by m.top.how x.value m.left →
       (settled world st.top v x.e.what).result ≡ result_seen m.memory m.top.function left
@@ -403,24 +414,50 @@ module _ (m m2 m3 : Machine) (stage : Stage) (world : World) (meaning : Option �
   settled_by r goes still ends false on = goes_on r on goes (still k (ap (λ (t : Todo). is_nothing (ready_work t)) now ∙ on))
 
 pub settle_answers : QuietGives → RoomGives → (m m2 m3 : Machine) (stage : Stage) (r : Result (Option ℕ) Halt) →
-    HasUsed (closed_in m) m.top.how stage.value m2 → OnOk r ((k : Meaning) → GoesOn k m2.work m3.work) → StillGoes m2 m3 r → EndsThen m2 m3 r →
-    m.top.stage ≡ Some stage → AnswersControl m m3 r
-settle_answers quiet room m m2 m3 stage r used goes still ends is = λ world meaning st s may items.
+    IsNoTest m.top.how → HasUsed (closed_in m) m.top.how stage.value m2 → OnOk r ((k : Meaning) → GoesOn k m2.work m3.work) → StillGoes m2 m3 r →
+    EndsThen m2 m3 r → m.top.stage ≡ Some stage → AnswersControl m m3 r
+settle_answers quiet room m m2 m3 stage r other used goes still ends is = λ world meaning st s may items.
     let k = meaning m.top.function in
     let x = settles quiet room world meaning m stage st is s may items in
     let gives : operand_in (closed_in m) stage.value ≡ Some x.value = operand_closed m m.left None stage.value ∙ x.gives in
     settled_by m m2 m3 stage world meaning st is s may.within items x used.rest used.below
-    (used_todo world meaning m stage st is s x m2.work.now (used.now x.value gives m.memory k)) (used.left x.value gives) r goes still ends
+    (used_todo world meaning m stage st is s x other m2.work.now (used.now x.value gives m.memory k)) (used.left x.value gives) r goes still ends
     (is_nothing (ready_work (todo_after world meaning m stage st x))) refl
 
--- of the test of a `switch` nothing is said
-pub select_untold : QuietGives → RoomGives → (m n : Machine) (stage : Stage) (b : Bor Switch) (r : Result (Option ℕ) Halt) →
-    m.top.how ≡ for_use.Select b → m.top.stage ≡ Some stage → AnswersControl m n r
-select_untold quiet room m n stage b r how is = λ world meaning st s may items.
+-- .. or a case of a `switch` comes next
+case_todo : (world : World) (meaning : Option ℕ → Meaning) (m m2 : Machine) (stage : Stage) (st : State) (b : Bor Switch) (what : todo.Use) (behind : Todo)
+    (h : Kept_value) (n : Option ℕ) → m.top.function ≡ n → GoesBehind n m st what behind → use_of (meaning n) (for_use.Select b) ≡ what →
+    HasCases m.code.now m.jumps n (for_use.Select b) → Stands world meaning m st → HasSelected (closed_in m) b.now.number stage.value m2 →
+    operand_in (closed_in m) stage.value ≡ Some h →
+    todo_of (meaning n) m2.work.now ≡ work_after (truth (value_in m.memory h)) (integer_of (value_in m.memory h))
+    (use_of (meaning n) (for_use.Select b)) (todo_of (meaning n) m.work.now)
+case_todo world meaning m m2 stage st b what behind h None is goes how c s selects gives = absurd (let e = goes.0 in cc)
+case_todo world meaning m m2 stage st b what behind h (Some n) is goes how c s selects gives =
+    selected_todo world meaning m.program.now (closed_in m) m2 n b stage.value h m.memory s.code c selects gives
+
+case_after : (world : World) (meaning : Option ℕ → Meaning) (m m2 : Machine) (stage : Stage) (st : State) (b : Bor Switch) → m.top.how ≡ for_use.Select b →
+    HasSelected (closed_in m) b.now.number stage.value m2 → Stands world meaning m st → (x : Settles world meaning m stage st) →
+    operand_in (closed_in m) stage.value ≡ Some x.value →
+    todo_of (meaning m.top.function) m2.work.now ≡ work_after (truth (value_in m.memory x.value)) (integer_of (value_in m.memory x.value))
+    (use_of (meaning m.top.function) m.top.how) (todo_of (meaning m.top.function) m.work.now)
+case_after world meaning m m2 stage st b how selects s x gives =
+    let k = meaning m.top.function in
+    case_todo world meaning m m2 stage st b x.e.what (settled world st.top (root_value world st.top x.e) x.e.what).todo x.value m.top.function refl x.can.behind
+    (ap (use_of k) (sym how) ∙ x.how) (subst (λ (u : Use). HasCases m.code.now m.jumps m.top.function u) how x.can.chooses) s selects gives
+    ∙ ap (λ (u : Use). work_after (truth (value_in m.memory x.value)) (integer_of (value_in m.memory x.value)) (use_of k u) (todo_of k m.work.now)) (sym how)
+
+pub select_answers : QuietGives → RoomGives → (m m2 m3 : Machine) (stage : Stage) (b : Bor Switch) (r : Result (Option ℕ) Halt) →
+    m.top.how ≡ for_use.Select b → HasSelected (closed_in m) b.now.number stage.value m2 → OnOk r ((k : Meaning) → GoesOn k m2.work m3.work) →
+    StillGoes m2 m3 r → EndsThen m2 m3 r → m.top.stage ≡ Some stage → AnswersControl m m3 r
+select_answers quiet room m m2 m3 stage b r how selects goes still ends is = λ world meaning st s may items.
     let x = settles quiet room world meaning m stage st is s may items in
-    let selects : true ≡ is_select x.e.what =
-    ap (λ (u : Use). is_select (use_of (meaning m.top.function) u)) (sym how) ∙ ap is_select x.how in
-    absurd (true≢false (selects ∙ x.can.chooses))
+    let gives : operand_in (closed_in m) stage.value ≡ Some x.value = operand_closed m m.left None stage.value ∙ x.gives in
+    let lefts : m2.left ≡ m.left = ap (λ (y : Machine). y.left) selects.rest in
+    settled_by m m2 m3 stage world meaning st is s may.within items x
+    (selects.rest ∙ ap (λ (l : Option Kept_value). record (closed_in m) { work = m2.work; left = l }) (sym lefts)) selects.below
+    (work_todo world meaning m stage st is s x m2.work.now (case_after world meaning m m2 stage st b how selects s x gives))
+    (lefts ∙ ap (λ (u : Use). left_by u x.value m.left) (sym how)) r goes still ends
+    (is_nothing (ready_work (todo_after world meaning m stage st x))) refl
 
 -- want of memory
 pub settle_wanted : (m n : Machine) (stage : Stage) (e : Halt) → e ≡ halt.NoMemory → m.top.stage ≡ Some stage → AnswersControl m n (Err e)

@@ -1,6 +1,5 @@
 -- What control steps come to is what the control steps of the definitions come to (own).
 use Rattle.std.specs.Prelude.{◌≡◌, ℕ, ◌+◌, ◌<◌, ◌^◌, true, List, [], ◌∷◌, length, map, slice_get, is_some, Option, Some, None, Result, Ok, Err}
-use Rattle.std.specs.Borrow.{Bor}
 use Rattle.ub_base.specs.declared.names.Item.{Item}
 use Rattle.ub_base.specs.declared.names.ObjName.{ObjName}
 use Rattle.addr_map.specs.Rows.{row_of}
@@ -11,7 +10,6 @@ use Rattle.c_model.specs.OpenBlocks.{Closes, NoEntersBehind}
 use Rattle.c_model.specs.Steps.{Begun, Control, Local, MayPick}
 use Rattle.c_model.specs.World.{World}
 use Rattle.c_model.specs.Runs.{Entry, Outcome, Raises, Over, No_row, Ends, Running, State, depth_of, limit_passed, step}
-use Rattle.run_control.specs.declared.statement.Statement.{Statement}
 use Rattle.run_control.specs.declared.work.Step.{Step}
 use Rattle.run_control.specs.declared.work.Step.TheVariants as taking
 use Rattle.run_control.specs.declared.moves.Move.{Move}
@@ -19,10 +17,8 @@ use Rattle.run_control.specs.declared.moves.Move.TheVariants.{Out, On, Back}
 use Rattle.run_control.specs.declared.work.Work.{Work}
 use Rattle.run_control.specs.View.{Meaning, step_of, todo_of}
 use Rattle.run_code.specs.declared.steps.BlockCode.{BlockCode}
-use Rattle.run_code.specs.declared.steps.FunctionCode.{FunctionCode}
 use Rattle.run_code.specs.declared.whole.Code.{Code}
 use Rattle.run_statements.specs.declared.jumps.Jumps.{Jumps}
-use Rattle.run_statements.specs.Jumping.{HasJumps}
 use Rattle.run_state.specs.declared.halt.Halt.{Halt}
 use Rattle.run_state.specs.declared.halt.Halt.TheVariants as halt
 use Rattle.run_state.specs.declared.machine.Machine.{Machine}
@@ -32,6 +28,7 @@ use Rattle.run_machine.specs.Beginning.{CanBegin}
 use Rattle.run_machine.specs.declared.pick.Pick.{Pick}
 use Rattle.run_machine.specs.declared.pick.Pick.TheVariants as pick
 use Rattle.run_machine.specs.Ending.{CanEnd, is_last}
+use Rattle.run_machine.specs.Jumps.{HasLabels}
 use Rattle.run_machine.specs.Settling.{CanSettle}
 use Rattle.run_machine.specs.Entering.{CanEnterFirst}
 
@@ -63,20 +60,6 @@ Answers world meaning (Err halt.Unplaced) m o = ((x : ObjName) → row_of world.
 Answers world meaning (Err halt.NoMemory) m o = Unit {0}
 
 -- 2. Control steps.
-
--- `goto`: the labels that are kept for the function of the frame are those of its body in the code
-pub record HasLabelsOf (code : Code) (jumps : Jumps) (n : ℕ) : Type 0 where
-  pub function : FunctionCode
-  pub bodies : List (Option (Bor Statement))
-  pub body : Bor Statement
-  pub at : slice_get code.functions.items n ≡ Some (Some function)
-  pub labels : HasJumps jumps bodies
-  pub there : slice_get bodies n ≡ Some (Some body)
-  pub same : body.now ≡ function.body
-
-abbrev pub HasLabels : Code → Jumps → Option ℕ → Type 0
-HasLabels code jumps None = ⊥
-HasLabels code jumps (Some n) = HasLabelsOf code jumps n
 
 -- A declaration: the blocks that are open are those that what is left to do leaves, and behind the next control step none is entered; so it is in each
 -- frame of a run but behind a jump into blocks (`law_open_blocks` of c_model).

@@ -1,5 +1,6 @@
 pub mod Picks
 pub mod Moving
+pub mod Jumps
 pub mod Answering
 pub mod Leaving
 pub mod Beginning

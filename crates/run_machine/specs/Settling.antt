@@ -1,8 +1,9 @@
 -- A full expression is settled: its value is used (6.8p4).
-use Rattle.std.specs.Prelude.{◌≡◌, ℕ, true, false, Bool, List, [], slice_get, Option, Some, None}
+use Rattle.std.specs.Prelude.{◌≡◌, ℕ, true, false, List, [], ◌∷◌, slice_get, Option, Some, None}
+use Rattle.std.specs.Borrow.{Bor}
 use Rattle.prov_memory.specs.Memory.{Kept}
 use Rattle.prov_memory.specs.declared.value.Value.{Value as Kept_value}
-use Rattle.c_model.specs.Control.{Todo, ready_work, To_select, Unused}
+use Rattle.c_model.specs.Control.{Todo, Break_here, Unused, ready_work, selected}
 use Rattle.c_model.specs.Control as todo
 use Rattle.c_model.specs.Program.{tree_of}
 use Rattle.c_model.specs.Runs.{State}
@@ -12,9 +13,14 @@ use Rattle.c_model.specs.World.{World}
 use Rattle.c_typed.specs.Tree.{is_quiet}
 use Rattle.program_view.specs.Trees.{expr_of}
 use Rattle.run_acts.specs.Views.{value_in}
+use Rattle.run_control.specs.declared.statement.Statement.{Statement}
+use Rattle.run_control.specs.declared.statement.Switch.{Switch}
 use Rattle.run_control.specs.declared.work.Use.{Use}
 use Rattle.run_control.specs.declared.work.Use.TheVariants as for_use
+use Rattle.run_control.specs.Targets.{AllEqual, bodies}
 use Rattle.run_control.specs.View.{Meaning, after, is_nothing, todo_of}
+use Rattle.run_statements.specs.Jumping.{HasJumps}
+use Rattle.run_statements.specs.Switches.{StandsIn}
 use Rattle.run_code.specs.declared.steps.Expression.{Expression}
 use Rattle.run_code.specs.declared.steps.Operand.{Operand}
 use Rattle.run_code.specs.Resolved.{resolved}
@@ -22,6 +28,7 @@ use Rattle.run_state.specs.declared.machine.Machine.{Machine}
 use Rattle.run_state.specs.declared.machine.Stage.{Stage}
 use Rattle.run_state.specs.Operands.{AreAddresses, IsNamed, operand_in}
 use Rattle.run_machine.specs.Ending.{CanEnd}
+use Rattle.run_machine.specs.Jumps.{HasCases}
 
 -- 1. What the code does.
 
@@ -38,11 +45,16 @@ pub record HasUsed (old : Machine) (how : Use) (o : Operand) (new : Machine) : T
   pub now : (h : Kept_value) → operand_in old o ≡ Some h → (k : Kept) (m : Meaning)
       → todo_of m new.work.now ≡ after m (truth (value_in k h)) (integer_of (value_in k h)) how (todo_of m old.work.now)
 
--- 2. What is asked of a machine, and of the state that it stands for: so it is in each state of a run.
+-- The `switch` of this number goes where the definitions go by the value of the operand (6.8.4.2p5), wherever it stands in the body of a function, for each
+-- meaning in which each `switch` number in that body stands for the body that stands there. Nothing else changes.
+pub record HasSelected (old : Machine) (n : ℕ) (o : Operand) (new : Machine) : Type 0 where
+  pub rest : new ≡ record old { work = new.work }
+  pub below : new.work.below ≡ old.work.below
+  pub now : (h : Kept_value) → operand_in old o ≡ Some h → (k : Kept) (bs : List (Option (Bor Statement))) (function : ℕ) (body : Bor Statement) (s : Switch)
+      → HasJumps old.jumps bs → slice_get bs function ≡ Some (Some body) → StandsIn body.now s → s.number ≡ n → (m : Meaning) → AllEqual (bodies m body.now)
+      → todo_of m new.work.now ≡ selected (integer_of (value_in k h)) (m.body n) (Break_here ∷ todo_of m old.work.now)
 
-abbrev pub is_select : todo.Use → Bool
-is_select (To_select s) = true
-is_select what = false
+-- 2. What is asked of a machine, and of the state that it stands for: so it is in each state of a run.
 
 -- Behind it a function's frame has something left to do, its blocks at least. The value of an isolated initializer has no use, and its frame, which
 -- ends where nothing else is left to do, can be ended.
@@ -57,11 +69,11 @@ pub record IsUsable (m : Machine) (f : Scene) (laid : Expression) : Type 0 where
   pub value : laid.value ≡ resolved firsts laid.root.now 0
   pub named : is_quiet (tree_of (expr_of laid.root.now)) ≡ true → IsNamed (record m { items = [] }) firsts f.blocks (expr_of laid.root.now)
 
--- The full expression that is open in the top frame can be settled. That its value isn't that of the test of a `switch` is asked, too: of these nothing is
--- said yet. Rows begin at addresses.
+-- The full expression that is open in the top frame can be settled. Where it is the test of a `switch`, the cases are those of the function's body. Rows
+-- begin at addresses.
 pub record CanSettle (world : World) (m : Machine) (st : State) (e : Begun) : Type 0 where
   pub behind : GoesBehind m.top.function m st e.what (settled world st.top (root_value world st.top e) e.what).todo
-  pub chooses : is_select e.what ≡ false
+  pub chooses : HasCases m.code.now m.jumps m.top.function m.top.how
   pub addresses : AreAddresses world.rows
   pub usable : (stage : Stage) (laid : Expression) → m.top.stage ≡ Some stage → slice_get m.code.now.expressions.items stage.expression ≡ Some laid
       → IsUsable m st.top.scene laid

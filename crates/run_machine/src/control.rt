@@ -14,7 +14,7 @@ ghost use Rattle.run_machine.specs.Ended.{AnswersEnd};
 ghost use Rattle.run_machine.specs.Entering.{BearsAll, CanBear, CreatesOne, Enters};
 ghost use Rattle.run_machine.specs.Leaving.{GoesStill, LeavesBlock};
 ghost use Rattle.run_machine.specs.Moving.{GoesOn, IsGone, StepLeaves, TakesStep};
-ghost use Rattle.run_machine.specs.Settling.{HasUsed, left_by};
+ghost use Rattle.run_machine.specs.Settling.{HasSelected, HasUsed, left_by};
 ghost use Rattle.run_state.specs.Operands.{operand_in};
 ghost use Rattle.prov_memory.specs.declared.value.Value.{Value as Kept_value};
 
@@ -378,6 +378,7 @@ fn select(machine: &mut Machine, switch: u32, operand: Operand) -> Result<(), No
     ensures below { OnOk result (machine.new.work.below ≡ machine.old.work.below) }
     ensures now { OnOk result ((target : Option Place) × ((m : Meaning) → todo_of m machine.new.work.now ≡ moved_in (work_at m
         machine.old.jumps.links.items target) (Break_here ∷ todo_of m machine.old.work.now))) }
+    ensures selects { OnOk result (HasSelected machine.old switch operand machine.new) }
 {
     let value = machine.integer(operand);
     let target = machine.jumps.case(switch, value)?;

@@ -145,7 +145,7 @@ module _ (m : Meaning) where
   pub stand_in : (s : Statement) → StatementStands s
   stand_in = ind-Statement StatementStands AgainStands BlockStands RoundStands SwitchStands
       (λ x y is. rolled_statement x (subst StatementAt is (at_statement y)))
-      (λ x y is. ?)
-      (λ x y is. ?)
-      (λ x y is. ?)
-      (λ x y is. ?)
+      (λ x y is. at_again (roll-Again x) (subst (λ (z : Again-F Statement Again Block Round Switch). StatementStands z.body) is y.body.1))
+      (λ x y is. at_block (roll-Block x) y.statements (sym (ap (λ (z : Block-F Statement Again Block Round Switch). z.statements) is)))
+      (λ x y is. at_round (roll-Round x) (subst (λ (z : Round-F Statement Again Block Round Switch). StatementStands z.body) is y.body.1))
+      (λ x y is. at_switch (roll-Switch x) (subst (λ (z : Switch-F Statement Again Block Round Switch). StatementStands z.body) is y.body.1))

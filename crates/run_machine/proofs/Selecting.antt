@@ -1,0 +1,68 @@
+-- The case of a `switch` comes next as the definitions say (6.8.4.2p5).
+use Rattle.std.proofs.Common.{◌≡◌, ℕ, Bool, true, false, refl, sym, ap, ◌∙◌, subst, List, ◌∷◌, ℤ, Option, Some, slice_get}
+use Rattle.std.specs.Borrow.{Bor}
+use Rattle.prov_memory.specs.Memory.{Kept}
+use Rattle.prov_memory.specs.declared.value.Value.{Value as Kept_value}
+use Rattle.c_model.specs.Control as todo
+use Rattle.c_model.specs.Control.{Todo, Break_here, moved_in, selected, work_after}
+use Rattle.c_model.specs.Program.{Stmt}
+use Rattle.c_model.specs.Values.{integer_of, truth}
+use Rattle.c_model.specs.World.{World}
+use Rattle.c_typed.specs.declared.program.Program.{Program}
+use Rattle.run_acts.specs.Views.{value_in}
+use Rattle.run_control.specs.declared.links.Place.{Place}
+use Rattle.run_control.specs.declared.statement.Statement.{Statement}
+use Rattle.run_control.specs.declared.statement.Statement.TheFolds.{the_lemmas}
+use Rattle.run_control.specs.declared.statement.Switch.{Switch}
+use Rattle.run_control.specs.declared.work.Use.TheVariants as for_use
+use Rattle.run_control.specs.Links.{work_at}
+use Rattle.run_control.specs.Targets.{AllEqual, bodies}
+use Rattle.run_control.specs.View.{Meaning, switch_of, todo_of, use_of}
+use Rattle.run_statements.specs.Jumping.{HasJumps, IsCase}
+use Rattle.run_statements.specs.Switches.{StandsIn}
+use Rattle.run_code.specs.declared.steps.Operand.{Operand}
+use Rattle.run_code.specs.declared.whole.Code.{Code}
+use Rattle.run_state.specs.declared.machine.Machine.{Machine}
+use Rattle.run_state.specs.Meaning.{StandsCode}
+use Rattle.run_state.specs.Operands.{operand_in}
+use Rattle.run_machine.specs.Jumps.{HasCasesOf}
+use Rattle.run_machine.specs.Settling.{HasSelected}
+
+-- ---- the code
+pub selected_so : (m m2 : Machine) (n : ℕ) (o : Operand) (z : ℤ) (target : Option Place) →
+    ((h : Kept_value) → operand_in m o ≡ Some h → (k : Kept) → z ≡ integer_of (value_in k h)) →
+    ((bs : List (Option (Bor Statement))) (function : ℕ) (body : Bor Statement) (s : Switch) → HasJumps m.jumps bs →
+    slice_get bs function ≡ Some (Some body) → StandsIn body.now s → s.number ≡ n → IsCase m.jumps.links.items body.now n z target) →
+    m2 ≡ record m { work = m2.work } → m2.work.below ≡ m.work.below →
+    ((k : Meaning) → todo_of k m2.work.now ≡ moved_in (work_at k m.jumps.links.items target) (Break_here ∷ todo_of k m.work.now)) →
+    HasSelected m n o m2
+selected_so m m2 n o z target value case rest below now = record {
+  rest = rest;
+  below = below;
+  now = λ h is k bs function body s has there stands number mg equal.
+      now mg
+      ∙ ap (λ (w : Option Todo). moved_in w (Break_here ∷ todo_of mg m.work.now)) (case bs function body s has there stands number mg equal)
+      ∙ ap (λ (y : ℤ). selected y (mg.body n) (Break_here ∷ todo_of mg m.work.now)) (value h is k);
+}
+
+-- ---- what is left to do is that of the definitions' use
+select_work : (b : Bool) (z : ℤ) (s : Stmt) (rest : Todo) → work_after b z (todo.To_select s) rest ≡ selected z s (Break_here ∷ rest)
+select_work true z s rest = refl
+select_work false z s rest = refl
+
+number_seen : (mg : Meaning) (b : Switch) → (switch_of mg b).number ≡ b.number
+number_seen mg b = search (rules, the_lemmas)
+
+pub selected_todo : (world : World) (meaning : Option ℕ → Meaning) (p : Program) (m m2 : Machine) (n : ℕ) (b : Bor Switch) (o : Operand) (h : Kept_value)
+    (k : Kept) → StandsCode world p m.code.now meaning → HasCasesOf m.code.now m.jumps n b.now → HasSelected m b.now.number o m2 → operand_in m o ≡ Some h →
+    todo_of (meaning (Some n)) m2.work.now ≡ work_after (truth (value_in k h)) (integer_of (value_in k h)) (use_of (meaning (Some n)) (for_use.Select b))
+    (todo_of (meaning (Some n)) m.work.now)
+selected_todo world meaning p m m2 n b o h k stands c selects gives =
+    let mg = meaning (Some n) in
+    let kept = c.kept in
+    let z = integer_of (value_in k h) in
+    let rest = todo_of mg m.work.now in
+    selects.now h gives k kept.bodies n kept.body b.now kept.labels kept.there (subst (λ (s : Statement). StandsIn s b.now) (sym kept.same) c.stands) refl mg
+    (subst (λ (s : Statement). AllEqual (bodies mg s)) (sym kept.same) (stands.switches n kept.function kept.at))
+    ∙ ap (λ (i : ℕ). selected z (mg.body i) (Break_here ∷ rest)) (sym (number_seen mg b.now))
+    ∙ sym (select_work (truth (value_in k h)) z (mg.body (switch_of mg b.now).number) rest)
