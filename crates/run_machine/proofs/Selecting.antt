@@ -1,6 +1,7 @@
 -- The case of a `switch` comes next as the definitions say (6.8.4.2p5).
 use Rattle.std.proofs.Common.{◌≡◌, ℕ, Bool, true, false, refl, sym, ap, ◌∙◌, subst, List, ◌∷◌, ℤ, Option, Some, slice_get}
 use Rattle.std.specs.Borrow.{Bor}
+use Rattle.std.specs.Prelude.{OnOk, Result, Ok, Err}
 use Rattle.prov_memory.specs.Memory.{Kept}
 use Rattle.prov_memory.specs.declared.value.Value.{Value as Kept_value}
 use Rattle.c_model.specs.Control as todo
@@ -10,12 +11,14 @@ use Rattle.c_model.specs.Values.{integer_of, truth}
 use Rattle.c_model.specs.World.{World}
 use Rattle.c_typed.specs.declared.program.Program.{Program}
 use Rattle.run_acts.specs.Views.{value_in}
+use Rattle.run_control.specs.declared.links.Link.{Link}
 use Rattle.run_control.specs.declared.links.Place.{Place}
 use Rattle.run_control.specs.declared.statement.Statement.{Statement}
 use Rattle.run_control.specs.declared.statement.Statement.TheFolds.{the_lemmas}
 use Rattle.run_control.specs.declared.statement.Switch.{Switch}
 use Rattle.run_control.specs.declared.work.Use.TheVariants as for_use
 use Rattle.run_control.specs.Links.{work_at}
+use Rattle.run_control.specs.Stacked.{Stacked}
 use Rattle.run_control.specs.Targets.{AllEqual, bodies}
 use Rattle.run_control.specs.View.{Meaning, switch_of, todo_of, use_of}
 use Rattle.run_statements.specs.Jumping.{HasJumps, IsCase}
@@ -44,6 +47,18 @@ selected_so m m2 n o z target value case rest below now = record {
       ∙ ap (λ (w : Option Todo). moved_in w (Break_here ∷ todo_of mg m.work.now)) (case bs function body s has there stands number mg equal)
       ∙ ap (λ (y : ℤ). selected y (mg.body n) (Break_here ∷ todo_of mg m.work.now)) (value h is k);
 }
+
+pub selected_ok : {A E : Type 0} (r : Result A E) (m : Machine) (w : Stacked) (n : ℕ) (o : Operand) (z : ℤ) (target : Option Place) (links : List Link) →
+    links ≡ m.jumps.links.items → ((h : Kept_value) → operand_in m o ≡ Some h → (k : Kept) → z ≡ integer_of (value_in k h)) →
+    ((bs : List (Option (Bor Statement))) (function : ℕ) (body : Bor Statement) (s : Switch) → HasJumps m.jumps bs →
+    slice_get bs function ≡ Some (Some body) → StandsIn body.now s → s.number ≡ n → IsCase m.jumps.links.items body.now n z target) →
+    OnOk r (w.below ≡ m.work.below) →
+    OnOk r ((k : Meaning) → todo_of k w.now ≡ moved_in (work_at k links target) (Break_here ∷ todo_of k m.work.now)) →
+    OnOk r (HasSelected m n o (record m { work = w }))
+selected_ok (Err e) m w n o z target links same value case below now = tt
+selected_ok (Ok x) m w n o z target links same value case below now =
+    selected_so m (record m { work = w }) n o z target value case refl below
+    (subst (λ (ls : List Link). (k : Meaning) → todo_of k w.now ≡ moved_in (work_at k ls target) (Break_here ∷ todo_of k m.work.now)) same now)
 
 -- ---- what is left to do is that of the definitions' use
 select_work : (b : Bool) (z : ℤ) (s : Stmt) (rest : Todo) → work_after b z (todo.To_select s) rest ≡ selected z s (Break_here ∷ rest)
