@@ -1,7 +1,6 @@
 -- The cases of `switch` statements, as more is added.
-use Rattle.std.proofs.Common.{◌≡◌, ℕ, zero, suc, ◌+◌, ◌≤◌, ◌<◌, ℤ, true, false, Vec, Global, refl, sym, ap, ◌∙◌, subst, arith}
+use Rattle.std.proofs.Common.{◌≡◌, ℕ, zero, suc, ◌+◌, ◌≤◌, ◌<◌, ℤ, false, Vec, Global, refl, sym, ap, ◌∙◌, subst, arith}
 use Rattle.std.proofs.Common.{append_assoc, List, [], ◌∷◌, ◌++◌, length, map, take, Option, Some, None, slice_get, get_or}
-use Rattle.std.specs.Prelude.{option_map}
 use Rattle.std.specs.Borrow.{Bor}
 use Rattle.c_model.specs.Control.{Target, Todo, find, first_of, to_case, to_default}
 use Rattle.c_model.specs.Program.{Stmt}
@@ -180,7 +179,7 @@ pub case_else : (links : List Link) (found : List Found) (n : ℕ) (body : State
     AreCases links found n s → StandsIn body s → Looks found first (to_case z) → Looks found target to_default → IsCase links body n z target
 case_else links found n body s z first target is are stands looks after = numbered links body s n z target stands are.number (λ m equal.
     let none_first : None ≡ find (to_case z) (stmt_of m s.body) =
-        ap (work_at m links) (sym is) ∙ looks m links ∙ are.finds m equal (to_case z) refl in
+    ap (work_at m links) (sym is) ∙ looks m links ∙ are.finds m equal (to_case z) refl in
     after m links ∙ are.finds m equal to_default refl
     ∙ ap (λ (o : Option Todo). first_of o (find to_default (stmt_of m s.body))) none_first)
 
@@ -203,10 +202,10 @@ pub add_body : (old mid new : Jumps) (bs : List (Option (Bor Statement))) (b : O
     HasJumps new (bs ++ b ∷ [])
 add_body old mid new bs b d more gathered first is cases older longer so same empty gathers labels has =
     let own : map now_of more ≡ switches_in d.now =
-        ap (map now_of) same ∙ gathers ∙ ap (λ (ss : List (Bor Switch)). map now_of ss ++ switches_in d.now) empty in
+    ap (map now_of) same ∙ gathers ∙ ap (λ (ss : List (Bor Switch)). map now_of ss ++ switches_in d.now) empty in
     let all : switches_of_all (bs ++ b ∷ []) ≡ switches_of_all bs ++ map now_of more =
-        all_later bs b ∙ ap (λ (o : Option (Bor Statement)). switches_of_all bs ++ switches_of_all (o ∷ [])) is
-        ∙ ap (λ (ss : Switches). switches_of_all bs ++ ss) (append_nothing (switches_in d.now) ∙ sym own) in
+    all_later bs b ∙ ap (λ (o : Option (Bor Statement)). switches_of_all bs ++ switches_of_all (o ∷ [])) is
+    ∙ ap (λ (ss : Switches). switches_of_all bs ++ ss) (append_nothing (switches_in d.now) ∙ sym own) in
     record {
       labels = labels has.labels;
       cases = subst (λ (ss : Switches). HaveCases new.links.items 0 ss (cases_of new)) (sym all)

@@ -1,6 +1,6 @@
 -- The `switch` statements of a body are gathered.
-use Rattle.std.proofs.Common.{◌≡◌, ◌⊎◌, inl, inr, ℕ, zero, suc, ◌+◌, ◌≤◌, ◌<◌, ℤ, refl, sym, ap, ◌∙◌, subst, arith, append_assoc}
-use Rattle.std.proofs.Common.{List, [], ◌∷◌, ◌++◌, length, map, take, slice_get, get_or, Option, Some, None}
+use Rattle.std.proofs.Common.{◌≡◌, ◌⊎◌, inl, inr, ℕ, zero, suc, ◌+◌, ◌≤◌, ◌<◌, ℤ, refl, sym, ap, ◌∙◌, arith, append_assoc}
+use Rattle.std.proofs.Common.{List, [], ◌∷◌, ◌++◌, length, map, take, slice_get, get_or, Option, Some}
 use Rattle.std.specs.Borrow.{Bor}
 use Rattle.run_control.specs.declared.statement.Statement.{Statement, roll-Statement, para-roll-Statement, map-Statement}
 use Rattle.run_control.specs.declared.statement.Statement.TheOpen as form
@@ -128,7 +128,7 @@ module _ (s : Statement) where
       Adds (switches_in_all ss) old new → Adds (switches_in s) old new
   gather_block b ss old new is same g =
       let all : switches_in s ≡ switches_in_all b.statements =
-          ap switches_in (is ∙ sym (statement.rolls-Block b)) ∙ rolled (form.Block b) ∙ block_is b in
+      ap switches_in (is ∙ sym (statement.rolls-Block b)) ∙ rolled (form.Block b) ∙ block_is b in
       g ∙ ap (λ ys. map now_of old ++ ys) (ap switches_in_all same ∙ sym all)
 
   -- both branches
@@ -147,7 +147,7 @@ module _ (s : Statement) where
       mid ≡ old ++ b ∷ [] → Adds (switches_in a) mid new → Adds (switches_in s) old new
   gather_switch a b old mid new is same one g =
       let all : switches_in s ≡ b.now ∷ switches_in b.now.body =
-          ap switches_in (is ∙ sym (statement.rolls-Switch b.now)) ∙ rolled (form.Switch b.now) ∙ ap (λ ys. b.now ∷ ys) (switch_is b.now) in
+      ap switches_in (is ∙ sym (statement.rolls-Switch b.now)) ∙ rolled (form.Switch b.now) ∙ ap (λ ys. b.now ∷ ys) (switch_is b.now) in
       let along : (map now_of old ++ b.now ∷ []) ++ switches_in a ≡ map now_of old ++ (b.now ∷ switches_in a) = simp append_assoc in
       g ∙ ap (λ xs. map now_of xs ++ switches_in a) one ∙ ap (λ ys. ys ++ switches_in a) (map_next old b) ∙ along
       ∙ ap (λ ys. map now_of old ++ (b.now ∷ ys)) (ap switches_in same) ∙ ap (λ ys. map now_of old ++ ys) (sym all)
@@ -163,7 +163,7 @@ all_next (x ∷ ss) zero s at = append_nothing (switches_in x) ∙ ap switches_i
 all_next (x ∷ ss) (suc n) s at =
     ap (λ ys. switches_in x ++ ys) (all_next ss n s at)
     ∙ (let along : switches_in x ++ (switches_in_all (take n ss) ++ switches_in s) ≡ (switches_in x ++ switches_in_all (take n ss)) ++ switches_in s =
-        simp append_assoc in along)
+    simp append_assoc in along)
 
 pub gather_first : (ss : List Statement) (old : List (Bor Switch)) → Adds (switches_in_all (take 0 ss)) old old
 gather_first ss old = sym (append_nothing (map now_of old))
@@ -177,8 +177,8 @@ pub gather_next : (ss : List Statement) (n : ℕ) (s : Statement) (first old new
     Adds (switches_in_all (take n ss)) first old → Adds (switches_in s) old new → Adds (switches_in_all (take (n + 1) ss)) first new
 gather_next ss n s first old new lt is so_far g =
     let along : (map now_of first ++ switches_in_all (take n ss)) ++ switches_in s ≡ map now_of first ++ (switches_in_all (take n ss) ++ switches_in s) =
-        simp append_assoc in
-    g ∙ ap (λ ys. ys ++ switches_in s) so_far ∙ along 
+    simp append_assoc in
+    g ∙ ap (λ ys. ys ++ switches_in s) so_far ∙ along
     ∙ ap (λ ys. map now_of first ++ ys)
     (sym (all_next ss n s (got ss n s lt is)) ∙ ap (λ k. switches_in_all (take k ss)) (let one : suc n ≡ n + 1 = omega arith in one))
 

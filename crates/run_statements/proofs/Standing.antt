@@ -1,13 +1,13 @@
 -- Each `switch` that stands in a statement has its body there, where the bodies are what their numbers stand for.
-use Rattle.std.proofs.Common.{◌≡◌, ℕ, zero, suc, refl, sym, ap, ◌∙◌, subst, List, [], ◌∷◌, ◌++◌, map, slice_get, Option, Some}
+use Rattle.std.proofs.Common.{◌≡◌, sym, ap, ◌∙◌, subst, List, [], ◌∷◌, ◌++◌, map}
 use Rattle.run_control.specs.declared.statement.Statement.{Statement, roll-Statement, para-roll-Statement, map-Statement}
 use Rattle.run_control.specs.declared.statement.Statement.TheFolds.{ind-Statement}
 use Rattle.run_control.specs.declared.statement.Statement.TheOpen as form
 use Rattle.run_control.specs.declared.statement.Statement.TheOpen.{Statement-F, Block-F, Switch-F, Again-F, Round-F}
-use Rattle.run_control.specs.declared.statement.Block.{Block, roll-Block, map-Block, para-roll-Block, roll-out-Block, out-Block}
-use Rattle.run_control.specs.declared.statement.Switch.{Switch, roll-Switch, map-Switch, para-roll-Switch, roll-out-Switch, out-Switch}
-use Rattle.run_control.specs.declared.statement.Again.{Again, roll-Again, map-Again, para-roll-Again, roll-out-Again, out-Again}
-use Rattle.run_control.specs.declared.statement.Round.{Round, roll-Round, map-Round, para-roll-Round, roll-out-Round, out-Round}
+use Rattle.run_control.specs.declared.statement.Block.{Block, roll-Block}
+use Rattle.run_control.specs.declared.statement.Switch.{Switch, roll-Switch, para-roll-Switch, roll-out-Switch, out-Switch}
+use Rattle.run_control.specs.declared.statement.Again.{Again, roll-Again, para-roll-Again, roll-out-Again, out-Again}
+use Rattle.run_control.specs.declared.statement.Round.{Round, roll-Round, para-roll-Round, roll-out-Round, out-Round}
 use Rattle.run_control.specs.Targets.{AllEqual, Bodies, all_bodies, bodies, again_pairs, block_pairs, round_pairs, switch_pairs, statement_bodies}
 use Rattle.run_control.specs.Targets.{again_bodies, block_bodies, round_bodies, switch_bodies}
 use Rattle.run_control.specs.View.{Meaning, stmt_of}

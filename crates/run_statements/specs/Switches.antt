@@ -4,10 +4,10 @@ use Rattle.std.specs.Borrow.{Bor}
 use Rattle.run_control.specs.declared.statement.Statement.{Statement, para-Statement}
 use Rattle.run_control.specs.declared.statement.Statement.TheOpen as form
 use Rattle.run_control.specs.declared.statement.Statement.TheOpen.{Statement-F, Block-F, Switch-F, Again-F, Round-F}
-use Rattle.run_control.specs.declared.statement.Block.{Block, para-Block}
-use Rattle.run_control.specs.declared.statement.Switch.{Switch, para-Switch}
-use Rattle.run_control.specs.declared.statement.Again.{Again, para-Again}
-use Rattle.run_control.specs.declared.statement.Round.{Round, para-Round}
+use Rattle.run_control.specs.declared.statement.Block.{Block}
+use Rattle.run_control.specs.declared.statement.Switch.{Switch}
+use Rattle.run_control.specs.declared.statement.Again.{Again}
+use Rattle.run_control.specs.declared.statement.Round.{Round}
 
 abbrev pub Switches : Type 0
 Switches = List Switch

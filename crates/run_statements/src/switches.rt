@@ -42,10 +42,7 @@ pub fn switches_of<'p>(
 }
 
 #[cycle(collect)]
-fn switches_in<'p>(
-    statements: &'p [Statement],
-    found: &mut Vec<&'p Switch>,
-) -> Result<(), NoMemory>
+fn switches_in<'p>(statements: &'p [Statement], found: &mut Vec<&'p Switch>) -> Result<(), NoMemory>
     ensures { OnOk result (map (λ s. s.now) found.new.items ≡ map (λ s. s.now) found.old.items ++ switches_in_all statements.now) }
 {
     for statement in statements {

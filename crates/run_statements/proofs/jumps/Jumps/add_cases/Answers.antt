@@ -1,10 +1,7 @@
-use Rattle.std.proofs.Common.{◌≡◌, ◌+◌, suc, ◌∙◌, arith, sym, ap, subst, List, take}
-use Rattle.std.specs.Borrow.{Bor}
-use Rattle.run_control.specs.declared.links.Link.{Link}
-use Rattle.run_control.specs.declared.statement.Switch.{Switch}
+use Rattle.std.proofs.Common.{◌∙◌, arith, subst}
 use Rattle.run_control.specs.Search.{Finds}
 use Rattle.run_statements.specs.declared.jumps.Jumps.{Jumps}
-use Rattle.run_statements.proofs.Casing.{So, so_next}
+use Rattle.run_statements.proofs.Casing.{so_next}
 use Rattle.run_statements.proofs.Jumping.{older_twice}
 use Rattle.run_statements.proofs.jumps.Jumps.add_cases.Goals as goal
 
