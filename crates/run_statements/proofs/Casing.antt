@@ -163,7 +163,8 @@ stands_at m body s stands equal = all_at m (switches_in body) stands.0 s (stand_
 
 -- of its body, where its number is this one
 numbered : (links : List Link) (body : Statement) (s : Switch) (n : ℕ) (z : ℤ) (target : Option Place) → StandsIn body s → s.number ≡ n →
-    ((m : Meaning) → AllEqual (bodies m s.body) → work_at m links target ≡ first_of (find (to_case z) (stmt_of m s.body)) (find to_default (stmt_of m s.body))) →
+    ((m : Meaning) → AllEqual (bodies m s.body) →
+    work_at m links target ≡ first_of (find (to_case z) (stmt_of m s.body)) (find to_default (stmt_of m s.body))) →
     IsCase links body n z target
 numbered links body s n z target stands is finds = λ m equal.
     let own = stands_at m body s stands equal in
@@ -195,7 +196,8 @@ add_none old new bs b none links cases labels has = record {
       (subst (λ (fs : Vec (Vec Found Global) Global). HaveCases old.links.items 0 (switches_of_all bs) (map items_of fs.items)) (sym cases) has.cases));
 }
 
-pub add_body : (old mid new : Jumps) (bs : List (Option (Bor Statement))) (b : Option (Bor Statement)) (d : Bor Statement) (more gathered first : List (Bor Switch)) →
+pub add_body : (old mid new : Jumps) (bs : List (Option (Bor Statement))) (b : Option (Bor Statement)) (d : Bor Statement)
+    (more gathered first : List (Bor Switch)) →
     b ≡ Some d → new.cases ≡ mid.cases → Older mid.links.items new.links.items → length mid.links.items ≤ length new.links.items → So old more mid →
     more ≡ gathered → first ≡ [] → map now_of gathered ≡ map now_of first ++ switches_in d.now →
     (HaveLabels old.links.items bs (labels_of old) → HaveLabels new.links.items (bs ++ b ∷ []) (labels_of new)) → HasJumps old bs →
@@ -209,6 +211,7 @@ add_body old mid new bs b d more gathered first is cases older longer so same em
     record {
       labels = labels has.labels;
       cases = subst (λ (ss : Switches). HaveCases new.links.items 0 ss (cases_of new)) (sym all)
-          (subst (λ (fs : Vec (Vec Found Global) Global). HaveCases new.links.items 0 (switches_of_all bs ++ map now_of more) (map items_of fs.items)) (sym cases)
-          (cases_more mid.links.items new.links.items 0 (switches_of_all bs ++ map now_of more) (cases_of mid) older longer (so (switches_of_all bs) has.cases)));
+          (subst (λ (fs : Vec (Vec Found Global) Global). HaveCases new.links.items 0 (switches_of_all bs ++ map now_of more) (map items_of fs.items))
+          (sym cases) (cases_more mid.links.items new.links.items 0 (switches_of_all bs ++ map now_of more) (cases_of mid) older longer
+          (so (switches_of_all bs) has.cases)));
     }

@@ -157,7 +157,8 @@ module _ (s : Statement) where
       map_next (y ∷ xs) x = ap (λ ys. now_of y ∷ ys) (map_next xs x)
 
 -- ---- the statements of a block in turn
-all_next : (ss : List Statement) (n : ℕ) (s : Statement) → slice_get ss n ≡ Some s → switches_in_all (take (suc n) ss) ≡ switches_in_all (take n ss) ++ switches_in s
+all_next : (ss : List Statement) (n : ℕ) (s : Statement) → slice_get ss n ≡ Some s →
+    switches_in_all (take (suc n) ss) ≡ switches_in_all (take n ss) ++ switches_in s
 all_next [] n s at = absurd (cc)
 all_next (x ∷ ss) zero s at = append_nothing (switches_in x) ∙ ap switches_in (let same : x ≡ s = cc in same)
 all_next (x ∷ ss) (suc n) s at =

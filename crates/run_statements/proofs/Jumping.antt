@@ -1,5 +1,6 @@
 -- What is found among the labels of functions, as more is added.
-use Rattle.std.proofs.Common.{◌≡◌, ℕ, zero, suc, ◌≤◌, true, Vec, Global, refl, sym, ap, ◌∙◌, subst, arith, List, [], ◌∷◌, ◌++◌, length, map, Option, Some, None, slice_get}
+use Rattle.std.proofs.Common.{◌≡◌, ℕ, zero, suc, ◌≤◌, true, Vec, Global, refl, sym, ap, ◌∙◌, subst, arith}
+use Rattle.std.proofs.Common.{List, [], ◌∷◌, ◌++◌, length, map, Option, Some, None, slice_get}
 use Rattle.std.specs.Prelude.{option_map}
 use Rattle.std.specs.Borrow.{Bor}
 use Rattle.c_model.specs.Control.{to_label}
@@ -47,8 +48,8 @@ pub map_next : {A B : Type 0} (g : A → B) (xs : List A) (x : A) → map g (xs 
 map_next g [] x = refl
 map_next g (y ∷ xs) x = ap (λ ys. g y ∷ ys) (map_next g xs x)
 
-pub jumps_more : (old new : Jumps) (found : Vec Found Global) (bs : List (Option (Bor Statement))) (b : Option (Bor Statement)) → Older old.links.items new.links.items →
-    length old.links.items ≤ length new.links.items → new.labels.items ≡ old.labels.items ++ found ∷ [] → AreLabels new.links.items found.items b →
+pub jumps_more : (old new : Jumps) (found : Vec Found Global) (bs : List (Option (Bor Statement))) (b : Option (Bor Statement)) →
+    Older old.links.items new.links.items → length old.links.items ≤ length new.links.items → new.labels.items ≡ old.labels.items ++ found ∷ [] → AreLabels new.links.items found.items b →
     HaveLabels old.links.items bs (labels_of old) → HaveLabels new.links.items (bs ++ b ∷ []) (labels_of new)
 jumps_more old new found bs b older longer labels are has =
     subst (λ (fs : List (List Found)). HaveLabels new.links.items (bs ++ b ∷ []) fs)
@@ -82,7 +83,8 @@ pub is_found : (j : Jumps) (bs : List (Option (Bor Statement))) (body : Bor Stat
     ((m : Meaning) (links : List Link) → work_at m links (Some place) ≡ looked (to_label label) (map (seen m links) found.items)) →
     IsFound j.links.items body.now label place
 is_found j bs body function label found place has there at is =
-    let are = labels_at j.links.items bs (labels_of j) function body found.items has.labels there (map_at (λ (v : Vec Found Global). v.items) j.labels.items function found at) in
+    let are = labels_at j.links.items bs (labels_of j) function body found.items has.labels there
+    (map_at (λ (v : Vec Found Global). v.items) j.labels.items function found at) in
     λ m equal. is m j.links.items ∙ are.finds m equal (to_label label) refl
 
 pub older_twice : (a b c : List Link) → length a ≤ length b → Older a b → Older b c → Older a c

@@ -108,11 +108,13 @@ module _ (m : Meaning) where
 
   again_body : (b : Again) → again_pairs m b ≡ bodies m b.body
   again_body b = ap (again_pairs m) (sym (roll-out-Again b))
-      ∙ para-roll-Again Bodies Bodies Bodies Bodies Bodies (statement_bodies m) (again_bodies m) (block_bodies m) (round_bodies m) (switch_bodies m) (out-Again b)
+      ∙ para-roll-Again Bodies Bodies Bodies Bodies Bodies (statement_bodies m) (again_bodies m) (block_bodies m) (round_bodies m) (switch_bodies m)
+      (out-Again b)
 
   round_body : (b : Round) → round_pairs m b ≡ bodies m b.body
   round_body b = ap (round_pairs m) (sym (roll-out-Round b))
-      ∙ para-roll-Round Bodies Bodies Bodies Bodies Bodies (statement_bodies m) (again_bodies m) (block_bodies m) (round_bodies m) (switch_bodies m) (out-Round b)
+      ∙ para-roll-Round Bodies Bodies Bodies Bodies Bodies (statement_bodies m) (again_bodies m) (block_bodies m) (round_bodies m) (switch_bodies m)
+      (out-Round b)
 
   switch_body : (b : Switch) → switch_pairs m b ≡ (m.body b.number, stmt_of m b.body) ∷ bodies m b.body
   switch_body b = ap (switch_pairs m) (sym (roll-out-Switch b))

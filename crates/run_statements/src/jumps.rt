@@ -69,7 +69,8 @@ impl<'p> Jumps<'p> {
 
     /// Where a label of the function stands. None that isn't there is asked for.
     pub fn label(&self, function: u32, label: u32) -> Result<Place<'p>, NoMemory>
-        ensures { (bodies : List (Option (Bor StatementOf))) (body : Bor StatementOf) → HasJumps self.now bodies → slice_get bodies function ≡ Some (Some body) → IfOk result (IsFound self.now.links.items body.now label) }
+        ensures { (bodies : List (Option (Bor StatementOf))) (body : Bor StatementOf) → HasJumps self.now bodies
+            → slice_get bodies function ≡ Some (Some body) → IfOk result (IsFound self.now.links.items body.now label) }
     {
         let Some(labels) = self.labels.get(function as usize) else {
             return Err(NoMemory);

@@ -4,8 +4,8 @@ use Rattle.run_machine.proofs.control.settle.Goals as goal
 pub returns-in_ok-use_value-in_default : goal.returns-in_ok-use_value-in_default
 returns-in_ok-use_value-in_default c =
     settle_answers c.law_operands.ensures.known c.law_operands.ensures.rooms c.args.machine.now c.use_value.new.machine c.go_on-in_default.new.machine
-    c.args.stage c.go_on-in_default.result c.in_default.not-Select c.in_ok-use_value-in_default.ensures.used c.go_on-in_default.ensures.goes c.go_on-in_default.ensures.still
-    c.go_on-in_default.ensures.ends
+    c.args.stage c.go_on-in_default.result c.in_default.not-Select c.in_ok-use_value-in_default.ensures.used c.go_on-in_default.ensures.goes
+    c.go_on-in_default.ensures.still c.go_on-in_default.ensures.ends
 
 pub returns-in_ok-select-in-Select : goal.returns-in_ok-select-in-Select
 returns-in_ok-select-in-Select c =

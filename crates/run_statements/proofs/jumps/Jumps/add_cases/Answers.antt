@@ -15,6 +15,7 @@ loop-switch-preserved c =
       older = older_twice c.args.self.now.links.items c.loop-switch.self.links.items c.targets_of.new.links.items before.longer before.older more.older;
       longer = omega (arith, before.longer, more.longer);
       cases = so_next c.args.self.now c.loop-switch.self new c.args.switches.now c.loop-switch.switch-index c.switch-item.result c.in_ok-cases.cases
-          c.loop-switch-test.true c.switch-item.is (c.if-switch-len.false ∙ c.len.ensures ∙ c.loop-switch.self.cases.ok.0) more.older more.longer c.in_ok-push.ensures.items
+          c.loop-switch-test.true c.switch-item.is (c.if-switch-len.false ∙ c.len.ensures ∙ c.loop-switch.self.cases.ok.0) more.older
+          more.longer c.in_ok-push.ensures.items
           (subst (λ s. Finds c.targets_of.new.links.items c.in_ok-cases.cases.items s _) c.get.ensures more.finds) more.range before.cases;
     }
