@@ -1,5 +1,5 @@
 -- The case of a `switch` comes next as the definitions say (6.8.4.2p5).
-use Rattle.std.proofs.Common.{◌≡◌, ℕ, Bool, true, false, refl, sym, ap, ◌∙◌, subst, List, ◌∷◌, ℤ, Option, Some, slice_get}
+use Rattle.std.proofs.Common.{◌≡◌, ℕ, Bool, true, false, refl, sym, ap, ◌∙◌, subst, List, ◌∷◌, ℤ, Option, Some, slice_get, rules}
 use Rattle.std.specs.Borrow.{Bor}
 use Rattle.std.specs.Prelude.{OnOk, Result, Ok, Err}
 use Rattle.prov_memory.specs.Memory.{Kept}
