@@ -18,7 +18,7 @@ use ub_base::NoMemory;
 pub struct Jumps<'p> {
     pub links: Vec<Link<'p>>,
     pub labels: Vec<Vec<Found<'p>>>,
-    cases: Vec<Vec<Found<'p>>>,
+    pub cases: Vec<Vec<Found<'p>>>,
 }
 
 impl<'p> Jumps<'p> {
