@@ -24,7 +24,6 @@ use Rattle.run_control.specs.View.{Meaning, switch_of, todo_of, use_of}
 use Rattle.run_statements.specs.Jumping.{HasJumps, IsCase}
 use Rattle.run_statements.specs.Switches.{StandsIn}
 use Rattle.run_code.specs.declared.steps.Operand.{Operand}
-use Rattle.run_code.specs.declared.whole.Code.{Code}
 use Rattle.run_state.specs.declared.machine.Machine.{Machine}
 use Rattle.run_state.specs.Meaning.{StandsCode}
 use Rattle.run_state.specs.Operands.{operand_in}
