@@ -1,0 +1,4 @@
+pub mod Lists
+pub mod Ahead
+pub mod Above
+pub mod Found
