@@ -53,7 +53,7 @@ use Rattle.completion_laws.proofs.Lists.{Split, left, right, split, no_split, ha
 pub lt_of : (a b : ℕ) → a < b → nat_lt a b ≡ true
 lt_of a b h = grind (arith, nat_tests, h)
 
-ge_of : (a b : ℕ) → b ≤ a → nat_lt a b ≡ false
+pub ge_of : (a b : ℕ) → b ≤ a → nat_lt a b ≡ false
 ge_of a b h = grind (arith, nat_tests, h)
 
 pub if_true : {A : Type 0} (b : Bool) (p q : A) → b ≡ true → (if b then p else q) ≡ p
@@ -205,7 +205,7 @@ behind_out k end from to vs l g f w h = elim (f w h) [
   | inr e ↦ out_of from to w.node (inr (omega (arith, e, g)))
 ]
 
-behind_other : (k end n : ℕ) (vs : List Place) → k < n → n < end → Behind k end vs → (w : Place) → has vs w ≡ true → (w.node == n) ≡ false
+pub behind_other : (k end n : ℕ) (vs : List Place) → k < n → n < end → Behind k end vs → (w : Place) → has vs w ≡ true → (w.node == n) ≡ false
 behind_other k end n vs l g f w h = elim (f w h) [
   | inl e ↦ other w.node n (inl (omega (arith, e, l)))
   | inr e ↦ other w.node n (inr (omega (arith, e, g)))

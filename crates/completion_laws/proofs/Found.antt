@@ -85,7 +85,7 @@ module _ (root : Tree) (taken : Taken) (passed ahead : List Place) (u : Place) (
 if_same : {A : Type 0} (b c : Bool) (p q : A) → b ≡ c → (if b then p else q) ≡ (if c then p else q)
 if_same b c p q h = ap (λ z. if z then p else q) h
 
-if_not : {A : Type 0} (b : Bool) (p q : A) → (if not b then p else q) ≡ (if b then q else p)
+pub if_not : {A : Type 0} (b : Bool) (p q : A) → (if not b then p else q) ≡ (if b then q else p)
 if_not true p q = refl
 if_not false p q = refl
 
