@@ -6,10 +6,7 @@ use Rattle.std.proofs.Common.{
   ◌+◌,
   ◌<◌,
   ◌≤◌,
-  Bool,
   true,
-  false,
-  ◌&&◌,
   ◌==◌,
   List,
   [],
@@ -22,7 +19,6 @@ use Rattle.std.proofs.Common.{
   ◌⊎◌,
   inl,
   inr,
-  refl,
   sym,
   ap,
   subst,
@@ -39,9 +35,24 @@ use Rattle.elaborate.specs.Formed.{is_formed, are_formed, takes}
 use Rattle.elaborate.proofs.Listed.{and_l, and_r}
 use Rattle.elaborate.proofs.Ranges.{In, has_cases, events_in, operands_in, eq_eq}
 use Rattle.c_model.specs.Completions.{parent_in, parent_among}
-use Rattle.c_model.specs.Moments.{holds, least, least_in}
+use Rattle.c_model.specs.Moments.{least, least_in}
 use Rattle.completion_laws.specs.Completed.{comes_next}
-use Rattle.completion_laws.proofs.Lists.{Split, left, right, split, no_split, has_at, has_behind, out_of, within, other, outside, AreOutside, all_outside, outside_more, not_outside}
+use Rattle.completion_laws.proofs.Lists.{
+  left,
+  right,
+  split,
+  no_split,
+  has_at,
+  has_behind,
+  out_of,
+  within,
+  other,
+  outside,
+  AreOutside,
+  all_outside,
+  outside_more,
+  not_outside,
+}
 use Rattle.completion_laws.proofs.Ahead.{
   same_or_other,
   if_true,
@@ -59,7 +70,6 @@ use Rattle.completion_laws.proofs.Ahead.{
   own_of,
   operand,
   operand_split,
-  Behind,
   behind_operands,
   behind_out,
 }
@@ -90,7 +100,7 @@ mutual
       elim (split (operand_events taken class (taken k) 0 (suc k) ts) (own_events k class) passed ahead u h) [
         | left rest a b ↦
             (let s = operands_above taken class (taken k) ts 0 (suc k) k passed rest u (own_events k class) (k, k + size (node class ts)) p (omega arith)
-              (omega arith) (own_of k class) (own_next k class ts passed rest u taken formed a) (and_r (takes class ts) _ formed) a above in
+            (omega arith) (own_of k class) (own_next k class ts passed rest u taken formed a) (and_r (takes class ts) _ formed) a above in
             subst (λ z. outside (suc p) (least k (node class ts) p p).1 z ≡ comes_next p z) (sym b) s)
         | right before a b ↦ absurd (of_own before b (own_of k class u (ap (λ z. has z u) b ∙ has_at before ahead u)))
       ]
@@ -141,8 +151,8 @@ mutual
           let r : In m (size t) u.node = events_in taken t m u (ap (λ z. has z u) a ∙ has_at passed some u) in
           let first = sym (among_first k m t ts u.node r.1) ∙ above in
           same_or_other u.node m
-            (λ same. of_this (same_Some k p (sym (if_true _ _ _ (subst (λ z. (u.node == z) ≡ true) same (eq_eq u.node))) ∙ first)))
-            (λ differs. inside (sym (if_false _ _ _ differs) ∙ first))
+          (λ same. of_this (same_Some k p (sym (if_true _ _ _ (subst (λ z. (u.node == z) ≡ true) same (eq_eq u.node))) ∙ first)))
+          (λ differs. inside (sym (if_false _ _ _ differs) ∙ first))
         where
           of_this : k ≡ p → Goal
           of_this is = subst (λ z. outside (suc z) (least_in m (more t ts) z z here).1 (rest ++ own) ≡ comes_next z (rest ++ own)) is
@@ -156,8 +166,8 @@ mutual
               let low = r.0 in
               let ends = least_ends t m p r in
               let s = above_inside (suc p) (least m t p p).1 p some (behind ++ own)
-                  (behind_out k (m + size t) (suc p) (least m t p p).1 (behind ++ own) (omega (arith, l, low)) ends
-                  (behind_operands taken class choice (suc i) (m + size t) k ts own f)) (again is) in
+              (behind_out k (m + size t) (suc p) (least m t p p).1 (behind ++ own) (omega (arith, l, low)) ends
+              (behind_operands taken class choice (suc i) (m + size t) k ts own f)) (again is) in
               subst (λ z. outside (suc p) z.1 (rest ++ own) ≡ comes_next p (rest ++ own)) (sym (least_first m t ts p here r))
               (subst (λ z. outside (suc p) (least m t p p).1 z ≡ comes_next p z) (sym (ap (λ z. z ++ own) b ∙ append_assoc some behind own)) s)
 

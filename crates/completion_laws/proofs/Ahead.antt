@@ -19,7 +19,6 @@ use Rattle.std.proofs.Common.{
   ◌∷◌,
   ◌++◌,
   append_assoc,
-  map,
   Option,
   Some,
   None,
@@ -41,13 +40,28 @@ use Rattle.c_typed.specs.declared.class.Class.{Class}
 use Rattle.c_typed.specs.declared.class.Class.TheVariants.{Object, Constant, Plain, Store, Update, Choice, Comma, Call, Isolated}
 use Rattle.c_typed.specs.Tree.{Tree, node, Trees, none, more, size, sizes, kinds_of}
 use Rattle.c_typed.specs.Order.{Taken, goes, own_events, events, operand_events, has}
-use Rattle.elaborate.specs.Formed.{is_formed, are_formed, takes, all_quiet}
+use Rattle.elaborate.specs.Formed.{is_formed, all_quiet}
 use Rattle.elaborate.proofs.Listed.{and_l, and_r, silent_all}
-use Rattle.elaborate.proofs.Ranges.{In, has_cases, has_left, has_right, own_node, events_in, operands_in, size_pos, eq_of, eq_eq}
+use Rattle.elaborate.proofs.Ranges.{In, has_cases, has_right, own_node, events_in, operands_in, size_pos, eq_of, eq_eq}
 use Rattle.c_model.specs.Completions.{parent_in, parent_among}
-use Rattle.c_model.specs.Moments.{holds, least, least_in}
+use Rattle.c_model.specs.Moments.{least, least_in}
 use Rattle.completion_laws.specs.Completed.{comes_next}
-use Rattle.completion_laws.proofs.Lists.{Split, left, right, split, no_split, has_at, out_of, within, other, outside, AreOutside, all_outside, outside_more, not_outside, none_next}
+use Rattle.completion_laws.proofs.Lists.{
+  left,
+  right,
+  split,
+  no_split,
+  has_at,
+  out_of,
+  within,
+  other,
+  outside,
+  AreOutside,
+  all_outside,
+  outside_more,
+  not_outside,
+  none_next,
+}
 
 -- ---- tests of numbers
 pub lt_of : (a b : ℕ) → a < b → nat_lt a b ≡ true
@@ -106,8 +120,8 @@ mutual
   least_ends_in (more t ts) m n here end h g = low_or_high n m
       (λ l. subst (λ z. z.1 ≤ end) (sym (least_rest m t ts n here (inl l))) (least_ends_in ts (m + size t) n here end h (omega (arith, g))))
       (λ l. low_or_high n (m + size t)
-        (λ s. let r = least_ends t m n (l, s) in subst (λ z. z.1 ≤ end) (sym (least_first m t ts n here (l, s))) (omega (arith, r, g)))
-        (λ s. subst (λ z. z.1 ≤ end) (sym (least_rest m t ts n here (inr s))) (least_ends_in ts (m + size t) n here end h (omega (arith, g)))))
+      (λ s. let r = least_ends t m n (l, s) in subst (λ z. z.1 ≤ end) (sym (least_first m t ts n here (l, s))) (omega (arith, r, g)))
+      (λ s. subst (λ z. z.1 ≤ end) (sym (least_rest m t ts n here (inr s))) (least_ends_in ts (m + size t) n here end h (omega (arith, g)))))
 
 -- ---- the node above
 abbrev above_first : ℕ → ℕ → Tree → ℕ → Option ℕ
@@ -142,9 +156,9 @@ mutual
   above_among none k m n p h = absurd (cc)
   above_among (more t ts) k m n p h = low_or_high n (m + size t)
       (λ l. same_or_other n m
-        (λ e. inl (sym (same_Some _ _ (sym (among_first k m t ts n l ∙ if_true _ _ _ (eq_test e)) ∙ h))))
-        (λ e. (let r = above_in t m n p (sym (among_first k m t ts n l ∙ if_false _ _ _ e) ∙ h) in let a = r.0 in let b = r.1 in
-          inr (a, omega (arith, b)))))
+      (λ e. inl (sym (same_Some _ _ (sym (among_first k m t ts n l ∙ if_true _ _ _ (eq_test e)) ∙ h))))
+      (λ e. (let r = above_in t m n p (sym (among_first k m t ts n l ∙ if_false _ _ _ e) ∙ h) in let a = r.0 in let b = r.1 in
+      inr (a, omega (arith, b)))))
       (λ l. elim (above_among ts k (m + size t) n p (sym (among_rest k m t ts n l) ∙ h)) [
         | inl e ↦ inl e
         | inr r ↦ (let a = r.0 in let b = r.1 in inr (omega (arith, a), omega (arith, b)))
@@ -225,7 +239,7 @@ mutual
       elim (split (operand_events taken class (taken k) 0 (suc k) ts) (own_events k class) passed ahead u h) [
         | left rest a b ↦
             (let s = operands_ahead taken class (taken k) ts 0 (suc k) k passed rest u (own_events k class) (k, k + size (node class ts)) (omega arith)
-              (own_of k class) a in
+            (own_of k class) a in
             subst (λ z. outside u.node (least k (node class ts) u.node u.node).1 z ≡ not (comes_next u.node z)) (sym b) s)
         | right before a b ↦ of_own before b (own_of k class u (ap (λ z. has z u) b ∙ has_at before ahead u))
       ]
@@ -236,7 +250,7 @@ mutual
           subst (λ z. outside z (least k (node class ts) z z).1 ahead ≡ not (comes_next z ahead)) (sym e)
           (subst (λ z. outside k z.1 ahead ≡ not (comes_next k ahead)) (sym (least_below (suc k) ts k (k, k + size (node class ts)) (omega arith)))
           (own_ahead k (k + size (node class ts)) ahead (omega arith)
-            (λ w g. own_of k class w (ap (λ z. has z w) b ∙ has_right before (u ∷ ahead) w (has_right (u ∷ []) ahead w g)))))
+          (λ w g. own_of k class w (ap (λ z. has z w) b ∙ has_right before (u ∷ ahead) w (has_right (u ∷ []) ahead w g)))))
 
   pub operands_ahead : (taken : Taken) (class : Class) (choice : Option ℕ) (ts : Trees) (i m k : ℕ) (passed rest : List Place) (u : Place)
       (own : List Place) (here : ℕ × ℕ) → k < m → ((w : Place) → has own w ≡ true → w.node ≡ k)
@@ -265,12 +279,12 @@ mutual
           let ends = least_ends t m u.node r in
           let out : Behind k (m + size t) (behind ++ own) = behind_operands taken class choice (suc i) (m + size t) k ts own f in
           let s = stays u.node (least m t u.node u.node).1 u.node some (behind ++ own)
-              (behind_out k (m + size t) u.node (least m t u.node u.node).1 (behind ++ own) (omega (arith, l, low)) ends out)
-              (behind_other k (m + size t) u.node (behind ++ own) (omega (arith, l, low)) high out)
-              again in
+          (behind_out k (m + size t) u.node (least m t u.node u.node).1 (behind ++ own) (omega (arith, l, low)) ends out)
+          (behind_other k (m + size t) u.node (behind ++ own) (omega (arith, l, low)) high out)
+          again in
           subst (λ z. outside u.node z.1 (rest ++ own) ≡ not (comes_next u.node (rest ++ own))) (sym (least_first m t ts u.node here r))
           (subst (λ z. outside u.node (least m t u.node u.node).1 z ≡ not (comes_next u.node z))
-            (sym (ap (λ z. z ++ own) b ∙ append_assoc some behind own)) s)
+          (sym (ap (λ z. z ++ own) b ∙ append_assoc some behind own)) s)
 
       in_rest : (before : List Place) → behind ≡ before ++ u ∷ rest
           → outside u.node (least_in (m + size t) ts u.node u.node here).1 (rest ++ own) ≡ not (comes_next u.node (rest ++ own))

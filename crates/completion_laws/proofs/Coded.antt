@@ -31,7 +31,6 @@ use Rattle.std.proofs.Common.{
 }
 use Rattle.ub_base.specs.declared.clause.Kind.{Kind}
 use Rattle.ub_base.specs.declared.clause.Kind.TheVariants.{Val, Eff, Body}
-use Rattle.ub_base.specs.Names.{same_kind}
 use Rattle.c_typed.specs.declared.class.Class.{Class}
 use Rattle.c_typed.specs.declared.class.Class.TheVariants.{Object, Constant, Plain, Store, Update, Choice, Comma, Call, Isolated}
 use Rattle.c_typed.specs.declared.tree.Conversion.{Conversion}
@@ -49,7 +48,7 @@ use Rattle.c_model.specs.Completions.{parent_in, parent_among}
 use Rattle.run_code.specs.declared.nodes.NodeInfo.{NodeInfo}
 use Rattle.run_code.specs.EventActs.{head_at, ends_with}
 use Rattle.run_code.specs.Numbered.{IsAt, AreBelow, AreNoted, AreNodes}
-use Rattle.completion_laws.proofs.Ahead.{among_first, among_rest, if_true, if_false, by_test}
+use Rattle.completion_laws.proofs.Ahead.{among_first, among_rest, if_true, if_false}
 use Rattle.completion_laws.proofs.Lists.{other}
 use Rattle.completion_laws.proofs.Last.{class_in, class_among, class_root, class_below, class_first, class_rest, ends_at}
 use Rattle.elaborate.proofs.Ranges.{eq_eq}
@@ -123,7 +122,7 @@ module _ (firsts : List ℕ) (nodes : List NodeInfo) (noted : AreNoted firsts no
       | inr g ↦
           (let tree : tree_of u ≡ t = ap first_tree is in
           let a = among_noted ts us k (m + size t) (ap rest_trees is) (subst (λ z. AreBelow nodes k (m + size z) us) tree here.1) n x g
-            (omega (arith, high)) at in
+          (omega (arith, high)) at in
           record { class = class_rest m t ts n g ∙ a.class; above = among_rest k m t ts n g ∙ a.above })
     ]
       where
@@ -151,11 +150,13 @@ module _ (firsts : List ℕ) (nodes : List NodeInfo) (noted : AreNoted firsts no
 
 pub class_noted : (firsts : List ℕ) (root : Typed) (nodes : List NodeInfo) (n : ℕ) (x : NodeInfo) → AreNodes firsts root nodes → n < size (tree_of root)
     → slice_get nodes n ≡ Some x → class_in 0 (tree_of root) n ≡ Some (class_of (tree_of x.tree.now))
-class_noted firsts root nodes n x are l at = (node_noted firsts nodes are.each (tree_of root) root 0 None refl are.top n x (omega arith) (omega (arith, l)) at).class
+class_noted firsts root nodes n x are l at =
+    (node_noted firsts nodes are.each (tree_of root) root 0 None refl are.top n x (omega arith) (omega (arith, l)) at).class
 
 pub parent_noted : (firsts : List ℕ) (root : Typed) (nodes : List NodeInfo) (n : ℕ) (x : NodeInfo) → AreNodes firsts root nodes → n < size (tree_of root)
     → slice_get nodes n ≡ Some x → 0 < n → parent_in 0 (tree_of root) n ≡ x.parent
-parent_noted firsts root nodes n x are l at g = (node_noted firsts nodes are.each (tree_of root) root 0 None refl are.top n x (omega arith) (omega (arith, l)) at).below g
+parent_noted firsts root nodes n x are l at g =
+    (node_noted firsts nodes are.each (tree_of root) root 0 None refl are.top n x (omega arith) (omega (arith, l)) at).below g
 
 pub top_noted : (firsts : List ℕ) (root : Typed) (nodes : List NodeInfo) (x : NodeInfo) → AreNodes firsts root nodes → slice_get nodes 0 ≡ Some x
     → x.parent ≡ None

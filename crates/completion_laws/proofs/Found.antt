@@ -18,12 +18,9 @@ use Rattle.std.proofs.Common.{
   Option,
   Some,
   None,
-  inl,
-  inr,
   refl,
   sym,
   ap,
-  subst,
   ◌∙◌,
   true≢false,
 }
@@ -32,11 +29,11 @@ use Rattle.c_typed.specs.declared.tree.Place.{Place}
 use Rattle.c_typed.specs.Tree.{Tree}
 use Rattle.c_typed.specs.Order.{Taken, events, has, same_place}
 use Rattle.elaborate.specs.Formed.{is_formed}
-use Rattle.elaborate.proofs.Ranges.{or_a, or_b, has_itself, has_cases, has_left, has_right}
-use Rattle.c_model.specs.Completions.{Completed, Incomplete, Own_node, Operands_of, completed_by, parent_in, end_of, is_complete, has_operands}
+use Rattle.elaborate.proofs.Ranges.{or_a, or_b, has_itself, has_left}
+use Rattle.c_model.specs.Completions.{Completed, Incomplete, Own_node, Operands_of, parent_in, end_of, has_operands}
 use Rattle.c_model.specs.Moments.{holds, complete}
 use Rattle.c_model.proofs.Listed.{listed_once}
-use Rattle.completion_laws.specs.Completed.{comes_next, with_above, completed_next, CompletesByNext}
+use Rattle.completion_laws.specs.Completed.{comes_next, with_above, CompletesByNext}
 use Rattle.completion_laws.proofs.Lists.{outside, and_both}
 use Rattle.completion_laws.proofs.Ahead.{node_ahead, by_test}
 use Rattle.completion_laws.proofs.Above.{node_above}
@@ -78,7 +75,7 @@ module _ (root : Tree) (taken : Taken) (passed ahead : List Place) (u : Place) (
   complete_ahead from to =
       ap (λ z. list_all (λ w. has (passed ++ u ∷ []) w || not (holds from to w.node)) z) listed_so
       ∙ (all_both (λ w. has (passed ++ u ∷ []) w || not (holds from to w.node)) (passed ++ u ∷ []) ahead
-        (done_part (has (passed ++ u ∷ [])) (λ w. not (holds from to w.node)) (passed ++ u ∷ []) (λ w h. h))
+      (done_part (has (passed ++ u ∷ [])) (λ w. not (holds from to w.node)) (passed ++ u ∷ []) (λ w h. h))
       ∙ ahead_part root taken (passed ++ u ∷ []) (λ w. not (holds from to w.node)) (passed ++ u ∷ []) ahead listed_so (λ w h. h))
 
 -- ---- all together
@@ -97,7 +94,8 @@ above_same : (root : Tree) (taken : Taken) (passed ahead : List Place) (u : Plac
     → (o : Option ℕ) → parent_in 0 root u.node ≡ o → above_of root taken (has (passed ++ u ∷ [])) o ≡ with_above o ahead
 above_same root taken passed ahead u formed h None is = refl
 above_same root taken passed ahead u formed h (Some p) is =
-    if_same _ _ (Operands_of p) Own_node (complete_ahead root taken passed ahead u h (suc p) (end_of root p) ∙ node_above taken root 0 passed ahead u p formed h is)
+    if_same _ _ (Operands_of p) Own_node
+    (complete_ahead root taken passed ahead u h (suc p) (end_of root p) ∙ node_above taken root 0 passed ahead u p formed h is)
 
 pub completes_by_next : CompletesByNext
 completes_by_next root taken passed ahead u formed h =

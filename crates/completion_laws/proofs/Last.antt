@@ -18,19 +18,15 @@ use Rattle.std.proofs.Common.{
   ◌∷◌,
   ◌++◌,
   append_assoc,
-  map,
   Option,
   Some,
   None,
-  ◌⊎◌,
-  inl,
   inr,
   refl,
   sym,
   ap,
   subst,
   ◌∙◌,
-  true≢false,
   arith,
 }
 use Rattle.std.proofs.lemmas.Option.{same_Some}
@@ -40,12 +36,12 @@ use Rattle.ub_base.specs.Names.{same_kind}
 use Rattle.c_typed.specs.declared.tree.Place.{Place}
 use Rattle.c_typed.specs.declared.class.Class.{Class}
 use Rattle.c_typed.specs.declared.class.Class.TheVariants as class
-use Rattle.c_typed.specs.Tree.{Tree, node, Trees, none, more, size, sizes, kinds_of}
+use Rattle.c_typed.specs.Tree.{Tree, node, Trees, none, more, size, kinds_of}
 use Rattle.c_typed.specs.Order.{Taken, place, own_events, events, operand_events, has}
 use Rattle.elaborate.proofs.Ranges.{In, events_in, operands_in, eq_eq}
 use Rattle.completion_laws.specs.Completed.{comes_next}
-use Rattle.completion_laws.proofs.Lists.{Split, left, right, split, no_split, has_at, other, none_next}
-use Rattle.completion_laws.proofs.Ahead.{lt_of, ge_of, if_true, if_false, own_of, operand, operand_split, Behind, behind_operands, behind_other}
+use Rattle.completion_laws.proofs.Lists.{left, right, split, no_split, has_at, other, none_next}
+use Rattle.completion_laws.proofs.Ahead.{lt_of, ge_of, if_true, if_false, own_of, operand, operand_split, behind_operands, behind_other}
 
 -- ---- the class of the node of a number
 abbrev mutual
@@ -125,7 +121,7 @@ mutual
         | left rest a b ↦
             (let low = (operands_in taken d (taken k) ts 0 (suc k) u (ap (λ z. has z u) a ∙ has_at passed rest u)).0 in
             let s = operands_last taken d (taken k) ts 0 (suc k) k passed rest u (own_events k d) c (omega arith) (own_of k d) a
-              (sym (class_below k d ts u.node (omega (arith, low))) ∙ is) in
+            (sym (class_below k d ts u.node (omega (arith, low))) ∙ is) in
             subst (λ z. comes_next u.node z ≡ not (ends_at (kinds_of c) u.kind)) (sym b) s)
         | right before a b ↦
             (let e = own_of k d u (ap (λ z. has z u) b ∙ has_at before ahead u) in
@@ -159,6 +155,6 @@ mutual
           let r : In m (size t) u.node = events_in taken t m u (ap (λ z. has z u) a ∙ has_at passed some u) in
           let low = r.0 in
           let s = stays u.node some (behind ++ own) (not (ends_at (kinds_of c) u.kind))
-              (behind_other k (m + size t) u.node (behind ++ own) (omega (arith, l, low)) r.1
-              (behind_operands taken d choice (suc i) (m + size t) k ts own f)) (again (sym (class_first m t ts u.node r.1) ∙ is)) in
+          (behind_other k (m + size t) u.node (behind ++ own) (omega (arith, l, low)) r.1
+          (behind_operands taken d choice (suc i) (m + size t) k ts own f)) (again (sym (class_first m t ts u.node r.1) ∙ is)) in
           subst (λ z. comes_next u.node z ≡ not (ends_at (kinds_of c) u.kind)) (sym (ap (λ z. z ++ own) b ∙ append_assoc some behind own)) s

@@ -28,7 +28,6 @@ use Rattle.std.proofs.Common.{
   Some,
   None,
   slice_get,
-  ◌⊎◌,
   inl,
   inr,
   refl,
@@ -39,7 +38,6 @@ use Rattle.std.proofs.Common.{
   true≢false,
   arith,
 }
-use Rattle.std.specs.Borrow.{Bor}
 use Rattle.std.proofs.lemmas.List.{same_from_push}
 use Rattle.std.proofs.lemmas.Option.{slice_get_within}
 use Rattle.c_typed.specs.declared.class.Class.{Class}
@@ -48,9 +46,8 @@ use Rattle.c_typed.specs.Decide.{has_kind, due_in, due_among}
 use Rattle.c_typed.specs.Order.{Taken, goes, events, has, same_place}
 use Rattle.c_typed.specs.Tree.{Tree, Trees, node, none, more, size, class_of, kinds_of}
 use Rattle.c_typed.specs.Tree as typed
-use Rattle.elaborate.specs.Formed.{is_formed}
-use Rattle.elaborate.proofs.Ranges.{has_left, or_cases, eq_of}
-use Rattle.c_model.specs.Completions.{Completed, Incomplete, Operands_of, Own_node, completed_by, parent_in}
+use Rattle.elaborate.proofs.Ranges.{has_left, or_cases}
+use Rattle.c_model.specs.Completions.{Incomplete, completed_by, parent_in}
 use Rattle.c_model.specs.Program.{tree_of}
 use Rattle.c_model.specs.Steps.{Begun, Scene, is_done, taken_by}
 use Rattle.c_model.specs.World.{World}
@@ -66,17 +63,17 @@ use Rattle.run_code.specs.declared.tables.Tables.{Tables}
 use Rattle.run_code.specs.EventActs.{IsEntry}
 use Rattle.run_code.specs.LaidOut.{LaidOutBy}
 use Rattle.run_code.specs.OfTrees.{IsListingOf}
-use Rattle.run_listing.specs.Along.{part_of, events_of, Next}
+use Rattle.run_listing.specs.Along.{part_of, events_of}
 use Rattle.run_listing.specs.Cursor.{IsListed, StandsStraight}
-use Rattle.run_listing.specs.Straight.{EndAtEvent, PartsAlike, PartsFurther}
+use Rattle.run_listing.specs.Straight.{PartsAlike, PartsFurther}
 use Rattle.run_listing.proofs.Cursor.{two_parts}
-use Rattle.completion_laws.specs.Completed.{comes_next, with_above, completed_next, CompletesByNext}
-use Rattle.completion_laws.specs.Listing.{next_of, completed_of, CompletesListed}
+use Rattle.completion_laws.specs.Completed.{comes_next, with_above}
+use Rattle.completion_laws.specs.Listing.{completed_of, CompletesListed}
 use Rattle.completion_laws.proofs.Ahead.{by_test, if_true, if_false, none_above}
 use Rattle.completion_laws.proofs.Coded.{class_noted, parent_noted, top_noted, ends_noted}
 use Rattle.completion_laws.proofs.Found.{completes_by_next, if_not}
 use Rattle.completion_laws.proofs.Lists.{has_at}
-use Rattle.completion_laws.proofs.Last.{class_in, class_among, ends_at, node_last}
+use Rattle.completion_laws.proofs.Last.{class_in, class_among, node_last}
 
 -- ---- an event that is due is one of its node
 mutual
@@ -84,7 +81,7 @@ mutual
       → has_kind (kinds_of c) u.kind ≡ true
   kind_there taken (node d ts) k u c h is = by_test (u.node == k)
       (λ e. let same : Some d ≡ Some c = sym (if_true _ _ _ e) ∙ is in
-        let it : d ≡ c = cc in subst (λ z. has_kind (kinds_of z) u.kind ≡ true) it (sym (if_true _ _ _ e) ∙ h))
+      let it : d ≡ c = cc in subst (λ z. has_kind (kinds_of z) u.kind ≡ true) it (sym (if_true _ _ _ e) ∙ h))
       (λ e. kind_among taken d (taken k) ts 0 (suc k) u c (sym (if_false _ _ _ e) ∙ h) (sym (if_false _ _ _ e) ∙ is))
 
   kind_among : (taken : Taken) (d : Class) (choice : Option ℕ) (ts : Trees) (i m : ℕ) (u : Place) (c : Class)
@@ -120,121 +117,110 @@ one_at (y ∷ ys) (suc n) x h = one_at ys n x h
 -- ---- all together
 module _ (alike : PartsAlike) (further : PartsFurther) where
   module _ (world : World) (f : Scene) (entries : List Listed) (firsts : List ℕ) (nodes : List NodeInfo) (tables : Tables) (laid : Expression) (at : ℕ)
-      (e : Begun) (taken : Taken) (d : Due) (next : Option (ℕ × Bor Due)) (lays : LaidOutBy firsts nodes tables entries laid)
+      (e : Begun) (taken : Taken) (d : Due) (lays : LaidOutBy firsts nodes tables entries laid)
       (same : typed.tree_of laid.root.now ≡ tree_of e.root) (s : StandsStraight world f entries laid.first (suc at) laid.end e None)
       (l : IsListed world f entries laid.first laid.end e taken) (low : laid.first ≤ at) (is : slice_get entries at ≡ Some (listed.Event d))
-      (n : Next taken (part_of entries (suc at) laid.end) next) where
-    abbrev T : Taken
-    T = taken_by world f e
+    where
+      abbrev T : Taken
+      T = taken_by world f e
 
-    abbrev tree : Tree
-    tree = tree_of e.root
+      abbrev tree : Tree
+      tree = tree_of e.root
 
-    abbrev up : List Listed
-    up = part_of entries laid.first at
+      abbrev up : List Listed
+      up = part_of entries laid.first at
 
-    abbrev ahead : List Listed
-    ahead = part_of entries (suc at) laid.end
+      abbrev ahead : List Listed
+      ahead = part_of entries (suc at) laid.end
 
-    passed_is : part_of entries laid.first (suc at) ≡ up ++ listed.Event d ∷ []
-    passed_is =
-        let one : suc at - at ≡ 1 = omega arith in
-        two_parts entries laid.first at (suc at) low (omega arith)
-        ∙ ap (λ z. up ++ z) (ap (λ z. take z (drop at entries)) one ∙ one_at entries at (listed.Event d) is)
+      passed_is : part_of entries laid.first (suc at) ≡ up ++ listed.Event d ∷ []
+      passed_is =
+          let one : suc at - at ≡ 1 = omega arith in
+          two_parts entries laid.first at (suc at) low (omega arith)
+          ∙ ap (λ z. up ++ z) (ap (λ z. take z (drop at entries)) one ∙ one_at entries at (listed.Event d) is)
 
-    last_has : has (events_of T (part_of entries laid.first (suc at))) d.place ≡ true
-    last_has = elim s.behind [
-      | inl empty ↦ absurd (no_end up (sym passed_is ∙ empty))
-      | inr (es, z, parts, has_it) ↦
-          (let both = same_from_push es up (listed.Event z) (listed.Event d) (sym parts ∙ passed_is) in
-          let last : listed.Event z ≡ listed.Event d = both.1 in
-          let it : z ≡ d = cc in
-          subst (λ (w : Due). has (events_of T (part_of entries laid.first (suc at))) w.place ≡ true) it has_it)
-    ]
-      where
-        no_end : (xs : List Listed) → xs ++ listed.Event d ∷ [] ≡ [] → ⊥
-        no_end [] h = absurd (cc)
-        no_end (x ∷ xs) h = absurd (cc)
+      last_has : has (events_of T (part_of entries laid.first (suc at))) d.place ≡ true
+      last_has = elim s.behind [
+        | inl empty ↦ absurd (no_end up (sym passed_is ∙ empty))
+        | inr (es, z, parts, has_it) ↦
+            (let both = same_from_push es up (listed.Event z) (listed.Event d) (sym parts ∙ passed_is) in
+            let last : listed.Event z ≡ listed.Event d = both.1 in
+            let it : z ≡ d = cc in
+            subst (λ (w : Due). has (events_of T (part_of entries laid.first (suc at))) w.place ≡ true) it has_it)
+      ]
+        where
+          no_end : (xs : List Listed) → xs ++ listed.Event d ∷ [] ≡ [] → ⊥
+          no_end [] h = absurd (cc)
+          no_end (x ∷ xs) h = absurd (cc)
 
-    it : At (events T 0 tree) d.place
-    it = at_place (events T 0 tree) d.place
-        (ap (λ z. has z d.place) (sym s.along.listed)
-        ∙ has_left (events_of T (part_of entries laid.first (suc at))) (events_of T ahead) d.place last_has)
+      it : At (events T 0 tree) d.place
+      it = at_place (events T 0 tree) d.place
+          (ap (λ z. has z d.place) (sym s.along.listed)
+          ∙ has_left (events_of T (part_of entries laid.first (suc at))) (events_of T ahead) d.place last_has)
 
-    whole : IsListingOf (up ++ ([] ++ listed.Event d ∷ ahead)) tree
-    whole =
-        subst (λ z. IsListingOf z tree)
-        (two_parts entries laid.first (suc at) laid.end (omega (arith, low)) s.order.1
-        ∙ (ap (λ z. z ++ ahead) passed_is ∙ append_assoc up (listed.Event d ∷ []) ahead)) l.0
+      whole : IsListingOf (up ++ ([] ++ listed.Event d ∷ ahead)) tree
+      whole =
+          subst (λ z. IsListingOf z tree)
+          (two_parts entries laid.first (suc at) laid.end (omega (arith, low)) s.order.1
+          ∙ (ap (λ z. z ++ ahead) passed_is ∙ append_assoc up (listed.Event d ∷ []) ahead)) l.0
 
-    sides : (events_of T (up ++ ([] ++ listed.Event d ∷ [])) ≡ it.before ++ d.place ∷ []) × (events_of T ahead ≡ it.behind)
-    sides = let r = further up [] ahead d tree whole T it.before it.behind it.parts in (r.0, r.1)
+      sides : (events_of T (up ++ ([] ++ listed.Event d ∷ [])) ≡ it.before ++ d.place ∷ []) × (events_of T ahead ≡ it.behind)
+      sides = let r = further up [] ahead d tree whole T it.before it.behind it.parts in (r.0, r.1)
 
-    passed_events : events_of T (part_of entries laid.first (suc at)) ≡ it.before ++ d.place ∷ []
-    passed_events = ap (events_of T) passed_is ∙ sides.0
+      passed_events : events_of T (part_of entries laid.first (suc at)) ≡ it.before ++ d.place ∷ []
+      passed_events = ap (events_of T) passed_is ∙ sides.0
 
-    done_is : is_done e ≡ has (it.before ++ d.place ∷ [])
-    done_is = λ i u. (sym (s.along.done u ∙ or_false (is_done e u)) ∙ ap (λ z. has z u) passed_events) i
-      where
-        or_false : (b : Bool) → (b || false) ≡ b
-        or_false true = refl
-        or_false false = refl
+      done_is : is_done e ≡ has (it.before ++ d.place ∷ [])
+      done_is = λ i u. (sym (s.along.done u ∙ or_false (is_done e u)) ∙ ap (λ z. has z u) passed_events) i
+        where
+          or_false : (b : Bool) → (b || false) ≡ b
+          or_false true = refl
+          or_false false = refl
 
-    -- what is next
-    next_events : events_of taken ahead ≡ it.behind
-    next_events =
-        (alike (part_of entries laid.first (suc at)) ahead tree
-        (subst (λ z. IsListingOf z tree) (two_parts entries laid.first (suc at) laid.end (omega (arith, low)) s.order.1) l.0) T taken s.behind
-        (lists_alike tree T taken l.1)).1
-        ∙ sides.1
+      -- what is next
+      next_events : events_of taken ahead ≡ it.behind
+      next_events =
+          (alike (part_of entries laid.first (suc at)) ahead tree
+          (subst (λ z. IsListingOf z tree) (two_parts entries laid.first (suc at) laid.end (omega (arith, low)) s.order.1) l.0) T taken s.behind
+          (lists_alike tree T taken l.1)).1
+          ∙ sides.1
 
-    comes_same : (p : ℕ) → comes_next p it.behind ≡ comes_next p (next_of next)
-    comes_same p = by_next next n
-      where
-        by_next : (o : Option (ℕ × Bor Due)) → Next taken ahead o → comes_next p it.behind ≡ comes_next p (next_of o)
-        by_next None h = ap (comes_next p) (sym next_events ∙ h)
-        by_next (Some w) h = ap (comes_next p) (sym next_events ∙ h.1)
+      -- what is noted
+      entry : IsEntry firsts tables nodes (listed.Event d)
+      entry = lays.each at (listed.Event d) low s.order.1 is
 
-    above_same : (o : Option ℕ) → with_above o it.behind ≡ with_above o (next_of next)
-    above_same None = refl
-    above_same (Some p) = ap (λ z. if z then Operands_of p else Own_node) (comes_same p)
+      node_low : d.place.node < size (typed.tree_of laid.root.now)
+      node_low = let w = slice_get_within nodes d.place.node entry.0 entry.1 in let c = lays.numbered.count in omega (arith, w, c)
 
-    -- what is noted
-    entry : IsEntry firsts tables nodes (listed.Event d)
-    entry = lays.each at (listed.Event d) low s.order.1 is
+      abbrev class : Class
+      class = class_of (typed.tree_of entry.0.tree.now)
 
-    node_low : d.place.node < size (typed.tree_of laid.root.now)
-    node_low = let w = slice_get_within nodes d.place.node entry.0 entry.1 in let c = lays.numbered.count in omega (arith, w, c)
+      class_is : class_in 0 tree d.place.node ≡ Some class
+      class_is = ap (λ z. class_in 0 z d.place.node) (sym same) ∙ class_noted firsts laid.root.now nodes d.place.node entry.0 lays.numbered node_low entry.1
 
-    abbrev class : Class
-    class = class_of (typed.tree_of entry.0.tree.now)
+      parent_is : parent_in 0 tree d.place.node ≡ d.parent
+      parent_is = ap (λ z. parent_in 0 z d.place.node) (sym same) ∙ (by_number d.place.node refl ∙ sym entry.2.parent)
+        where
+          by_number : (k : ℕ) → d.place.node ≡ k → parent_in 0 (typed.tree_of laid.root.now) d.place.node ≡ entry.0.parent
+          by_number zero z =
+              none_above (typed.tree_of laid.root.now) 0 d.place.node (omega (arith, z))
+              ∙ sym (top_noted firsts laid.root.now nodes entry.0 lays.numbered (ap (slice_get nodes) (sym z) ∙ entry.1))
+          by_number (suc k) z = parent_noted firsts laid.root.now nodes d.place.node entry.0 lays.numbered node_low entry.1 (omega (arith, z))
 
-    class_is : class_in 0 tree d.place.node ≡ Some class
-    class_is = ap (λ z. class_in 0 z d.place.node) (sym same) ∙ class_noted firsts laid.root.now nodes d.place.node entry.0 lays.numbered node_low entry.1
+      last_is : comes_next d.place.node it.behind ≡ not d.completes
+      last_is =
+          let due = sym (has_due T tree 0 d.place) ∙ (ap (λ z. has z d.place) it.parts ∙ has_at it.before it.behind d.place) in
+          node_last T tree 0 it.before it.behind d.place class it.parts class_is
+          ∙ ap not (sym (entry.2.completes ∙ ends_noted entry.0.tree.now d.place.kind (kind_there T tree 0 d.place class due class_is)))
 
-    parent_is : parent_in 0 tree d.place.node ≡ d.parent
-    parent_is = ap (λ z. parent_in 0 z d.place.node) (sym same) ∙ (by_number d.place.node refl ∙ sym entry.2.parent)
-      where
-        by_number : (k : ℕ) → d.place.node ≡ k → parent_in 0 (typed.tree_of laid.root.now) d.place.node ≡ entry.0.parent
-        by_number zero z =
-            none_above (typed.tree_of laid.root.now) 0 d.place.node (omega (arith, z))
-            ∙ sym (top_noted firsts laid.root.now nodes entry.0 lays.numbered (ap (slice_get nodes) (sym z) ∙ entry.1))
-        by_number (suc k) z = parent_noted firsts laid.root.now nodes d.place.node entry.0 lays.numbered node_low entry.1 (omega (arith, z))
-
-    last_is : comes_next d.place.node it.behind ≡ not d.completes
-    last_is =
-        let due = sym (has_due T tree 0 d.place) ∙ (ap (λ z. has z d.place) it.parts ∙ has_at it.before it.behind d.place) in
-        node_last T tree 0 it.before it.behind d.place class it.parts class_is
-        ∙ ap not (sym (entry.2.completes ∙ ends_noted entry.0.tree.now d.place.kind (kind_there T tree 0 d.place class due class_is)))
-
-    pub noted : completed_by tree T (is_done e) d.place.node ≡ completed_of d next
-    noted =
-        ap (λ z. completed_by tree T z d.place.node) done_is
-        ∙ (completes_by_next tree T it.before it.behind d.place l.0.formed it.parts
-        ∙ (ap (λ z. if z then Incomplete else with_above (parent_in 0 tree d.place.node) it.behind) last_is
-        ∙ (if_not d.completes Incomplete (with_above (parent_in 0 tree d.place.node) it.behind)
-        ∙ ap (λ z. if d.completes then z else Incomplete) (ap (λ z. with_above z it.behind) parent_is ∙ above_same d.parent))))
+      pub noted : completed_by tree T (is_done e) d.place.node ≡ completed_of d (events_of taken ahead)
+      noted =
+          ap (λ z. completed_by tree T z d.place.node) done_is
+          ∙ (completes_by_next tree T it.before it.behind d.place l.0.formed it.parts
+          ∙ (ap (λ z. if z then Incomplete else with_above (parent_in 0 tree d.place.node) it.behind) last_is
+          ∙ (if_not d.completes Incomplete (with_above (parent_in 0 tree d.place.node) it.behind)
+          ∙ ap (λ z. if d.completes then z else Incomplete) (ap (λ z. with_above z it.behind) parent_is ∙ ap (with_above d.parent) (sym next_events)))))
 
   pub completes_listed : CompletesListed
-  completes_listed world f entries firsts nodes tables laid at e taken d next lays same s l low is n =
-      noted world f entries firsts nodes tables laid at e taken d next lays same s l low is n
+  completes_listed world f entries firsts nodes tables laid at e taken d lays same s l low is =
+      noted world f entries firsts nodes tables laid at e taken d lays same s l low is

@@ -1,6 +1,5 @@
 -- What an event completes, as the code of a full expression has it noted (own).
-use Rattle.std.specs.Prelude.{◌≡◌, ℕ, suc, ◌≤◌, List, [], ◌∷◌, Option, Some, None, slice_get, if◌then◌else◌}
-use Rattle.std.specs.Borrow.{Bor}
+use Rattle.std.specs.Prelude.{◌≡◌, ℕ, suc, ◌≤◌, List, Some, None, slice_get, if◌then◌else◌}
 use Rattle.c_typed.specs.declared.tree.Place.{Place}
 use Rattle.c_typed.specs.Order.{Taken}
 use Rattle.c_typed.specs.Tree as typed
@@ -15,25 +14,19 @@ use Rattle.run_code.specs.declared.steps.Listed.{Listed}
 use Rattle.run_code.specs.declared.steps.Listed.TheVariants as listed
 use Rattle.run_code.specs.declared.tables.Tables.{Tables}
 use Rattle.run_code.specs.LaidOut.{LaidOutBy}
-use Rattle.run_listing.specs.Along.{part_of, Next}
+use Rattle.run_listing.specs.Along.{part_of, events_of}
 use Rattle.run_listing.specs.Cursor.{IsListed, StandsStraight}
 use Rattle.completion_laws.specs.Completed.{with_above}
 
--- the next event that is listed
-abbrev pub next_of : Option (ℕ × Bor Due) → List Place
-next_of None = []
-next_of (Some next) = next.1.now.place ∷ []
-
--- with the last event of a node all operands of the node above are complete where an event of that one comes next
-abbrev pub completed_of : Due → Option (ℕ × Bor Due) → Completed
-completed_of d next = if d.completes then with_above d.parent (next_of next) else Incomplete
+-- With the last event of a node all operands of the node above are complete where an event of that one is the first of those that are ahead.
+abbrev pub completed_of : Due → List Place → Completed
+completed_of d ahead = if d.completes then with_above d.parent ahead else Incomplete
 
 -- The cursor stands straight behind an event that is listed of a full expression, which is laid out; so what the event completes is as the code has it.
 abbrev pub CompletesListed : Type 0
 CompletesListed =
     (world : World) (f : Scene) (entries : List Listed) (firsts : List ℕ) (nodes : List NodeInfo) (tables : Tables) (laid : Expression) (at : ℕ)
-    (e : Begun) (taken : Taken) (d : Due) (next : Option (ℕ × Bor Due)) → LaidOutBy firsts nodes tables entries laid
+    (e : Begun) (taken : Taken) (d : Due) → LaidOutBy firsts nodes tables entries laid
     → typed.tree_of laid.root.now ≡ tree_of e.root → StandsStraight world f entries laid.first (suc at) laid.end e None
     → IsListed world f entries laid.first laid.end e taken → laid.first ≤ at → slice_get entries at ≡ Some (listed.Event d)
-    → Next taken (part_of entries (suc at) laid.end) next
-    → completed_by (tree_of e.root) (taken_by world f e) (is_done e) d.place.node ≡ completed_of d next
+    → completed_by (tree_of e.root) (taken_by world f e) (is_done e) d.place.node ≡ completed_of d (events_of taken (part_of entries (suc at) laid.end))
