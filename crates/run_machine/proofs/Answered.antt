@@ -39,8 +39,10 @@ use Rattle.c_typed.specs.declared.tree.Place.{Place}
 use Rattle.mem_spec.specs.Script.{Raised, Script, run}
 use Rattle.prov_memory.specs.Keeps.{RowsStay}
 use Rattle.prov_memory.specs.Memory.{store_of}
-use Rattle.c_model.specs.Runs.{Raises, State, acted, entry_of, step}
-use Rattle.c_model.specs.Steps.{Begun, Ev, at_node, does, event_act, event_of}
+use Rattle.c_model.specs.Completions.{completed_by}
+use Rattle.c_model.specs.Program.{tree_of}
+use Rattle.c_model.specs.Runs.{Outcome, Raises, Running, State, acted, entry_of, step}
+use Rattle.c_model.specs.Steps.{Begun, Ev, at_node, does, event_act, event_of, is_done, taken_by, with_given}
 use Rattle.c_model.specs.Values.{Value}
 use Rattle.c_model.specs.World.{World}
 use Rattle.run_control.specs.View.{Meaning}
@@ -61,6 +63,7 @@ use Rattle.run_events.specs.Ways.{Chooses}
 use Rattle.run_machine.specs.declared.pick.Pick.{Pick}
 use Rattle.run_machine.specs.declared.pick.Pick.TheVariants as pick
 use Rattle.run_machine.specs.Answering.{Answers, ComesTo}
+use Rattle.run_machine.specs.Completing.{CompletesAfter, CompletesEvent, CompletesPick, EventCompletes}
 use Rattle.run_machine.specs.Ending.{Notes, NotesIn, NotesWay}
 use Rattle.run_machine.specs.Picks.{at_cursor, event_at}
 use Rattle.run_machine.specs.Taking.{
@@ -225,6 +228,27 @@ module _ (stands : EventStands) (steps : EventSteps) (world : World) (meaning : 
       (stands world meaning m new st e s laid d v takes).stands,
     )
 
+  -- what it completes is what the definitions say, along the canonical way
+  pub completes_done : EventCompletes → (done new : Machine) → ((v : Value) × IsDone world.rows past done who d.act v) →
+      ChangesOnly past done d.place.node d.act → (gives_value d.act ≡ false → done.values ≡ past.values) → s.straight ≡ true → (r : Result Pick Halt) →
+      FollowsEvent now.code.now who None d done new r → CompletesPick d new r → CompletesAfter world r d.place new (step world st (Ev d.place))
+  unfolding takes taken
+  completes_done completes done new did changes effect straight (Ok (pick.Event event completed None)) f noted = λ rows then is first begun.
+      let v = did.0 in
+      let took = takes done f.2.noted new v did.1 changes effect f.2.notes f.2.decides rows in
+      let next = after_event world st e d.place v new.items (store_after new) in
+      let ran : Running next ≡ Running then = sym (steps world meaning m new st e s laid d v took t.act t.within) ∙ is in
+      let same : next ≡ then = cc in
+      let both : Some (with_given e d.place v) ≡ Some first = ap (λ (z : State). z.top.begun) same ∙ begun in
+      let it : with_given e d.place v ≡ first = cc in
+      completes world meaning m new st e s laid d v took straight completed noted
+      ∙ ap (λ (z : Begun). completed_by (tree_of z.root) (taken_by world st.top.scene z) (is_done z) d.place.node) it
+      ∙ ap (λ (z : State). completed_by (tree_of first.root) (taken_by world z.top.scene first) (is_done first) d.place.node) same
+  completes_done completes done new did changes effect straight (Ok (pick.Event event completed (Some status))) f noted = tt
+  completes_done completes done new did changes effect straight (Ok (pick.Starts event)) f noted = tt
+  completes_done completes done new did changes effect straight (Ok (pick.Step ended)) f noted = tt
+  completes_done completes done new did changes effect straight (Err x) f noted = tt
+
   pub performed : (status : Option ℕ) → status ≡ None → (done new : Machine) → ((v : Value) × IsDone world.rows past done who d.act v) →
       ChangesOnly past done d.place.node d.act → (gives_value d.act ≡ false → done.values ≡ past.values) → (r : Result Pick Halt) →
       FollowsEvent now.code.now who status d done new r → AnswersTaken world meaning r new (step world st (Ev d.place))
@@ -276,6 +300,23 @@ module _ (stands : EventStands) (steps : EventSteps) (d : Due) (now start done n
       performed stands steps world meaning m st e s laid d now t None refl done new
       (so.0 world.rows (can stands steps world meaning m st e s laid d now t) (given stands steps world meaning m st e s laid d now t) t.act.no_body)
       (so.1 t.act.no_body) (so.2 t.act.no_body) r f
+
+  pub completed_done : EventCompletes → p ≡ Ok outcome.Done → FollowsEvent now.code.now (event_at now d.place) None d done new r → CompletesPick d new r
+      → CompletesEvent d now new r
+  completed_done completes same f noted = λ world meaning m st e s laid t straight.
+      let so = did_so now d start done p (Ok outcome.Done) is same did in
+      completes_done stands steps world meaning m st e s laid d now t completes done new
+      (so.0 world.rows (can stands steps world meaning m st e s laid d now t) (given stands steps world meaning m st e s laid d now t) t.act.no_body)
+      (so.1 t.act.no_body) (so.2 t.act.no_body) straight r f noted
+
+  -- nothing is said of another pick
+  pub completed_else : ((world : World) (u : Place) (o : Outcome) → CompletesAfter world r u new o) → CompletesEvent d now new r
+  completed_else none = λ world meaning m st e s laid t straight. none world d.place (step world st (Ev d.place))
+
+  pub completed_ended : (n : ℕ) → p ≡ Ok (outcome.End n) → CompletesEvent d now new r
+  completed_ended n same = λ world meaning m st e s laid t straight.
+      let so = did_so now d start done p (Ok (outcome.End n)) is same did in
+      absurd (so.0 world.rows (can stands steps world meaning m st e s laid d now t) (given stands steps world meaning m st e s laid d now t) t.act.no_body)
 
   pub taken_started : p ≡ Ok outcome.Started → AnswersEvent d now new r
   taken_started same = λ world meaning m st e s laid t.

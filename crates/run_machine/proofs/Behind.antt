@@ -1,5 +1,38 @@
 -- Behind an event that isn't a body the machine stands for the definitions' next state.
-use Rattle.std.proofs.Common.{◌≡◌, ◌≢◌, ℕ, suc, ◌+◌, ◌<◌, ◌^◌, Bool, true, false, refl, sym, ap, ◌∙◌, subst, arith, List, ◌∷◌, length, map, reverse, Option, Some, None, slice_get, pos}
+use Rattle.std.proofs.Common.{
+  ◌≡◌,
+  ◌≢◌,
+  ℕ,
+  zero,
+  suc,
+  ◌+◌,
+  ◌-◌,
+  ◌<◌,
+  ◌≤◌,
+  ◌^◌,
+  Bool,
+  true,
+  false,
+  refl,
+  sym,
+  ap,
+  ◌∙◌,
+  subst,
+  arith,
+  List,
+  [],
+  ◌∷◌,
+  length,
+  map,
+  reverse,
+  take,
+  drop,
+  Option,
+  Some,
+  None,
+  slice_get,
+  pos,
+}
 use Rattle.std.specs.Prelude.{is_some, if◌then◌else◌}
 use Rattle.std.specs.Option.{ForSome}
 use Rattle.std.proofs.lemmas.List.{length-reverse}
@@ -10,10 +43,13 @@ use Rattle.c_typed.specs.declared.tree.Change.{Change}
 use Rattle.c_typed.specs.declared.tree.Place.{Place}
 use Rattle.c_typed.specs.Order.{is_body, is_val}
 use Rattle.c_typed.specs.Tree.{Tree, size}
+use Rattle.c_typed.specs.Tree as typed
 use Rattle.mem_spec.specs.Script.{Done as Acts_done, Script, run}
 use Rattle.mem_spec.specs.Store.{Store}
 use Rattle.prov_memory.specs.Keeps.{RowsStay}
 use Rattle.prov_memory.specs.Memory.{store_of}
+use Rattle.completion_laws.specs.Listing.{CompletesListed, completed_of}
+use Rattle.c_model.specs.Completions.{completed_by}
 use Rattle.c_model.specs.ChoiceLaws.{IsClosed, IsNext, StaysClosed}
 use Rattle.c_model.specs.Moves.{Move, Stay}
 use Rattle.c_model.specs.Nodes.{changed}
@@ -30,6 +66,7 @@ use Rattle.c_model.specs.Steps.{
   event_act,
   event_of,
   move,
+  is_done,
   move_of,
   next,
   started,
@@ -48,10 +85,13 @@ use Rattle.run_code.specs.declared.steps.Act.{Act}
 use Rattle.run_code.specs.declared.steps.Due.{Due}
 use Rattle.run_code.specs.declared.steps.Expression.{Expression}
 use Rattle.run_code.specs.declared.steps.Listed.{Listed}
+use Rattle.run_code.specs.declared.steps.Listed.TheVariants as listed
 use Rattle.run_code.specs.Chosen.{IsKept}
 use Rattle.run_code.specs.Keeping.{KeepsAtEvent}
 use Rattle.run_code.specs.LaidOut.{LaidOutBy}
-use Rattle.run_listing.specs.Along.{IsListed, part_of}
+use Rattle.run_code.specs.OfTrees.{IsListingOf}
+use Rattle.run_listing.specs.Along.{IsListed, events_of, part_of}
+use Rattle.run_listing.specs.Cursor as cursors
 use Rattle.run_listing.specs.Cursor.{StandsBehind, StandsStraight}
 use Rattle.run_state.specs.declared.machine.Machine.{Machine}
 use Rattle.run_state.specs.declared.machine.Open.{Open}
@@ -62,9 +102,11 @@ use Rattle.run_state.specs.Stands.{Holds, HoldsAll, StandFrames, Stands, StandsB
 use Rattle.run_events.specs.Acts.{script_in}
 use Rattle.run_events.specs.Nodes.{IsActOf}
 use Rattle.run_events.specs.Performs.{ChangesOnly, HoldsUpdate, IsDone, gives_value, kept_room}
+use Rattle.run_machine.specs.declared.pick.Completed.{Completed}
+use Rattle.run_machine.specs.Completing.{CompletesNoted, EventCompletes, completed_seen}
 use Rattle.run_machine.specs.Ending.{NotesWay}
 use Rattle.run_machine.specs.Picks.{at_cursor, event_at, top_of, whole_part}
-use Rattle.run_machine.specs.Taking.{Decides, EventStands, EventSteps, HasRooms, StandsOpen, TakesEvent, after_event, store_after}
+use Rattle.run_machine.specs.Taking.{Decides, EventStands, EventSteps, HasRooms, IsPast, StandsOpen, TakesEvent, after_event, store_after}
 use Rattle.run_machine.proofs.Creating.{act_creates_none}
 use Rattle.run_machine.proofs.Deciding.{ChosenThen, NotedThen, Passed, chosen_then, done_then, listed_in, noted_then, passed}
 use Rattle.run_machine.proofs.Giving.{node_within, none_of, values_after}
@@ -97,6 +139,22 @@ module _ (world : World) (f : Local) (e : Begun) (u : Place) (may : MayPick worl
   done_within closed w given =
       node_within (taken_by world f.scene e) (tree_of e.root) w
       (has_due (taken_by world f.scene e) (tree_of e.root) 0 w ∙ (closed w given).due)
+
+-- ---- an entry of a part
+get_take : (k : ℕ) (xs : List Listed) (n : ℕ) (y : Listed) → slice_get (take k xs) n ≡ Some y → slice_get xs n ≡ Some y
+get_take zero xs n y h = absurd (cc)
+get_take (suc k) [] n y h = absurd (cc)
+get_take (suc k) (z ∷ zs) zero y h = h
+get_take (suc k) (z ∷ zs) (suc n) y h = get_take k zs n y h
+
+get_drop : (xs : List Listed) (c n : ℕ) → slice_get (drop c xs) n ≡ slice_get xs (c + n)
+get_drop xs zero n = ap (slice_get xs) (omega arith)
+get_drop [] (suc c) n = refl
+get_drop (x ∷ xs) (suc c) n = let e : suc (c + n) ≡ suc c + n = omega arith in get_drop xs c n ∙ ap (slice_get (x ∷ xs)) e
+
+abbrev cursor_in : Option Stage → ℕ
+cursor_in None = 0
+cursor_in (Some s) = s.cursor
 
 -- ---- its act, done
 -- the machine of the event, whose cursor stands there
@@ -356,6 +414,64 @@ module _ (trees : TreesAreKept) (keeps_at : KeepsAtEvent) (gives : RoomGives) (b
       ∙ ap (λ (n : ℕ). limit_passed world.limits n (store_of done.memory old.streams)) (depth_same st.top then_frame st.held refl)
       ∙ ap (λ (n : ℕ). limit_passed world.limits (depth_of st.top st.held) (record (store_of old.memory old.streams) { created = n })) created
       ∙ ap (limit_passed world.limits (depth_of st.top st.held)) (sym t.stood.stands.memory.store) ∙ is
+
+  -- ---- what it completes, along the canonical way
+  module _ (law : CompletesListed) (straight : s.straight ≡ true) where
+    along : IsPast true old s d t.taken.past
+    along = subst (λ (b : Bool). IsPast b old s d t.taken.past) straight t.taken.passes
+
+    abbrev position : ℕ
+    position = s.cursor + along.1.0
+
+    cursor_is : cursor ≡ suc position
+    cursor_is = ap (λ (k : Machine). cursor_in k.top.stage) (sym way.is ∙ along.5)
+
+    here : slice_get listing position ≡ Some (listed.Event d)
+    here =
+        sym (get_drop listing s.cursor along.1.0) ∙ (get_take (s.end - s.cursor) (drop s.cursor listing) along.1.0 (listed.Event along.1.1.now) along.4.0
+        ∙ ap (λ (z : Due). Some (listed.Event z)) along.3)
+
+    first_low : x.laid.first ≤ position
+    first_low =
+        let stood : StandsStraight world st.top.scene listing s.first s.cursor s.end e None =
+        subst (λ (b : Bool). StandsDone b world old height s.first s.cursor s.end st.top.scene e None) straight look.done in
+        let first = x.first in
+        let from = stood.order.0 in
+        omega (arith, first, from)
+
+    stands_after : StandsStraight world st.top.scene listing x.laid.first (suc position) x.laid.end after None
+    stands_after =
+        subst (λ (n : ℕ). StandsStraight world st.top.scene listing x.laid.first n x.laid.end after None) cursor_is
+        (subst (λ (n : ℕ). StandsStraight world st.top.scene listing n cursor x.laid.end after None) x.first
+        (subst (λ (n : ℕ). StandsStraight world st.top.scene listing s.first cursor n after None) x.end (way.stands straight)))
+
+    in_list : cursors.IsListed world st.top.scene listing x.laid.first x.laid.end after (taken_in chosen.choices)
+    in_list = (
+      subst (λ (es : List Listed). IsListingOf es (tree_of e.root)) parts look.listed.0,
+      λ n due. chosen.kept.chosen n ∙ ap (λ (b : Bool). if b then taken_by world st.top.scene after n else None) due,
+    )
+
+    typed_same : typed.tree_of x.laid.root.now ≡ tree_of e.root
+    typed_same = sym (ap tree_of x.root ∙ trees x.laid.root.now)
+
+    by_law : completed_by (tree_of e.root) (taken_by world st.top.scene after) (is_done after) d.place.node
+        ≡ completed_of d (events_of (taken_in chosen.choices) (part_of listing (suc position) x.laid.end))
+    by_law = law world st.top.scene listing t.event.firsts t.event.nodes old.code.now.tables x.laid position after (taken_in chosen.choices) d
+        (subst (λ (l : Expression). LaidOutBy t.event.firsts t.event.nodes old.code.now.tables listing l) same_laid t.event.lays) typed_same stands_after
+        in_list first_low here
+
+    pub completes_so : (c : Completed) → CompletesNoted d new c
+        → completed_seen c ≡ completed_by (tree_of e.root) (taken_by world st.top.scene after) (is_done after) d.place.node
+    completes_so c noted_so =
+        noted_so (record s { cursor = cursor }) (record x.shown { taken = chosen.choices }) (ap (λ (k : Machine). k.top.stage) moves)
+        (ap top_of moves ∙ chosen.shows)
+        ∙ (ap (λ (k : Machine). completed_of d (events_of (taken_in chosen.choices) (part_of k.code.now.listing.items cursor s.end))) moves
+        ∙ (ap (λ (n : ℕ). completed_of d (events_of (taken_in chosen.choices) (part_of listing n s.end))) cursor_is
+        ∙ (ap (λ (n : ℕ). completed_of d (events_of (taken_in chosen.choices) (part_of listing (suc position) n))) x.end ∙ sym by_law)))
+
+pub event_completes : TreesAreKept → KeepsAtEvent → RoomGives → StandsBehind → StaysClosed → CompletesListed → EventCompletes
+event_completes trees keeps_at gives behind closes law world meaning old new st e s laid d v t straight c noted =
+    completes_so trees keeps_at gives behind closes world meaning old new st e s laid d v t law straight c noted
 
 pub event_stands : TreesAreKept → KeepsAtEvent → RoomGives → StandsBehind → StaysClosed → EventStands
 event_stands trees keeps_at gives behind closes world meaning old new st e s laid d v t =

@@ -16,7 +16,8 @@ use Rattle.run_state.specs.declared.machine.Stage.{Stage}
 use Rattle.run_state.specs.declared.watch.Begun.{Begun as Shown}
 use Rattle.run_machine.specs.declared.pick.Pick.{Pick}
 use Rattle.run_machine.specs.Picks.{at_cursor, top_of, ByWay, ComesNext, Follows, FollowsIn, NextIsPermitted, TakesCanonical}
-use Rattle.run_machine.specs.Taking.{AnswersEvent, AnswersNext, AnswersTaken, IsAt, MayTake, StandsOpen, at_next}
+use Rattle.run_machine.specs.Completing.{CompletesAfter, CompletesEvent, CompletesNext}
+use Rattle.run_machine.specs.Taking.{AnswersEvent, AnswersNext, AnswersTaken, IsAt, MayTake, MayTakeNext, StandsOpen, at_next}
 use Rattle.run_machine.proofs.Still.{items_stand}
 
 -- ---- what comes next, to which the machine has gone on
@@ -61,38 +62,67 @@ at_ready old s due n true is comes = (comes.0, (n, due), comes.1, refl, comes.2,
 at_ready old s due n false is comes = absurd (cc)
 
 -- ---- the next event
-pub next_answers : NextIsPermitted → (old mid new : Machine) (is : List Item) (next : Option (Bor Due)) (due : Bor Due) (r : Result Pick Halt) →
-    Follows old mid next → next ≡ Some due → is ≡ [] → TakesCanonical old (place_of next) →
-    AnswersEvent due.now (record mid { items = is }) new r → AnswersNext old new r
-next_answers permits old mid new is next due r f some none canonical answers = λ world meaning st e s laid u asks picks.
+-- the machine has gone on to it, and may take it
+record Comes (world : World) (meaning : Option ℕ → Meaning) (old : Machine) (is : List Item) (st : State) (e : Begun) (s : Stage) (laid : Expression)
+    (due : Bor Due) (mid : Machine) (u : Place) : Type 0 where
+  same : due.now.place ≡ u
+  may : MayTake world meaning (record old { items = [] }) st e s laid due.now (record mid { items = is })
+
+comes : NextIsPermitted → (old mid : Machine) (is : List Item) (next : Option (Bor Due)) (due : Bor Due) → Follows old mid next → next ≡ Some due → is ≡ [] →
+    TakesCanonical old (place_of next) → (world : World) (meaning : Option ℕ → Meaning) (st : State) (e : Begun) (s : Stage) (laid : Expression) (u : Place) →
+    MayTakeNext world meaning old st e s laid → canonical_pick world st.top st.top.begun ≡ Ev u → Comes world meaning old is st e s laid due mid u
+comes permits old mid is next due f some none canonical world meaning st e s laid u asks picks =
     let came = came_next old mid s due old.top.stage (top_of old) asks.straight asks.stage refl (subst (λ (o : Option (Bor Due)). Follows old mid o) some f) in
     let ready = asks.each (came.count, due) came.comes in
-    let same : due.now.place ≡ u =
-    ev_place due.now.place u
-    (ap (λ (o : Option (Bor Due)). chosen_pick world (place_of o)) (sym some) ∙ canonical world meaning st asks.stood.stands ∙ picks) in
     let now : record mid { items = is } ≡ at_next old s came.count =
     ap (λ (k : List Item). record mid { items = k }) none ∙ ap (λ (k : Machine). record k { items = [] }) came.is in
     let may : MayPick world st.top (Some e) (Ev due.now.place) =
     subst (λ (z : Option Begun). MayPick world st.top z (Ev due.now.place)) asks.stood.begun
     ((permits old s (came.count, due) asks.stage asks.straight came.comes world meaning st asks.stood.stands).0 refl) in
-    subst (λ (v : Place). AnswersTaken world meaning r new (step world st (Ev v))) same
-    (answers world meaning (record old { items = [] }) st e s laid (subst (MayTake world meaning (record old { items = [] }) st e s laid due.now) (sym now)
-    (record {
-      stood = cleared_open world meaning old st e asks.stood;
-      within = asks.within;
-      items = refl;
-      stage = asks.stage;
-      end = asks.end;
-      at = asks.at;
-      rooms = asks.rooms;
-      event = ready.event;
-      constants = asks.constants;
-      extends = asks.extends;
-      plain = ready.plain;
-      may = may;
-      goes = at_ready old s due came.count s.straight asks.straight came.comes;
-      act = ready.act;
-    })))
+    record {
+      same = ev_place due.now.place u
+          (ap (λ (o : Option (Bor Due)). chosen_pick world (place_of o)) (sym some) ∙ canonical world meaning st asks.stood.stands ∙ picks);
+      may = subst (MayTake world meaning (record old { items = [] }) st e s laid due.now) (sym now)
+          (record {
+            stood = cleared_open world meaning old st e asks.stood;
+            within = asks.within;
+            items = refl;
+            stage = asks.stage;
+            end = asks.end;
+            at = asks.at;
+            rooms = asks.rooms;
+            event = ready.event;
+            constants = asks.constants;
+            extends = asks.extends;
+            plain = ready.plain;
+            may = may;
+            goes = at_ready old s due came.count s.straight asks.straight came.comes;
+            act = ready.act;
+          });
+    }
+
+pub next_answers : NextIsPermitted → (old mid new : Machine) (is : List Item) (next : Option (Bor Due)) (due : Bor Due) (r : Result Pick Halt) →
+    Follows old mid next → next ≡ Some due → is ≡ [] → TakesCanonical old (place_of next) →
+    AnswersEvent due.now (record mid { items = is }) new r → AnswersNext old new r
+next_answers permits old mid new is next due r f some none canonical answers = λ world meaning st e s laid u asks picks.
+    let c = comes permits old mid is next due f some none canonical world meaning st e s laid u asks picks in
+    subst (λ (v : Place). AnswersTaken world meaning r new (step world st (Ev v))) c.same
+    (answers world meaning (record old { items = [] }) st e s laid c.may)
+
+pub next_completes : NextIsPermitted → (old mid new : Machine) (is : List Item) (next : Option (Bor Due)) (due : Bor Due) (r : Result Pick Halt) →
+    Follows old mid next → next ≡ Some due → is ≡ [] → TakesCanonical old (place_of next) →
+    CompletesEvent due.now (record mid { items = is }) new r → CompletesNext old new r
+next_completes permits old mid new is next due r f some none canonical completes = λ world meaning st e s laid u asks picks.
+    let c = comes permits old mid is next due f some none canonical world meaning st e s laid u asks picks in
+    subst (λ (v : Place). CompletesAfter world r v new (step world st (Ev v))) c.same
+    (completes world meaning (record old { items = [] }) st e s laid c.may asks.straight)
+
+pub none_completes : (old new : Machine) (next : Option (Bor Due)) (r : Result Pick Halt) → next ≡ None → TakesCanonical old (place_of next) →
+    CompletesNext old new r
+none_completes old new next r none canonical = λ world meaning st e s laid u asks picks.
+    let control : Control ≡ Ev u =
+    ap (λ (o : Option (Bor Due)). chosen_pick world (place_of o)) (sym none) ∙ canonical world meaning st asks.stood.stands ∙ picks in
+    absurd (cc)
 
 pub none_next : (old new : Machine) (next : Option (Bor Due)) (r : Result Pick Halt) → next ≡ None → TakesCanonical old (place_of next) →
     AnswersNext old new r

@@ -8,5 +8,6 @@ pub mod Ending
 pub mod Entering
 pub mod Ended
 pub mod Taking
+pub mod Completing
 pub mod Starting
 pub mod Settling

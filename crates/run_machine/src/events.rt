@@ -1,6 +1,7 @@
 // An event of a full expression is taken.
 ghost use Rattle.std.specs.Prelude.{◌≡◌, Some, IfOk, OnOk};
 ghost use Rattle.run_code.specs.Named.{IsDueOf};
+ghost use Rattle.run_machine.specs.Completing.{CompletesEvent, CompletesPick};
 ghost use Rattle.run_machine.specs.Ending.{Notes};
 ghost use Rattle.run_machine.specs.Picks.{event_at, IsOfEvent};
 ghost use Rattle.run_machine.specs.Starting.{AnswersBody, FunctionStands, FunctionSteps};
@@ -47,6 +48,7 @@ pub fn take_event(machine: &mut Machine, due: &Due) -> Result<Pick, Halt>
     ensures event { IfOk result (IsOfEvent (event_at machine.old due.now.place)) }
     ensures answers { AnswersEvent due.now machine.old machine.new result }
     ensures bodies { AnswersBody due.now machine.old machine.new result }
+    ensures completes { CompletesEvent due.now machine.old machine.new result }
 {
     law_events();
     law_view();
@@ -78,6 +80,7 @@ fn finish_event(
 ) -> Result<Pick, Halt>
     requires named { IsDueOf code.now.tables due.now }
     ensures follows { FollowsEvent code.now event status due.now machine.old machine.new result }
+    ensures completes { CompletesPick due.now machine.new result }
 {
     note(machine, due.place)?;
     choose_at(machine, code, due)?;

@@ -1,8 +1,10 @@
 // Laws of the picks of a machine.
 ghost use Rattle.run_machine.specs.Picks.{NoneIsPermitted, UnlistedIsRefused, NextIsPermitted, PermitsDecided, FollowsCanonical};
+ghost use Rattle.run_machine.specs.Completing.{EventCompletes};
 ghost use Rattle.run_machine.specs.Taking.{EventStands, EventSteps};
 
 use c_model::law_update_halves;
+use completion_laws::law_listed_completes;
 use program_view::law_view;
 use run_code::law_choices;
 use run_listing::{law_cursor, law_listed_tree, law_strayed};
@@ -26,12 +28,14 @@ pub fn law_picks()
 
 /// Behind an event that isn't a body, and that may come next, a machine stands for the state of the definitions that has the event done: its value, what is
 /// chosen by it, and what is done; the frames below stand as they stood (`stands`). Where the act is that of its node, this is the definitions' next
-/// state, within the limits (`steps`).
+/// state, within the limits (`steps`). Along the canonical way it completes what the definitions say (`completes`).
 pub fn law_events()
     ensures stands { EventStands }
     ensures steps { EventSteps }
+    ensures completes { EventCompletes }
 {
     law_view();
+    law_listed_completes();
     law_choices();
     law_operands();
     law_cursor();

@@ -14,6 +14,7 @@ ghost use Rattle.run_listing.specs.Along.{events_of};
 ghost use Rattle.run_state.specs.Stands.{Stands};
 ghost use Rattle.run_state.specs.declared.watch.Begun.{Begun as BegunOf};
 ghost use Rattle.run_machine.specs.Answering.{AnswersCanonical, TakesControl};
+ghost use Rattle.run_machine.specs.Completing.{CompletesNext, CompletesNoted};
 ghost use Rattle.run_machine.specs.Starting.{AnswersNextBody};
 ghost use Rattle.run_machine.specs.Taking.{AnswersNext};
 ghost use Rattle.run_machine.specs.Picks.{top_of, passed_part, kept_of, at_cursor, ByOrder, ComesNext, Decides, Follows, IsPick, IsStep, Permits, Refuses, Strays, Takes};
@@ -38,6 +39,7 @@ pub fn canonical(machine: &mut Machine) -> Result<Pick, Halt>
     ensures steps { AnswersCanonical machine.old machine.new result }
     ensures events { AnswersNext machine.old machine.new result }
     ensures bodies { AnswersNextBody machine.old machine.new result }
+    ensures completes { CompletesNext machine.old machine.new result }
 {
     law_picks();
     let next = follow(machine)?;
@@ -248,7 +250,9 @@ fn move_on(machine: &mut Machine, stage: Stage, count: usize)
 
 // What the event completes: its node, and where the next event is the parent's own, all below the parent.
 #[inline(always)]
-pub fn completed(machine: &Machine, due: &Due) -> Result<Completed, NoMemory> {
+pub fn completed(machine: &Machine, due: &Due) -> Result<Completed, NoMemory>
+    ensures noted { IfOk result (CompletesNoted due.now machine.now) }
+{
     let (Some(stage), true) = (machine.top.stage, due.completes) else {
         return Ok(Completed::Nothing);
     };

@@ -1,7 +1,7 @@
-use Rattle.std.proofs.Common.{◌∙◌, ap, refl, Ok}
+use Rattle.std.proofs.Common.{◌∙◌, ap, refl, Ok, Err}
 use Rattle.run_machine.specs.declared.pick.Pick.TheVariants as pick
 use Rattle.run_machine.specs.Picks.{event_at}
-use Rattle.run_machine.proofs.Answered.{taken_done, taken_ended, taken_started, taken_stopped}
+use Rattle.run_machine.proofs.Answered.{completed_done, completed_else, completed_ended, taken_done, taken_ended, taken_started, taken_stopped}
 use Rattle.run_machine.proofs.Bodies.{body_done, body_ended, body_started, body_stopped}
 use Rattle.run_machine.proofs.events.take_event.Goals as goal
 
@@ -53,3 +53,28 @@ returns-in-Err-clause-bodies c =
     body_stopped c.law_view.ensures.trees c.law_cursor.ensures.starts c.args.due.now c.args.machine.now c.pass_event.new.machine c.perform.new.machine
     (event_at c.args.machine.now c.args.due.now.place) refl c.perform.result c.pass_event.ensures c.perform.ensures.bodies c.in-Err.fault
     c.args.due.now.line c.of.result c.in-Err.is c.of.ensures
+
+pub returns-in-Ok-Done-clause-completes : goal.returns-in-Ok-Done-clause-completes
+returns-in-Ok-Done-clause-completes c =
+    completed_done c.law_events.ensures.stands c.law_events.ensures.steps c.args.due.now c.args.machine.now c.pass_event.new.machine
+    c.perform.new.machine c.finish_event.new.machine c.perform.result c.finish_event.result c.pass_event.ensures
+    (c.perform.ensures.exact, c.perform.ensures.changes, c.perform.ensures.effect) c.law_events.ensures.completes
+    (c.in-Ok-Done.is ∙ ap Ok c.in-Ok-Done.field-0-is) c.finish_event.ensures.follows c.finish_event.ensures.completes
+
+pub returns-in-Ok-Started-clause-completes : goal.returns-in-Ok-Started-clause-completes
+returns-in-Ok-Started-clause-completes c =
+    completed_else c.law_events.ensures.stands c.law_events.ensures.steps c.args.due.now c.args.machine.now c.pass_event.new.machine
+    c.perform.new.machine c.perform.new.machine c.perform.result (Ok (pick.Starts (event_at c.args.machine.now c.args.due.now.place)))
+    c.pass_event.ensures (c.perform.ensures.exact, c.perform.ensures.changes, c.perform.ensures.effect) (λ world u o. tt)
+
+pub returns-in-Ok-End-clause-completes : goal.returns-in-Ok-End-clause-completes
+returns-in-Ok-End-clause-completes c =
+    completed_ended c.law_events.ensures.stands c.law_events.ensures.steps c.args.due.now c.args.machine.now c.pass_event.new.machine
+    c.perform.new.machine c.finish_event-in-Ok-End.new.machine c.perform.result c.finish_event-in-Ok-End.result c.pass_event.ensures
+    (c.perform.ensures.exact, c.perform.ensures.changes, c.perform.ensures.effect) _ (c.in-Ok-End.is ∙ ap Ok c.in-Ok-End.field-0-is)
+
+pub returns-in-Err-clause-completes : goal.returns-in-Err-clause-completes
+returns-in-Err-clause-completes c =
+    completed_else c.law_events.ensures.stands c.law_events.ensures.steps c.args.due.now c.args.machine.now c.pass_event.new.machine
+    c.perform.new.machine c.perform.new.machine c.perform.result (Err c.of.result) c.pass_event.ensures
+    (c.perform.ensures.exact, c.perform.ensures.changes, c.perform.ensures.effect) (λ world u o. tt)
