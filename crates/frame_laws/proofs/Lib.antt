@@ -1,0 +1,4 @@
+pub mod Runs
+pub mod Finds
+pub mod FrameKeeps
+pub mod StateKeeps

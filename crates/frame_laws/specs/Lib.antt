@@ -1,0 +1,4 @@
+pub mod Scopes
+pub mod Todos
+pub mod Frames
+pub mod Laws
