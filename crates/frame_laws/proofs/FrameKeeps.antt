@@ -86,7 +86,7 @@ nothing_outside world objects (Again e s ∷ rest) r = absurd r.0
 nothing_outside world objects (Test test step s ∷ rest) r = absurd r.0
 nothing_outside world objects (Break_here ∷ rest) r = absurd r.0
 
-abbrev begun_or : Begun → Option Begun → Begun
+abbrev pub begun_or : Begun → Option Begun → Begun
 begun_or x None = x
 begun_or x (Some y) = y
 

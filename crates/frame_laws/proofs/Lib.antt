@@ -2,3 +2,4 @@ pub mod Runs
 pub mod Finds
 pub mod FrameKeeps
 pub mod StateKeeps
+pub mod FactsHold

@@ -2,3 +2,4 @@ pub mod Scopes
 pub mod Todos
 pub mod Frames
 pub mod Laws
+pub mod Facts

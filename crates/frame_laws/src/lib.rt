@@ -4,9 +4,23 @@
 #![tactic(auto)]
 
 ghost use Rattle.frame_laws.specs.Laws.{StartsOrdered, StepsOrdered};
+ghost use Rattle.frame_laws.specs.Facts.{BlocksAreLeft, DeclaresInside, LeavesInnermost, EntersWithObjects, BeginsInScope, StaysInScope, GoesOnBehind, HeldWait};
 
 /// Along a run of a program whose names are in scope, from its start on, the frames are ordered.
 pub fn law_ordered()
     ensures starts { StartsOrdered }
     ensures keeps { StepsOrdered }
+{}
+
+/// What is so of each ordered frame: which blocks are open as one is entered or left, and at a declaration; that a full expression names automatic objects
+/// of open blocks alone (6.2.1p4), and what is left to do behind it; and what a frame that is held waits for.
+pub fn law_frames()
+    ensures left { BlocksAreLeft }
+    ensures declares { DeclaresInside }
+    ensures leaves { LeavesInnermost }
+    ensures enters { EntersWithObjects }
+    ensures begins { BeginsInScope }
+    ensures stays { StaysInScope }
+    ensures behind { GoesOnBehind }
+    ensures held { HeldWait }
 {}

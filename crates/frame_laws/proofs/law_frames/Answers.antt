@@ -1,0 +1,15 @@
+use Rattle.frame_laws.proofs.FactsHold.{blocks_are_left, declares_inside_blocks, leaves_innermost_block, enters_with_objects, begins_in_scope}
+use Rattle.frame_laws.proofs.FactsHold.{stays_in_scope, goes_behind, held_wait}
+use Rattle.frame_laws.proofs.law_frames.Goals as goal
+
+pub returns : goal.returns
+returns c = record {
+  left = blocks_are_left;
+  declares = declares_inside_blocks;
+  leaves = leaves_innermost_block;
+  enters = enters_with_objects;
+  begins = begins_in_scope;
+  stays = stays_in_scope;
+  behind = goes_behind;
+  held = held_wait;
+}
