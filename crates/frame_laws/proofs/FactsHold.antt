@@ -190,7 +190,7 @@ module _ (world : World) where
       → begins_first todo ≡ false → is_enter todo ≡ false → IsNext f hs todo
   next_of scoped f hs todo a e q never other =
       let i = by_step f hs a e (ap begins_first q ∙ never) in
-      next_in f hs i.body todo (scoped.bodies i.number i.body i.defined) (round_body f hs i) e q other i.stage
+      next_in f hs i.body todo (scoped i.number i.body i.defined) (round_body f hs i) e q other i.stage
 
   pub declares_inside : (f : Local) (hs : List (Local × Place)) (d : ℕ) (rest : Todo) → IsScoped world → AreOrdered world f hs → f.begun ≡ None
       → ready_work f.todo ≡ Unwrite d ∷ rest → IsAtDeclaration world f hs d
@@ -243,7 +243,7 @@ module _ (world : World) where
       → f.begun ≡ None → ready_work f.todo ≡ Enter b ds ∷ rest → IsAtEnter world f hs b ds
   enters_with f hs b ds rest scoped a e q =
       let i = by_step f hs a e (ap begins_first q) in
-      let r = enter_in f i.body b ds rest (scoped.bodies i.number i.body i.defined) q i.stage in
+      let r = enter_in f i.body b ds rest (scoped i.number i.body i.defined) q i.stage in
       record { function = function_there f i; objects = ap (λ o. objects_of_body o b) (round_body f hs i) ∙ r.0; arguments = r.1 }
 
   -- 4. Names.
@@ -305,11 +305,11 @@ module _ (world : World) where
   pub begins_in : (hs : List (Local × Place)) (f : Local) (e : Expr) (what : Use) (rest : Todo) → IsScoped world → AreOrdered world f hs → f.begun ≡ None
       → ready_work f.todo ≡ Begin e what ∷ rest → IsInScope world f hs e
   begins_in [] f e what rest scoped a shut q =
-      let i = a.0 in begin_in f [] i.body e what rest (scoped.bodies i.number i.body i.defined) (round_body f [] i) shut q i.stage
+      let i = a.0 in begin_in f [] i.body e what rest (scoped i.number i.body i.defined) (round_body f [] i) shut q i.stage
   begins_in (h ∷ hs) f e what rest scoped a shut q = kind a.0
     where
       kind : (IsOfFunction world f ⊎ IsOfInitializer f h.0 h.1) → IsInScope world f (h ∷ hs) e
-      kind (inl i) = begin_in f (h ∷ hs) i.body e what rest (scoped.bodies i.number i.body i.defined) (round_body f (h ∷ hs) i) shut q i.stage
+      kind (inl i) = begin_in f (h ∷ hs) i.body e what rest (scoped i.number i.body i.defined) (round_body f (h ∷ hs) i) shut q i.stage
       kind (inr i) =
           let same : i.tree ≡ e = ap (λ t. first_expr t e) (sym (before_tree f i.tree shut i.stage) ∙ q) in
           let E : Expr → Type 0 = λ x. ExprFits (objects_round world f (h ∷ hs)) (open_blocks f) x in

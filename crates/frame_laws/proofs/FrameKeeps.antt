@@ -297,7 +297,7 @@ module _ (world : World) where
     body = i.body;
     defined = i.defined;
     home = next_home f (ready_work f.todo) ∙ (i.home ∙ sym (next_path f (ready_work f.todo)));
-    stage = inr (next_stage i.body f (ap (body_of world) i.function ∙ i.defined) (scoped.bodies i.number i.body i.defined) e m i.stage);
+    stage = inr (next_stage i.body f (ap (body_of world) i.function ∙ i.defined) (scoped i.number i.body i.defined) e m i.stage);
   }
 
   -- 4. A full expression is settled, and its events.

@@ -3,3 +3,4 @@ pub mod Finds
 pub mod FrameKeeps
 pub mod StateKeeps
 pub mod FactsHold
+pub mod NamedNodes

@@ -17,7 +17,7 @@ use Rattle.c_model.specs.Steps.{Begun, Scene, Local, Pick, Control, Ev, at_node,
 use Rattle.c_model.specs.Steps.{next, function_of, own_body, body_frame, start_call, called_by, started, move_of, values_of, ends_with}
 use Rattle.c_model.specs.Runs.{State, Entry, Outcome, Refused, Raises, Over, No_row, Ends, Running, within, limited, back, moved, acted, step, start}
 use Rattle.c_model.specs.Runs.{started_run, main_frame, work_of}
-use Rattle.frame_laws.specs.Frames.{IsScoped, IsOfFunction, IsFresh, IsInBody, IsolatesAt, IsBeforeTree, IsInTree, IsOfInitializer, WasStarted, AreOrdered}
+use Rattle.frame_laws.specs.Frames.{IsScoped, HasMain, IsOfFunction, IsFresh, IsInBody, IsolatesAt, IsBeforeTree, IsInTree, IsOfInitializer, WasStarted, AreOrdered}
 use Rattle.frame_laws.specs.Laws.{StartsOrdered, StepsOrdered}
 use Rattle.frame_laws.proofs.FrameKeeps.{next_path, function_steps, function_settles, function_given, initializer_steps, initializer_given, tree_ends}
 
@@ -256,20 +256,20 @@ module _ (world : World) where
     stage = inl (record { todo = ap (work_of world) is; begun = refl; blocks = refl });
   }
 
-  started_ordered : IsScoped world → (vs : List Value) (act : Act Value) (st : State) → started_run world act vs ≡ Running st
+  started_ordered : HasMain world → (vs : List Value) (act : Act Value) (st : State) → started_run world act vs ≡ Running st
       → AreOrdered world st.top st.held
-  started_ordered scoped vs (Done v is s) st q =
+  started_ordered main vs (Done v is s) st q =
       let S : State → Type 0 = λ z. AreOrdered world z.top z.held in
       let first : State = record { top = main_frame world vs; held = []; store = s; trace = [] } in
-      let ordered : AreOrdered world (main_frame world vs) [] = (main_ordered vs (body_of world (Some world.program.main)) refl scoped.main, refl) in
+      let ordered : AreOrdered world (main_frame world vs) [] = (main_ordered vs (body_of world (Some world.program.main)) refl main, refl) in
       subst S (same_state first st (through_limited world.limits _ st q)) ordered
-  started_ordered scoped vs (Raised c) st q = absurd (cc (q))
-  started_ordered scoped vs (Ended n is s) st q = absurd (cc (q))
-  started_ordered scoped vs (Outside c n) st q = absurd (cc (q))
-  started_ordered scoped vs Unplaced st q = absurd (cc (q))
+  started_ordered main vs (Raised c) st q = absurd (cc (q))
+  started_ordered main vs (Ended n is s) st q = absurd (cc (q))
+  started_ordered main vs (Outside c n) st q = absurd (cc (q))
+  started_ordered main vs Unplaced st q = absurd (cc (q))
 
 pub starts_ordered : StartsOrdered
-starts_ordered world input vs st scoped q = started_ordered world scoped vs _ st (through_within _ _ st q)
+starts_ordered world input vs st scoped main q = started_ordered world main vs _ st (through_within _ _ st q)
 
 pub steps_ordered : StepsOrdered
 steps_ordered world st after p scoped a q = acted_ordered world scoped st p _ after a (through_within _ _ after q)

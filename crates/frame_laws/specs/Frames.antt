@@ -13,10 +13,13 @@ use Rattle.frame_laws.specs.Todos.{EntersFirst, UseFits, Runs}
 
 -- 1. The program.
 
--- each function that is defined names automatic objects of blocks round the place alone (6.2.1p4), and `main` is defined (5.1.2.2.1p1)
-pub record IsScoped (world : World) : Type 0 where
-  pub bodies : (n : ℕ) (body : Stmt) → body_of world (Some n) ≡ Some body → BodyFits body
-  pub main : is_some (body_of world (Some world.program.main)) ≡ true
+-- each function that is defined names automatic objects of blocks round the place alone (6.2.1p4)
+abbrev pub IsScoped : World → Type 0
+IsScoped world = (n : ℕ) (body : Stmt) → body_of world (Some n) ≡ Some body → BodyFits body
+
+-- `main` is defined (5.1.2.2.1p1)
+abbrev pub HasMain : World → Type 0
+HasMain world = is_some (body_of world (Some world.program.main)) ≡ true
 
 -- 2. The frame of a function.
 

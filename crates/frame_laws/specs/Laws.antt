@@ -4,11 +4,11 @@ use Rattle.c_model.specs.Values.{Value}
 use Rattle.c_model.specs.Steps.{Pick}
 use Rattle.c_model.specs.Runs.{State, Running, step, start}
 use Rattle.c_model.specs.World.{World}
-use Rattle.frame_laws.specs.Frames.{IsScoped, AreOrdered}
+use Rattle.frame_laws.specs.Frames.{IsScoped, HasMain, AreOrdered}
 
 abbrev pub StartsOrdered : Type 0
-StartsOrdered = (world : World) (input : List ℕ) (vs : List Value) (st : State) → IsScoped world → start world input vs ≡ Running st
-    → AreOrdered world st.top st.held
+StartsOrdered = (world : World) (input : List ℕ) (vs : List Value) (st : State) → IsScoped world → HasMain world
+    → start world input vs ≡ Running st → AreOrdered world st.top st.held
 
 -- each pick keeps them so, a permitted one too
 abbrev pub StepsOrdered : Type 0

@@ -3,3 +3,4 @@ pub mod Todos
 pub mod Frames
 pub mod Laws
 pub mod Facts
+pub mod Named

@@ -5,6 +5,7 @@
 
 ghost use Rattle.frame_laws.specs.Laws.{StartsOrdered, StepsOrdered};
 ghost use Rattle.frame_laws.specs.Facts.{BlocksAreLeft, DeclaresInside, LeavesInnermost, EntersWithObjects, BeginsInScope, StaysInScope, GoesOnBehind, HeldWait};
+ghost use Rattle.frame_laws.specs.Named.{NamesAreSeen, NodesAreInScope, LawfulIsScoped};
 
 /// Along a run of a program whose names are in scope, from its start on, the frames are ordered.
 pub fn law_ordered()
@@ -23,4 +24,15 @@ pub fn law_frames()
     ensures stays { StaysInScope }
     ensures behind { GoesOnBehind }
     ensures held { HeldWait }
+{}
+
+/// The model's expression of a typed tree names the objects that the nodes of the tree name; so where a full expression is in scope, each node is.
+pub fn law_names()
+    ensures seen { NamesAreSeen }
+    ensures nodes { NodesAreInScope }
+{}
+
+/// Each function of a lawful program names automatic objects of blocks round the place alone (6.2.1p4).
+pub fn law_scoped()
+    ensures { LawfulIsScoped }
 {}

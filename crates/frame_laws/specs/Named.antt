@@ -1,0 +1,37 @@
+-- The objects that a typed tree names, and that lawful programs name objects of blocks round the place alone.
+use Rattle.std.specs.Prelude.{◌≡◌, ℕ, List, [], ◌∷◌, ◌++◌, map}
+use Rattle.std.specs.List.{All}
+use Rattle.c_typed.specs.declared.tree.Slot.{Slot}
+use Rattle.c_typed.specs.declared.tree.Typed.{Typed}
+use Rattle.c_typed.specs.declared.tree.Node.TheOpen as shape
+use Rattle.c_typed.specs.declared.program.Program.{Program}
+use Rattle.c_typed.specs.Sites.{Head, Site, sites}
+use Rattle.c_typed.specs.Lawful.{IsLawful}
+use Rattle.c_model.specs.World.{World}
+use Rattle.program_view.specs.Trees.{expr_of}
+use Rattle.program_view.specs.View.{function_of}
+use Rattle.frame_laws.specs.Scopes.{Objects, names, AreOpen, ExprFits}
+use Rattle.frame_laws.specs.Frames.{IsScoped}
+
+-- the object that a node names itself
+abbrev pub named_at : Head → List Slot
+named_at (shape.Obj slot) = slot ∷ []
+named_at (shape.List slot bytes) = slot ∷ []
+named_at _ = []
+
+abbrev pub all_named : List Site → List Slot
+all_named [] = []
+all_named (s ∷ ss) = named_at s.head ++ all_named ss
+
+-- the model's expression of a typed tree names the objects that the nodes of the tree name
+abbrev pub NamesAreSeen : Type 0
+NamesAreSeen = (t : Typed) → names (expr_of t) ≡ all_named (sites t)
+
+-- so where it names objects of open blocks alone, each node does
+abbrev pub NodesAreInScope : Type 0
+NodesAreInScope = (objects : Objects) (around : List ℕ) (t : Typed) → ExprFits objects around (expr_of t)
+    → All (λ s. AreOpen objects around (named_at s.head)) (sites t)
+
+-- A world that has the functions of a lawful program (6.2.1p4).
+abbrev pub LawfulIsScoped : Type 0
+LawfulIsScoped = (p : Program) (world : World) → IsLawful p → world.program.functions ≡ map (function_of p.tags) p.functions → IsScoped world
