@@ -4,3 +4,5 @@ pub mod FrameKeeps
 pub mod StateKeeps
 pub mod FactsHold
 pub mod NamedNodes
+pub mod LawfulNames
+pub mod LawfulPrograms

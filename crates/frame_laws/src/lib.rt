@@ -7,6 +7,8 @@ ghost use Rattle.frame_laws.specs.Laws.{StartsOrdered, StepsOrdered};
 ghost use Rattle.frame_laws.specs.Facts.{BlocksAreLeft, DeclaresInside, LeavesInnermost, EntersWithObjects, BeginsInScope, StaysInScope, GoesOnBehind, HeldWait};
 ghost use Rattle.frame_laws.specs.Named.{NamesAreSeen, NodesAreInScope, LawfulIsScoped};
 
+use program_view::law_view;
+
 /// Along a run of a program whose names are in scope, from its start on, the frames are ordered.
 pub fn law_ordered()
     ensures starts { StartsOrdered }
@@ -35,4 +37,6 @@ pub fn law_names()
 /// Each function of a lawful program names automatic objects of blocks round the place alone (6.2.1p4).
 pub fn law_scoped()
     ensures { LawfulIsScoped }
-{}
+{
+    law_view();
+}
