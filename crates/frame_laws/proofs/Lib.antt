@@ -6,3 +6,4 @@ pub mod FactsHold
 pub mod NamedNodes
 pub mod LawfulNames
 pub mod LawfulPrograms
+pub mod OrdersKeep

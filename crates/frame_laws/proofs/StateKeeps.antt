@@ -27,7 +27,7 @@ abbrev pub state_in : Outcome → State → State
 state_in (Running st) other = st
 state_in o other = other
 
-same_state : (a b : State) → Running a ≡ Running b → a ≡ b
+pub same_state : (a b : State) → Running a ≡ Running b → a ≡ b
 same_state a b q = ap (λ o. state_in o a) q
 
 through_within : (x : Option (Cause × ℕ)) (o : Outcome) (st : State) → within x o ≡ Running st → o ≡ Running st

@@ -3,7 +3,7 @@
 //! A law function takes nothing and answers nothing: its contract is a law about the definitions.
 #![tactic(auto)]
 
-ghost use Rattle.frame_laws.specs.Laws.{StartsOrdered, StepsOrdered};
+ghost use Rattle.frame_laws.specs.Laws.{StartsOrdered, StepsOrdered, OrdersOrdered, CanonicalOrdered};
 ghost use Rattle.frame_laws.specs.Facts.{BlocksAreLeft, DeclaresInside, LeavesInnermost, EntersWithObjects, BeginsInScope, StaysInScope, GoesOnBehind, HeldWait};
 ghost use Rattle.frame_laws.specs.Named.{NamesAreSeen, NodesAreInScope, LawfulIsScoped};
 
@@ -13,6 +13,8 @@ use program_view::law_view;
 pub fn law_ordered()
     ensures starts { StartsOrdered }
     ensures keeps { StepsOrdered }
+    ensures orders { OrdersOrdered }
+    ensures canonical { CanonicalOrdered }
 {}
 
 /// What is so of each ordered frame: which blocks are open as one is entered or left, and at a declaration; that a full expression names automatic objects
