@@ -1,24 +1,27 @@
 -- What is so of ordered frames.
-use Rattle.std.proofs.Common.{◌≡◌, ℕ, suc, ◌+◌, Bool, true, false, ◌⊎◌, inl, inr, List, [], ◌∷◌, ◌++◌, map, Option, Some, None, is_some, if◌then◌else◌, nat_lt, ◌==◌}
+use Rattle.std.proofs.Common.{◌≡◌, ℕ, suc, ◌+◌, Bool, true, false, ◌⊎◌, inl, inr, List, [], ◌∷◌, ◌++◌, map, Option, Some, None, is_some}
+use Rattle.std.proofs.Common.{if◌then◌else◌, nat_lt, ◌==◌}
 use Rattle.std.proofs.Common.{refl, sym, ap, ◌∙◌, subst}
 use Rattle.c_typed.specs.declared.tree.Place.{Place}
 use Rattle.c_typed.specs.declared.tree.Slot.{Slot}
 use Rattle.c_typed.specs.Tree.{size}
-use Rattle.c_model.specs.Program.{Decl, Head, Isolated, Expr, expr, Exprs, none, more, Stmt, Value, Empty, Declare, Block, If, If_only, Switch, tree_of}
+use Rattle.c_model.specs.Program.{Decl, Isolated, Expr, expr, Exprs, none, more, Stmt, Value, Empty, Declare, Block, If, If_only, Switch, tree_of}
 use Rattle.c_model.specs.Program.{Do, For, Goto, Continue, Break, Return, Return_none, Label, Case, Default}
-use Rattle.c_model.specs.Control.{Todo, Work, Enter, Leave, Unwrite, Begin, Nothing_to_do, Go_to, Go_out, Go_on, Go_back, To_do, Rest, Round}
+use Rattle.c_model.specs.Control.{Todo, Enter, Leave, Unwrite, Begin, Nothing_to_do, Go_to, Go_out, Go_on, Go_back, To_do, Rest, Round}
 use Rattle.c_model.specs.Control.{Again, Test, Break_here, Use, Unused, ready_work, work_after}
-use Rattle.c_model.specs.OpenBlocks.{Closes, NoEnters, NoEntersBehind}
-use Rattle.c_model.proofs.OpenKeeps.{ready_closes, ready_enters}
+use Rattle.c_model.specs.OpenBlocks.{Closes, NoEntersBehind}
+use Rattle.c_model.proofs.OpenKeeps.{ready_closes}
 use Rattle.c_model.specs.Values as model
 use Rattle.c_model.specs.Values.{truth, integer_of}
 use Rattle.c_model.specs.World.{World}
 use Rattle.c_model.specs.Steps.{Begun, Local, at_node, at_node_among, body_of, ends_with, settled}
-use Rattle.frame_laws.specs.Scopes.{Objects, objects_in, names, names_of_all, head_names, AreOpen, ExprFits, Fits, BodyFits, DeclareFits}
-use Rattle.frame_laws.specs.Todos.{IsInside, EntersFirst, UseFits, Runs}
-use Rattle.frame_laws.specs.Frames.{IsScoped, open_blocks, IsOutermost, number_of, EntersInFront, BegunFits, IsFresh, IsInBody, IsOfFunction, IsolatesAt}
+use Rattle.frame_laws.specs.Scopes.{Objects, objects_in, names, names_of_all, head_names, AreOpen, ExprFits, BodyFits, DeclareFits}
+use Rattle.frame_laws.specs.Todos.{IsInside, EntersFirst, Runs}
+use Rattle.frame_laws.specs.Frames.{IsScoped, open_blocks, IsOutermost, number_of, EntersInFront, BegunFits, IsFresh, IsInBody, IsOfFunction}
+use Rattle.frame_laws.specs.Frames.{IsolatesAt}
 use Rattle.frame_laws.specs.Frames.{IsBeforeTree, IsInTree, IsOfInitializer, AreOrdered, function_round, or_else, objects_of_body, objects_round}
-use Rattle.frame_laws.specs.Facts.{BlocksAreLeft, IsAtDeclaration, DeclaresInside, IsAtLeave, LeavesInnermost, IsAtEnter, EntersWithObjects, IsInScope}
+use Rattle.frame_laws.specs.Facts.{BlocksAreLeft, IsAtDeclaration, DeclaresInside, IsAtLeave, LeavesInnermost, IsAtEnter, EntersWithObjects}
+use Rattle.frame_laws.specs.Facts.{IsInScope}
 use Rattle.frame_laws.specs.Facts.{BeginsInScope, StaysInScope, IsBehind, GoesOnBehind, AllWait, HeldWait}
 use Rattle.frame_laws.proofs.Runs.{ready_runs, ready_first, runs_close}
 use Rattle.frame_laws.proofs.Finds.{after_goes}
@@ -29,7 +32,6 @@ use Rattle.frame_laws.proofs.FrameKeeps.{inside_of, begun_or}
 abbrev expr_or : Expr → Option Expr → Expr
 expr_or x None = x
 expr_or x (Some y) = y
-
 
 module _ (objects : Objects) (around : List ℕ) where
   open_parts : (xs ys : List Slot) → AreOpen objects around (xs ++ ys) → AreOpen objects around xs × AreOpen objects around ys
@@ -67,6 +69,25 @@ module _ (objects : Objects) (around : List ℕ) where
 inside_left : (todo : Todo) (bs : List ℕ) → Closes todo bs → IsInside bs → todo ≡ [] → ⊥
 inside_left [] bs c i e = let P : List ℕ → Type 0 = IsInside in subst P c i
 inside_left (w ∷ rest) bs c i e = absurd (cc (e))
+
+-- outside of all blocks nothing is left to do
+none_outside : (objects : Objects) (rest : Todo) → Runs objects rest [] [] → rest ≡ []
+none_outside objects [] r = refl
+none_outside objects (Enter b ds ∷ rest) r = absurd r.0
+none_outside objects (Leave b ds ∷ rest) r = absurd r
+none_outside objects (Unwrite d ∷ rest) r = absurd r.0
+none_outside objects (Begin e what ∷ rest) r = absurd r.0
+none_outside objects (Nothing_to_do ∷ rest) r = absurd r.0
+none_outside objects (Go_to k ∷ rest) r = absurd r.0
+none_outside objects (Go_out ∷ rest) r = absurd r.0
+none_outside objects (Go_on ∷ rest) r = absurd r.0
+none_outside objects (Go_back ∷ rest) r = absurd r.0
+none_outside objects (To_do s ∷ rest) r = absurd r.0
+none_outside objects (Rest ss ∷ rest) r = absurd r.0
+none_outside objects (Round test step s ∷ rest) r = absurd r.0
+none_outside objects (Again e s ∷ rest) r = absurd r.0
+none_outside objects (Test test step s ∷ rest) r = absurd r.0
+none_outside objects (Break_here ∷ rest) r = absurd r.0
 
 ends_not : (world : World) (todo : Todo) → (todo ≡ [] → ⊥) → ends_with world todo ≡ false
 ends_not world [] f = absurd (f refl)
@@ -132,7 +153,8 @@ module _ (world : World) where
   before_tree f tree e (inl b) = ap ready_work b.todo
   before_tree f tree e (inr b) = absurd (let h = b.begun in cc (e, h))
 
-  in_tree : (f : Local) (tree : Expr) (e : Begun) → f.begun ≡ Some e → (IsBeforeTree tree f ⊎ IsInTree tree f) → (e.root ≡ tree) × (e.what ≡ Unused) × (f.todo ≡ [])
+  in_tree : (f : Local) (tree : Expr) (e : Begun) → f.begun ≡ Some e → (IsBeforeTree tree f ⊎ IsInTree tree f)
+      → (e.root ≡ tree) × (e.what ≡ Unused) × (f.todo ≡ [])
   in_tree f tree e is (inl b) = absurd (let h = b.begun in cc (is, h))
   in_tree f tree e is (inr b) =
       let same : e ≡ b.open_tree = ap (begun_or e) (sym is ∙ b.begun) in
@@ -207,12 +229,15 @@ module _ (world : World) where
       }
 
   leave_in : (objects : Objects) (b : ℕ) (ds : List Decl) (rest : Todo) (bs : List ℕ) → Runs objects (Leave b ds ∷ rest) bs []
-      → (objects b ≡ Some ds) × (ends_with world (ready_work rest) ≡ true → bs ≡ b ∷ [])
+      → (objects b ≡ Some ds) × (ends_with world (ready_work rest) ≡ true → bs ≡ b ∷ []) × (bs ≡ b ∷ [] → rest ≡ [])
   leave_in objects b ds rest [] r = absurd r
-  leave_in objects b ds rest (o ∷ []) r = (r.1, λ e. ap (λ x. x ∷ []) r.0)
-  leave_in objects b ds rest (o ∷ p ∷ os) r =
-      (r.1, λ e. absurd (inside_left (ready_work rest) (p ∷ os) (ready_closes rest (p ∷ os) (runs_close objects rest (p ∷ os) r.2)) tt
-      (ends_none world (ready_work rest) e)))
+  leave_in objects b ds rest (o ∷ []) r = (r.1, (λ e. ap (λ x. x ∷ []) r.0), λ e. none_outside objects rest r.2)
+  leave_in objects b ds rest (o ∷ p ∷ os) r = (
+    r.1,
+    (λ e. absurd (inside_left (ready_work rest) (p ∷ os) (ready_closes rest (p ∷ os) (runs_close objects rest (p ∷ os) r.2)) tt
+        (ends_none world (ready_work rest) e))),
+    λ e. absurd (cc (e)),
+  )
 
   pub leaves_innermost : (f : Local) (hs : List (Local × Place)) (b : ℕ) (ds : List Decl) (rest : Todo) → IsScoped world → AreOrdered world f hs
       → f.begun ≡ None → ready_work f.todo ≡ Leave b ds ∷ rest → IsAtLeave world f hs b ds rest
@@ -225,6 +250,7 @@ module _ (world : World) where
         closes = function_left f i;
         objects = ap (λ o. objects_of_body o b) n.is ∙ r.0;
         last = r.1;
+        outermost = r.2;
       }
 
   enter_in : (f : Local) (body : Stmt) (b : ℕ) (ds : List Decl) (rest : Todo) → BodyFits body → ready_work f.todo ≡ Enter b ds ∷ rest

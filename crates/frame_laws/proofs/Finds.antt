@@ -1,15 +1,17 @@
 -- The work from a label on, or from a case on, goes with the blocks round it, and so do the moves to it.
 use Rattle.std.proofs.Common.{◌≡◌, ℕ, Bool, true, false, ◌==◌, List, [], ◌∷◌, ◌++◌, Option, Some, None, if◌then◌else◌, ℤ, arith}
 use Rattle.std.proofs.Common.{refl, sym, ap, ◌∙◌, subst, append_assoc, append-nil}
-use Rattle.c_model.specs.Program.{Decl, Expr, Stmt, Value, Empty, Declare, Block, If, If_only, Switch, Do, For, Goto, Continue, Break}
+use Rattle.c_model.specs.Program.{Decl, Stmt, Value, Empty, Declare, Block, If, If_only, Switch, Do, For, Goto, Continue, Break}
 use Rattle.c_model.specs.Program.{Return, Return_none, Label, Case, Default, Stmts, end, and_then}
 use Rattle.c_model.specs.Control.{Todo, Work, Enter, Leave, Unwrite, Begin, Nothing_to_do, Go_to, Go_out, Go_on, Go_back, To_do, Rest, Round}
 use Rattle.c_model.specs.Control.{Again, Test, Break_here, blocks_round, enter_all, leave_all, unshared, gone_to}
-use Rattle.c_model.specs.Control.{Use, Unused, To_branch, To_enter, To_select, To_go_round, To_go_again, Result, leaves, work_after, selected, moved_in}
-use Rattle.c_model.specs.Control.{Target, to_case, to_default, is_label, is_case, is_default, goes_into_switch, found_here, first_of, and_after, if_goes, find, find_in}
+use Rattle.c_model.specs.Control.{Use, Unused, To_branch, To_enter, To_select, To_go_round, To_go_again, Result, leaves, work_after, selected}
+use Rattle.c_model.specs.Control.{moved_in}
+use Rattle.c_model.specs.Control.{Target, to_case, to_default, is_label, is_case, is_default, goes_into_switch, found_here, first_of, and_after}
+use Rattle.c_model.specs.Control.{if_goes, find, find_in}
 use Rattle.c_model.specs.OpenBlocks.{NoEnters}
 use Rattle.c_model.proofs.OpenKeeps.{finds_no_enters}
-use Rattle.frame_laws.specs.Scopes.{Objects, ExprFits, Fits, AllFit}
+use Rattle.frame_laws.specs.Scopes.{Objects, Fits, AllFit}
 use Rattle.frame_laws.specs.Todos.{IsInside, EntersFirst, UseFits, Runs}
 use Rattle.frame_laws.specs.Frames.{IsOutermost}
 use Rattle.frame_laws.proofs.Runs.{append_runs, leaves_run, leaves_enter, none_first, append_enters}
@@ -273,10 +275,11 @@ module _ (objects : Objects) where
       → NoEnters rest → Runs objects rest around last → Goes (moved_in o rest) around last
   moved_goes None rest around last none i f n r = (r, none_first rest n)
   moved_goes (Some ws) rest around last none i f n r =
-      let P : List ℕ → Type 0 = λ xs. Runs objects (ws ++ rest) xs last in
-      (enters_run (blocks_round ws []) (ws ++ rest) around last i (round_declared ws [] (left_in ws ++ around) around f tt)
-      (subst P (sym (round_is ws [] around)) (append_runs objects ws rest (left_in ws ++ around) around last f r)),
-      enter_first (blocks_round ws []) (ws ++ rest) (none_first (ws ++ rest) (append_enters ws rest (none ws refl) n)))
+      let P : List ℕ → Type 0 = λ xs. Runs objects (ws ++ rest) xs last in (
+        enters_run (blocks_round ws []) (ws ++ rest) around last i (round_declared ws [] (left_in ws ++ around) around f tt)
+            (subst P (sym (round_is ws [] around)) (append_runs objects ws rest (left_in ws ++ around) around last f r)),
+        enter_first (blocks_round ws []) (ws ++ rest) (none_first (ws ++ rest) (append_enters ws rest (none ws refl) n)),
+      )
 
   none_in_first : (s : Stmt) (t u : Target) (ws : Todo) → first_of (find t s) (find u s) ≡ Some ws → NoEnters ws
   none_in_first s t u ws e = go (find t s) (λ vs k. finds_no_enters t s vs k) e
@@ -320,12 +323,13 @@ module _ (objects : Objects) where
       let us = unshared (blocks_round todo []) (blocks_round ws []) in
       let vs = unshared (blocks_round ws []) (blocks_round todo []) in
       let P : List ℕ → Type 0 = λ xs. Runs objects ws xs [] in
-      let Q : List ℕ → Type 0 = λ xs. Runs objects (gone_to todo (Some ws)) xs [] in
-      (subst Q (sym (is ∙ s.first)) (leaves_all_run us (enter_all vs ws) s.base []
-      (unshared_declared (blocks_round todo []) (blocks_round ws []) (round_declared todo [] around [] r tt))
-      (enters_run vs ws s.base [] s.inside
-      (unshared_declared (blocks_round ws []) (blocks_round todo []) (round_declared ws [] (left_in ws) [] f tt)) (subst P (comes ∙ s.second) f))),
-      leave_first us (enter_all vs ws) (enter_first vs ws (none_first ws m)))
+      let Q : List ℕ → Type 0 = λ xs. Runs objects (gone_to todo (Some ws)) xs [] in (
+        subst Q (sym (is ∙ s.first)) (leaves_all_run us (enter_all vs ws) s.base []
+            (unshared_declared (blocks_round todo []) (blocks_round ws []) (round_declared todo [] around [] r tt))
+            (enters_run vs ws s.base [] s.inside
+            (unshared_declared (blocks_round ws []) (blocks_round todo []) (round_declared ws [] (left_in ws) [] f tt)) (subst P (comes ∙ s.second) f))),
+        leave_first us (enter_all vs ws) (enter_first vs ws (none_first ws m)),
+      )
 
   -- `goto` in a body: to its label, if it has it
   gone_goes_in : (t : Target) (b : ℕ) (ds : List Decl) (ss : Stmts) (o : Option Todo) → find_in t ss ≡ o → (todo : Todo) (around : List ℕ)
@@ -339,7 +343,8 @@ module _ (objects : Objects) where
       after_runs (Some ws) (Leave b ds) (b ∷ []) [] found (refl, f.0, refl) refl in
       let P : List ℕ → Type 0 = λ xs. Runs objects (ws ++ Leave b ds ∷ []) xs [] in
       let O : List ℕ → Type 0 = IsOutermost b in
-      gone_goes_to b (ws ++ Leave b ds ∷ []) todo around u n r (finds_no_enters t (Block b ds ss) (ws ++ Leave b ds ∷ []) (ap (λ x. and_after x (Leave b ds)) e))
+      gone_goes_to b (ws ++ Leave b ds ∷ []) todo around u n r
+      (finds_no_enters t (Block b ds ss) (ws ++ Leave b ds ∷ []) (ap (λ x. and_after x (Leave b ds)) e))
       (subst P (append-nil (left_in (ws ++ Leave b ds ∷ []))) whole) (subst O (sym (left_append ws (Leave b ds ∷ []))) (last_is b (left_in ws)))
 
   pub gone_goes : (t : Target) (b : ℕ) (ds : List Decl) (ss : Stmts) (todo : Todo) (around : List ℕ)

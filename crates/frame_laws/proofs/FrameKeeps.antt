@@ -1,22 +1,22 @@
 -- What a pick does in the frame of a function, and in that of an isolated initializer.
-use Rattle.std.proofs.Common.{◌≡◌, ℕ, suc, Bool, true, false, ◌==◌, ◌⊎◌, inl, inr, List, [], ◌∷◌, map, Option, Some, None, if◌then◌else◌, ℤ, is_some, is_none}
-use Rattle.std.proofs.Common.{◌&&◌, refl, sym, ap, ◌∙◌, subst, arith}
+use Rattle.std.proofs.Common.{◌≡◌, ℕ, Bool, true, false, ◌==◌, ◌⊎◌, inl, inr, List, [], ◌∷◌, map, Option, Some, None, if◌then◌else◌}
+use Rattle.std.proofs.Common.{refl, sym, ap, ◌∙◌, subst, arith}
 use Rattle.c_typed.specs.declared.tree.Place.{Place}
 use Rattle.c_model.specs.Program.{Decl, Expr, Stmt, Value, Empty, Declare, Block, If, If_only, Switch, Do, For, Goto, Continue, Break}
-use Rattle.c_model.specs.Program.{Return, Return_none, Label, Case, Default, tree_of}
-use Rattle.c_model.specs.Control.{Todo, Work, Enter, Leave, Unwrite, Begin, Nothing_to_do, Go_to, Go_out, Go_on, Go_back, To_do, Rest, Round}
-use Rattle.c_model.specs.Control.{Again, Test, Break_here, Use, Unused, ready_work, out_of, on_with, leaves, to_label, find, gone_to, work_after}
+use Rattle.c_model.specs.Program.{Return, Return_none, Label, Case, Default}
+use Rattle.c_model.specs.Control.{Todo, Enter, Leave, Unwrite, Begin, Nothing_to_do, Go_to, Go_out, Go_on, Go_back, To_do, Rest, Round}
+use Rattle.c_model.specs.Control.{Again, Test, Break_here, Unused, ready_work, out_of, on_with, leaves, to_label, find, gone_to, work_after}
 use Rattle.c_model.specs.OpenBlocks.{NoEnters}
-use Rattle.c_model.specs.Moves.{Move, Stay, Start, End}
+use Rattle.c_model.specs.Moves.{Move, Stay, End}
 use Rattle.c_model.specs.Values as model
 use Rattle.c_model.specs.Values.{truth, integer_of}
 use Rattle.c_model.specs.World.{World}
-use Rattle.c_model.specs.Steps.{Begun, Scene, Local, Pick, Control, Ev, begin, with_given, without_block, ends_with, control_move, move, is_result, settled}
-use Rattle.c_model.specs.Steps.{root_value, body_of, found_label, control_next, next}
-use Rattle.frame_laws.specs.Scopes.{Objects, objects_in, ExprFits, Fits, BodyFits}
-use Rattle.frame_laws.specs.Todos.{IsInside, EntersFirst, UseFits, Runs}
+use Rattle.c_model.specs.Steps.{Begun, Local, begin, with_given, without_block, ends_with, control_move, settled}
+use Rattle.c_model.specs.Steps.{body_of, found_label, control_next}
+use Rattle.frame_laws.specs.Scopes.{Objects, objects_in, BodyFits}
+use Rattle.frame_laws.specs.Todos.{IsInside, EntersFirst, Runs}
 use Rattle.frame_laws.specs.Frames.{IsScoped, open_blocks, IsOutermost, number_of, EntersInFront, BegunFits, IsFresh, IsInBody, IsOfFunction}
-use Rattle.frame_laws.specs.Frames.{IsBeforeTree, IsInTree, IsOfInitializer, IsolatesAt}
+use Rattle.frame_laws.specs.Frames.{IsBeforeTree, IsInTree, IsOfInitializer}
 use Rattle.frame_laws.proofs.Runs.{ready_runs, ready_first, out_runs, on_runs, leaves_run, none_first, out_enters, on_enters, leaves_enter}
 use Rattle.frame_laws.proofs.Finds.{after_goes, gone_goes}
 
@@ -377,7 +377,13 @@ module _ (world : World) where
   given_tree tree f e u v is (inl b) = absurd (let h = b.begun in cc (is, h))
   given_tree tree f e u v is (inr b) =
       let same : e ≡ b.open_tree = ap (begun_or e) (sym is ∙ b.begun) in
-      record { todo = b.todo; open_tree = with_given e u v; begun = refl; root = ap (λ (x : Begun). x.root) same ∙ b.root; what = ap (λ (x : Begun). x.what) same ∙ b.what }
+      record {
+        todo = b.todo;
+        open_tree = with_given e u v;
+        begun = refl;
+        root = ap (λ (x : Begun). x.root) same ∙ b.root;
+        what = ap (λ (x : Begun). x.what) same ∙ b.what;
+      }
 
   pub initializer_given : (f below : Local) (at : Place) (e : Begun) (u : Place) (v : model.Value) → f.begun ≡ Some e → IsOfInitializer f below at
       → IsOfInitializer (record f { begun = Some (with_given e u v) }) below at

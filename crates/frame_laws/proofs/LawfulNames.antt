@@ -1,5 +1,5 @@
 -- The statements that a lawful body is seen as name automatic objects of blocks round the place alone.
-use Rattle.std.proofs.Common.{◌≡◌, ℕ, zero, suc, ◌+◌, ◌<◌, ◌≤◌, Bool, true, false, ◌==◌, if◌then◌else◌, ◌⊎◌, inl, inr, List, [], ◌∷◌, ◌++◌, map, length}
+use Rattle.std.proofs.Common.{◌≡◌, ℕ, zero, suc, ◌<◌, Bool, true, false, ◌==◌, if◌then◌else◌, inl, inr, List, [], ◌∷◌, ◌++◌, map, length}
 use Rattle.std.proofs.Common.{Option, Some, None, is_some, slice_get, arith, refl, sym, ap, ◌∙◌, subst}
 use Rattle.std.specs.List.{All}
 use Rattle.std.proofs.lemmas.List.{length-map}
@@ -19,8 +19,10 @@ use Rattle.c_typed.specs.declared.statement.Block.{Block, fold-Block, fold-roll-
 use Rattle.c_typed.specs.declared.statement.Entry.{Entry, fold-Entry, fold-roll-Entry, map-Entry, roll-Entry}
 use Rattle.c_typed.specs.declared.statement.ForStart.{ForStart, fold-ForStart, fold-roll-ForStart, map-ForStart, roll-ForStart}
 use Rattle.c_typed.specs.declared.program.Program.{Program}
-use Rattle.c_typed.specs.Sites.{Site, sites, Head, Expression, Use, unused, tested, selects, returned, initializes, Blocks, Found, one, both, Opened, inside}
-use Rattle.c_typed.specs.Sites.{found_body, found_entry, found_start, found_entries, found_block, BlockRow, Summary, summary, summary_step, entry_summary}
+use Rattle.c_typed.specs.Sites.{Site, sites, Head, Expression, Use, unused, tested, selects, returned, initializes, Blocks, Found, one, both, Opened}
+use Rattle.c_typed.specs.Sites.{inside}
+use Rattle.c_typed.specs.Sites.{found_body, found_entry, found_start, found_entries, found_block, BlockRow, Summary, summary, summary_step}
+use Rattle.c_typed.specs.Sites.{entry_summary}
 use Rattle.c_typed.specs.Sites.{start_summary, block_summary, entries_summary, declared_in}
 use Rattle.c_typed.specs.Sites as found
 use Rattle.c_typed.specs.Lawful.{ExpressionIsLawful, SiteIsLawful, NamesThere, object_at, object_of_block}
@@ -30,7 +32,7 @@ use Rattle.program_view.specs.Trees.{expr_of}
 use Rattle.program_view.specs.Objects.{decl_of}
 use Rattle.program_view.specs.Statements as view
 use Rattle.program_view.specs.Statements.{Inner, Loop, in_turn, stmt_of, inner_of, entry_of, loop_of}
-use Rattle.frame_laws.specs.Scopes.{Objects, IsOneOf, HasObject, names, IsOpen, AreOpen, ExprFits, PerhapsFits, DeclareFits, Fits, AllFit}
+use Rattle.frame_laws.specs.Scopes.{Objects, IsOneOf, HasObject, IsOpen, AreOpen, ExprFits, PerhapsFits, DeclareFits, Fits, AllFit}
 use Rattle.frame_laws.specs.Named.{named_at, all_named}
 use Rattle.frame_laws.proofs.NamedNodes.{names_are_seen}
 

@@ -1,5 +1,6 @@
 -- Each function of a lawful program names automatic objects of blocks round the place alone.
-use Rattle.std.proofs.Common.{◌≡◌, ℕ, zero, suc, ◌+◌, List, [], ◌∷◌, map, Option, Some, None, slice_get, arith, refl, sym, ap, ◌∙◌, subst}
+use Rattle.std.proofs.Common.{◌≡◌, ℕ, zero, suc, ◌+◌, List, [], ◌∷◌, map, Option, Some, None, true, is_some, slice_get, arith, refl, sym, ap, ◌∙◌}
+use Rattle.std.proofs.Common.{subst}
 use Rattle.std.specs.List.{All}
 use Rattle.std.proofs.lemmas.List.Elements.{All-nil, All-cons, All-head, All-tail}
 use Rattle.std.proofs.lemmas.Option.{slice_get-map}
@@ -15,19 +16,18 @@ use Rattle.c_typed.specs.declared.statement.ForStart.{ForStart}
 use Rattle.c_typed.specs.declared.program.Function.{Function}
 use Rattle.c_typed.specs.declared.program.Program.{Program}
 use Rattle.c_typed.specs.Sites.{no_block, BlockRow, summary}
-use Rattle.c_typed.specs.Lawful.{Where, NumberedFrom, BlockIsLawful, BodyIsLawful, FunctionIsLawful, IsLawful}
+use Rattle.c_typed.specs.Lawful.{Where, There, NumberedFrom, BlockIsLawful, BodyIsLawful, FunctionIsLawful}
 use Rattle.c_model.specs.Program as model
-use Rattle.c_model.specs.Program.{Decl, Stmt}
+use Rattle.c_model.specs.Program.{Stmt}
 use Rattle.c_model.specs.World.{World}
 use Rattle.c_model.specs.Steps.{body_of}
-use Rattle.program_view.specs.Objects.{decl_of}
 use Rattle.program_view.specs.Statements as view
 use Rattle.program_view.specs.Statements.{Inner, Loop, as_block, stmt_of, inner_of, defined, definition}
 use Rattle.program_view.specs.Text.{Text, text_of, text_by, block_by, TextIsKept}
 use Rattle.program_view.specs.View.{function_of}
 use Rattle.frame_laws.specs.Scopes.{Objects, objects_of_row, objects_in, Fits, BodyFits}
-use Rattle.frame_laws.specs.Frames.{IsScoped}
-use Rattle.frame_laws.specs.Named.{LawfulIsScoped}
+use Rattle.frame_laws.specs.Frames.{HasMain}
+use Rattle.frame_laws.specs.Named.{LawfulIsScoped, MainIsDefined}
 use Rattle.frame_laws.proofs.LawfulNames.{RowIs, AreRound, body_scoped}
 
 -- blocks that are numbered from one on have the objects of their rows
@@ -110,3 +110,15 @@ lawful_is_scoped kept p world h are n body q = go (slice_get world.program.funct
     go None e = absurd (let x = no_function world n e in cc)
     go (Some g) e =
         functions_fit kept p p.functions n g body h.functions (ap (λ fs. slice_get fs n) (sym are) ∙ e) (sym (function_body world n g e) ∙ q)
+
+-- where the typed function defines one, `main` is defined
+pub main_is_defined : MainIsDefined
+main_is_defined p world are main h = go (slice_get p.functions p.main) refl h
+  where
+    go : (o : Option Function) → slice_get p.functions p.main ≡ o → There o (λ f. is_some (definition p.tags f.body) ≡ true) → HasMain world
+    go None e h = absurd h
+    go (Some f) e h =
+        let at : slice_get world.program.functions world.program.main ≡ Some (function_of p.tags f) =
+        ap (slice_get world.program.functions) main
+        ∙ (ap (λ fs. slice_get fs p.main) are ∙ (slice_get-map (function_of p.tags) p.functions p.main ∙ ap (option_map (function_of p.tags)) e)) in
+        ap is_some (function_body world world.program.main (function_of p.tags f) at) ∙ h

@@ -1,5 +1,5 @@
 -- The names of the model's expression are those of the typed tree.
-use Rattle.std.proofs.Common.{◌≡◌, ℕ, Bool, true, false, ◌&&◌, ◌==◌, if◌then◌else◌, List, [], ◌∷◌, ◌++◌, map, ℤ, append_assoc, append-nil}
+use Rattle.std.proofs.Common.{◌≡◌, ℕ, Bool, true, false, ◌&&◌, ◌==◌, if◌then◌else◌, List, [], ◌∷◌, ◌++◌, map, ℤ, append_assoc}
 use Rattle.std.proofs.Common.{refl, sym, ap, ap₂, ◌∙◌, subst}
 use Rattle.std.specs.Prelude.{unsigned_abs}
 use Rattle.std.specs.List.{All}
@@ -11,11 +11,11 @@ use Rattle.c_typed.specs.declared.tree.Node.TheFolds.{ind-Typed}
 use Rattle.c_typed.specs.declared.tree.Node.TheOpen as shape
 use Rattle.c_typed.specs.declared.tree.Node.TheOpen.{Node-F, Typed-F}
 use Rattle.c_typed.specs.declared.tree.Typed.{Typed, fold-roll-Typed, map-Typed, roll-Typed}
-use Rattle.c_typed.specs.Sites.{Site, Seen, SeenNode, head_of, inner_sites, seen_node, seen_tree, type_seen, all_sites, seen, sites}
+use Rattle.c_typed.specs.Sites.{Site, Seen, SeenNode, seen_node, seen_tree, all_sites, seen, sites}
 use Rattle.c_model.specs.Program as model
 use Rattle.c_model.specs.Program.{Head, Expr}
 use Rattle.program_view.specs.Trees.{constant_head, is_pointer, node_head, typed_expr, exprs_from, expr_of}
-use Rattle.frame_laws.specs.Scopes.{Objects, names, names_of_all, head_names, AreOpen, ExprFits}
+use Rattle.frame_laws.specs.Scopes.{Objects, names, names_of_all, head_names, AreOpen}
 use Rattle.frame_laws.specs.Named.{named_at, all_named, NamesAreSeen, NodesAreInScope}
 
 abbrev Making : Type 0

@@ -1,8 +1,9 @@
 -- Orders of picks keep the frames ordered.
-use Rattle.std.proofs.Common.{◌≡◌, ℕ, zero, suc, List, [], ◌∷◌, refl, subst}
+use Rattle.std.proofs.Common.{◌≡◌, ℕ, zero, suc, List, ◌∷◌, refl, subst}
 use Rattle.c_model.specs.World.{World}
 use Rattle.c_model.specs.Steps.{Pick}
-use Rattle.c_model.specs.Runs.{State, Outcome, Refused, Raises, Over, No_row, Ends, Running, After, here, refused, last, more, too_late, on_running, step}
+use Rattle.c_model.specs.Runs.{State, Outcome, Refused, Raises, Over, No_row, Ends, Running, After, here, refused, last, more, too_late, on_running}
+use Rattle.c_model.specs.Runs.{step}
 use Rattle.c_model.specs.Runs.{canonical_pick, canonical_after}
 use Rattle.frame_laws.specs.Frames.{IsScoped, AreOrdered}
 use Rattle.frame_laws.specs.Laws.{OrdersOrdered, CanonicalOrdered}

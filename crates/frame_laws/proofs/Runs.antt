@@ -1,12 +1,12 @@
 -- What is made ready, and what moves leave, still goes with the blocks that are open.
-use Rattle.std.proofs.Common.{◌≡◌, ℕ, List, [], ◌∷◌, ◌++◌, Option, Some, None, refl, sym, ap, ◌∙◌, subst}
-use Rattle.c_model.specs.Program.{Decl, Expr, Stmt, Value, Empty, Declare, Block, If, If_only, Switch, Do, For, Goto, Continue, Break}
-use Rattle.c_model.specs.Program.{Return, Return_none, Label, Case, Default, Stmts, end, and_then}
-use Rattle.c_model.specs.Control.{Todo, Work, Enter, Leave, Unwrite, Begin, Nothing_to_do, Go_to, Go_out, Go_on, Go_back, To_do, Rest, Round}
+use Rattle.std.proofs.Common.{ℕ, List, [], ◌∷◌, ◌++◌, Option, Some, None, refl, sym, subst}
+use Rattle.c_model.specs.Program.{Expr, Stmt, Value, Empty, Declare, Block, If, If_only, Switch, Do, For, Goto, Continue, Break}
+use Rattle.c_model.specs.Program.{Return, Return_none, Label, Case, Default, end, and_then}
+use Rattle.c_model.specs.Control.{Todo, Enter, Leave, Unwrite, Begin, Nothing_to_do, Go_to, Go_out, Go_on, Go_back, To_do, Rest, Round}
 use Rattle.c_model.specs.Control.{Again, Test, Break_here, opened, tested, ready_work, out_of, on_with, leaves}
 use Rattle.c_model.specs.OpenBlocks.{Closes, NoEnters, NoEntersBehind}
 use Rattle.c_model.proofs.OpenKeeps.{ready_enters}
-use Rattle.frame_laws.specs.Scopes.{Objects, ExprFits, PerhapsFits, Fits, AllFit}
+use Rattle.frame_laws.specs.Scopes.{Objects, PerhapsFits, Fits}
 use Rattle.frame_laws.specs.Todos.{IsInside, EntersFirst, Runs}
 
 module _ (objects : Objects) where

@@ -1,5 +1,6 @@
 -- What a pick does to the frames of a state, and how a run starts.
-use Rattle.std.proofs.Common.{◌≡◌, ℕ, suc, Bool, true, false, ◌&&◌, ◌==◌, ◌+◌, ◌⊎◌, inl, inr, List, [], ◌∷◌, map, Option, Some, None, if◌then◌else◌, is_some, is_none}
+use Rattle.std.proofs.Common.{◌≡◌, ℕ, suc, Bool, true, false, ◌&&◌, ◌==◌, ◌+◌, ◌⊎◌, inl, inr, List, [], ◌∷◌, Option, Some, None, if◌then◌else◌}
+use Rattle.std.proofs.Common.{is_some, is_none}
 use Rattle.std.proofs.Common.{refl, sym, ap, ◌∙◌, subst, slice_get, arith}
 use Rattle.ub_base.specs.declared.clause.Cause.{Cause}
 use Rattle.c_types.specs.Types.{CType}
@@ -7,17 +8,18 @@ use Rattle.c_typed.specs.declared.tree.Place.{Place}
 use Rattle.c_typed.specs.Order.{is_body}
 use Rattle.mem_spec.specs.Store.{Store}
 use Rattle.mem_spec.specs.Script.{Act, Done, Raised, Ended, Outside, Unplaced}
-use Rattle.c_model.specs.Program.{Head, Number, Null, Obj, Func, Str, Load, Conv, Un, Bin, PtrAdd, PtrDiff, Rel, Eq, Member, Part, Assign, Update, And, Or}
+use Rattle.c_model.specs.Program.{Head, Number, Null, Obj, Func, Str, Load, Conv, Un, Bin, PtrAdd, PtrDiff, Rel, Eq, Member, Part, Assign, Update}
+use Rattle.c_model.specs.Program.{And, Or}
 use Rattle.c_model.specs.Program.{Cond, Comma, Call, Listed, Isolated, Expr, expr, Exprs, Stmt, Function}
-use Rattle.c_model.specs.Control.{Todo, Unused, Begin, To_do, ready_work}
+use Rattle.c_model.specs.Control.{ready_work}
 use Rattle.c_model.specs.Moves.{Move, Stay, Start, End}
-use Rattle.c_model.specs.Values.{Value, Nothing, later_values, function_address}
+use Rattle.c_model.specs.Values.{Value, later_values, function_address}
 use Rattle.c_model.specs.World.{World, Limits}
-use Rattle.c_model.specs.Steps.{Begun, Scene, Local, Pick, Control, Ev, at_node, with_given, control_move, move, settled, root_value, body_of, control_next}
+use Rattle.c_model.specs.Steps.{Begun, Local, Pick, Control, Ev, at_node, with_given, control_move, move, settled, root_value, body_of, control_next}
 use Rattle.c_model.specs.Steps.{next, function_of, own_body, body_frame, start_call, called_by, started, move_of, values_of, ends_with}
-use Rattle.c_model.specs.Runs.{State, Entry, Outcome, Refused, Raises, Over, No_row, Ends, Running, within, limited, back, moved, acted, step, start}
+use Rattle.c_model.specs.Runs.{State, Entry, Outcome, Refused, Raises, Over, No_row, Ends, Running, within, limited, back, moved, acted}
 use Rattle.c_model.specs.Runs.{started_run, main_frame, work_of}
-use Rattle.frame_laws.specs.Frames.{IsScoped, HasMain, IsOfFunction, IsFresh, IsInBody, IsolatesAt, IsBeforeTree, IsInTree, IsOfInitializer, WasStarted, AreOrdered}
+use Rattle.frame_laws.specs.Frames.{IsScoped, HasMain, IsOfFunction, IsolatesAt, IsOfInitializer, AreOrdered}
 use Rattle.frame_laws.specs.Laws.{StartsOrdered, StepsOrdered}
 use Rattle.frame_laws.proofs.FrameKeeps.{next_path, function_steps, function_settles, function_given, initializer_steps, initializer_given, tree_ends}
 

@@ -29,12 +29,14 @@ abbrev pub DeclaresInside : Type 0
 DeclaresInside = (world : World) (f : Local) (hs : List (Local × Place)) (d : ℕ) (rest : Todo) → IsScoped world → AreOrdered world f hs → f.begun ≡ None
     → ready_work f.todo ≡ Unwrite d ∷ rest → IsAtDeclaration world f hs d
 
--- 3. Where a block is left, it is the innermost open one of a function's frame, with its objects; and it is the outermost one, if the frame ends with it.
+-- 3. Where a block is left, it is the innermost open one of a function's frame, with its objects; and the frame ends with it just where it is the outermost
+-- one, behind which nothing is left to do.
 pub record IsAtLeave (world : World) (f : Local) (hs : List (Local × Place)) (b : ℕ) (ds : List Decl) (rest : Todo) : Type 0 where
   pub function : is_some f.function ≡ true
   pub closes : Closes (ready_work f.todo) (open_blocks f)
   pub objects : objects_round world f hs b ≡ Some ds
   pub last : ends_with world (ready_work rest) ≡ true → open_blocks f ≡ b ∷ []
+  pub outermost : open_blocks f ≡ b ∷ [] → rest ≡ []
 
 abbrev pub LeavesInnermost : Type 0
 LeavesInnermost = (world : World) (f : Local) (hs : List (Local × Place)) (b : ℕ) (ds : List Decl) (rest : Todo) → IsScoped world

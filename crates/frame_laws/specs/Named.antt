@@ -1,17 +1,18 @@
 -- The objects that a typed tree names, and that lawful programs name objects of blocks round the place alone.
-use Rattle.std.specs.Prelude.{◌≡◌, ℕ, List, [], ◌∷◌, ◌++◌, map}
+use Rattle.std.specs.Prelude.{◌≡◌, ℕ, true, is_some, List, [], ◌∷◌, ◌++◌, map, slice_get}
 use Rattle.std.specs.List.{All}
 use Rattle.c_typed.specs.declared.tree.Slot.{Slot}
 use Rattle.c_typed.specs.declared.tree.Typed.{Typed}
 use Rattle.c_typed.specs.declared.tree.Node.TheOpen as shape
 use Rattle.c_typed.specs.declared.program.Program.{Program}
 use Rattle.c_typed.specs.Sites.{Head, Site, sites}
-use Rattle.c_typed.specs.Lawful.{IsLawful}
+use Rattle.c_typed.specs.Lawful.{IsLawful, There}
 use Rattle.c_model.specs.World.{World}
 use Rattle.program_view.specs.Trees.{expr_of}
+use Rattle.program_view.specs.Statements.{definition}
 use Rattle.program_view.specs.View.{function_of}
 use Rattle.frame_laws.specs.Scopes.{Objects, names, AreOpen, ExprFits}
-use Rattle.frame_laws.specs.Frames.{IsScoped}
+use Rattle.frame_laws.specs.Frames.{IsScoped, HasMain}
 
 -- the object that a node names itself
 abbrev pub named_at : Head → List Slot
@@ -35,3 +36,8 @@ NodesAreInScope = (objects : Objects) (around : List ℕ) (t : Typed) → ExprFi
 -- A world that has the functions of a lawful program (6.2.1p4).
 abbrev pub LawfulIsScoped : Type 0
 LawfulIsScoped = (p : Program) (world : World) → IsLawful p → world.program.functions ≡ map (function_of p.tags) p.functions → IsScoped world
+
+-- .. and whose `main` is defined by a block (6.9.1p1)
+abbrev pub MainIsDefined : Type 0
+MainIsDefined = (p : Program) (world : World) → world.program.functions ≡ map (function_of p.tags) p.functions → world.program.main ≡ p.main
+    → There (slice_get p.functions p.main) (λ f. is_some (definition p.tags f.body) ≡ true) → HasMain world

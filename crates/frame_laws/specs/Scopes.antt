@@ -2,7 +2,8 @@
 use Rattle.std.specs.Prelude.{◌≡◌, ℕ, ◌<◌, ◌⊎◌, List, [], ◌∷◌, ◌++◌, length, Option, Some, None, slice_get}
 use Rattle.c_typed.specs.declared.tree.Slot.{Slot}
 use Rattle.c_typed.specs.declared.tree.Slot.TheVariants as slot
-use Rattle.c_model.specs.Program.{Decl, Head, Obj, Listed, Isolated, Expr, expr, Exprs, none, more, Stmt, Value, Empty, Declare, Block, If, If_only, Switch}
+use Rattle.c_model.specs.Program.{Decl, Head, Obj, Listed, Isolated, Expr, expr, Exprs, none, more, Stmt, Value, Empty, Declare, Block, If, If_only}
+use Rattle.c_model.specs.Program.{Switch}
 use Rattle.c_model.specs.Program.{Do, For, Goto, Continue, Break, Return, Return_none, Label, Case, Default, Stmts, end, and_then}
 use Rattle.program_view.specs.Text.{text_of}
 

@@ -1,8 +1,8 @@
 -- What is left to do in a frame goes with the blocks that are open.
-use Rattle.std.specs.Prelude.{◌≡◌, ℕ, List, [], ◌∷◌, Option, Some, None}
-use Rattle.c_model.specs.Program.{Decl, Expr, Stmt}
-use Rattle.c_model.specs.Control.{Use, Unused, To_branch, To_enter, To_select, To_go_round, To_go_again, Result, Todo, Work, Enter, Leave, Unwrite, Begin}
-use Rattle.c_model.specs.Control.{Nothing_to_do, Go_to, Go_out, Go_on, Go_back, To_do, Rest, Round, Again, Test, Break_here}
+use Rattle.std.specs.Prelude.{◌≡◌, ℕ, List, [], ◌∷◌, Some}
+use Rattle.c_model.specs.Control.{Use, Unused, To_branch, To_enter, To_select, To_go_round, To_go_again, Result, Todo, Work, Enter, Leave, Unwrite}
+use Rattle.c_model.specs.Control.{Begin}
+use Rattle.c_model.specs.Control.{To_do, Rest, Round, Again, Test}
 use Rattle.c_model.specs.OpenBlocks.{NoEnters}
 use Rattle.frame_laws.specs.Scopes.{Objects, ExprFits, PerhapsFits, DeclareFits, Fits, AllFit}
 

@@ -4,8 +4,9 @@
 #![tactic(auto)]
 
 ghost use Rattle.frame_laws.specs.Laws.{StartsOrdered, StepsOrdered, OrdersOrdered, CanonicalOrdered};
-ghost use Rattle.frame_laws.specs.Facts.{BlocksAreLeft, DeclaresInside, LeavesInnermost, EntersWithObjects, BeginsInScope, StaysInScope, GoesOnBehind, HeldWait};
-ghost use Rattle.frame_laws.specs.Named.{NamesAreSeen, NodesAreInScope, LawfulIsScoped};
+ghost use Rattle.frame_laws.specs.Facts.{BlocksAreLeft, DeclaresInside, LeavesInnermost, EntersWithObjects};
+ghost use Rattle.frame_laws.specs.Facts.{BeginsInScope, StaysInScope, GoesOnBehind, HeldWait};
+ghost use Rattle.frame_laws.specs.Named.{NamesAreSeen, NodesAreInScope, LawfulIsScoped, MainIsDefined};
 
 use program_view::law_view;
 
@@ -36,9 +37,11 @@ pub fn law_names()
     ensures nodes { NodesAreInScope }
 {}
 
-/// Each function of a lawful program names automatic objects of blocks round the place alone (6.2.1p4).
+/// Each function of a lawful program names automatic objects of blocks round the place alone (6.2.1p4); and where its `main` is a block (6.9.1p1), it is
+/// defined in the definitions of runs.
 pub fn law_scoped()
-    ensures { LawfulIsScoped }
+    ensures scoped { LawfulIsScoped }
+    ensures main { MainIsDefined }
 {
     law_view();
 }
