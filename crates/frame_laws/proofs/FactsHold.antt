@@ -1,12 +1,11 @@
 -- What is so of ordered frames.
 use Rattle.std.proofs.Common.{◌≡◌, ℕ, suc, ◌+◌, Bool, true, false, ◌⊎◌, inl, inr, List, [], ◌∷◌, ◌++◌, map, Option, Some, None, is_some}
-use Rattle.std.proofs.Common.{if◌then◌else◌, nat_lt, ◌==◌}
-use Rattle.std.proofs.Common.{refl, sym, ap, ◌∙◌, subst}
+use Rattle.std.proofs.Common.{if◌then◌else◌, nat_lt, ◌==◌, slice_get, refl, sym, ap, ◌∙◌, subst}
 use Rattle.c_typed.specs.declared.tree.Place.{Place}
 use Rattle.c_typed.specs.declared.tree.Slot.{Slot}
 use Rattle.c_typed.specs.Tree.{size}
 use Rattle.c_model.specs.Program.{Decl, Isolated, Expr, expr, Exprs, none, more, Stmt, Value, Empty, Declare, Block, If, If_only, Switch, tree_of}
-use Rattle.c_model.specs.Program.{Do, For, Goto, Continue, Break, Return, Return_none, Label, Case, Default}
+use Rattle.c_model.specs.Program.{Do, For, Goto, Continue, Break, Return, Return_none, Label, Case, Default, Function}
 use Rattle.c_model.specs.Control.{Todo, Enter, Leave, Unwrite, Begin, Nothing_to_do, Go_to, Go_out, Go_on, Go_back, To_do, Rest, Round}
 use Rattle.c_model.specs.Control.{Again, Test, Break_here, Use, Unused, ready_work, work_after}
 use Rattle.c_model.specs.OpenBlocks.{Closes, NoEntersBehind}
@@ -18,11 +17,10 @@ use Rattle.c_model.specs.Steps.{Begun, Local, at_node, at_node_among, body_of, e
 use Rattle.frame_laws.specs.Scopes.{Objects, objects_in, names, names_of_all, head_names, AreOpen, ExprFits, BodyFits, DeclareFits}
 use Rattle.frame_laws.specs.Todos.{IsInside, EntersFirst, Runs}
 use Rattle.frame_laws.specs.Frames.{IsScoped, open_blocks, IsOutermost, number_of, EntersInFront, BegunFits, IsFresh, IsInBody, IsOfFunction}
-use Rattle.frame_laws.specs.Frames.{IsolatesAt}
-use Rattle.frame_laws.specs.Frames.{IsBeforeTree, IsInTree, IsOfInitializer, AreOrdered, function_round, or_else, objects_of_body, objects_round}
+use Rattle.frame_laws.specs.Frames.{IsolatesAt, IsBeforeTree, IsInTree, IsOfInitializer, AreOrdered, function_round, or_else, objects_of_body, objects_round}
 use Rattle.frame_laws.specs.Facts.{BlocksAreLeft, IsAtDeclaration, DeclaresInside, IsAtLeave, LeavesInnermost, IsAtEnter, EntersWithObjects}
-use Rattle.frame_laws.specs.Facts.{IsInScope}
-use Rattle.frame_laws.specs.Facts.{BeginsInScope, StaysInScope, IsBehind, GoesOnBehind, AllWait, HeldWait}
+use Rattle.frame_laws.specs.Facts.{IsInScope, BeginsInScope, StaysInScope, IsBehind, GoesOnBehind, AllWait, HeldWait}
+use Rattle.frame_laws.specs.Facts.{is_begin, StepsInFunction, IsDefined, FunctionIsDefined}
 use Rattle.frame_laws.proofs.Runs.{ready_runs, ready_first, runs_close}
 use Rattle.frame_laws.proofs.Finds.{after_goes}
 use Rattle.frame_laws.proofs.FrameKeeps.{inside_of, begun_or}
@@ -160,13 +158,9 @@ module _ (world : World) where
       let same : e ≡ b.open_tree = ap (begun_or e) (sym is ∙ b.begun) in
       (ap (λ (x : Begun). x.root) same ∙ b.root, ap (λ (x : Begun). x.what) same ∙ b.what, b.todo)
 
-  abbrev begins_first : Todo → Bool
-  begins_first (Begin e what ∷ rest) = true
-  begins_first todo = false
-
-  by_step : (f : Local) (hs : List (Local × Place)) → AreOrdered world f hs → f.begun ≡ None → begins_first (ready_work f.todo) ≡ false → IsOfFunction world f
+  by_step : (f : Local) (hs : List (Local × Place)) → AreOrdered world f hs → f.begun ≡ None → is_begin (ready_work f.todo) ≡ false → IsOfFunction world f
   by_step f hs a e never =
-      of_function f hs a (λ below at i. (let t = ap begins_first (before_tree f i.tree e i.stage) in cc (t, never)))
+      of_function f hs a (λ below at i. (let t = ap is_begin (before_tree f i.tree e i.stage) in cc (t, never)))
 
   -- 3. Each fact of a function's frame.
 
@@ -209,15 +203,15 @@ module _ (world : World) where
       }
 
   next_of : IsScoped world → (f : Local) (hs : List (Local × Place)) (todo : Todo) → AreOrdered world f hs → f.begun ≡ None → ready_work f.todo ≡ todo
-      → begins_first todo ≡ false → is_enter todo ≡ false → IsNext f hs todo
+      → is_begin todo ≡ false → is_enter todo ≡ false → IsNext f hs todo
   next_of scoped f hs todo a e q never other =
-      let i = by_step f hs a e (ap begins_first q ∙ never) in
+      let i = by_step f hs a e (ap is_begin q ∙ never) in
       next_in f hs i.body todo (scoped i.number i.body i.defined) (round_body f hs i) e q other i.stage
 
   pub declares_inside : (f : Local) (hs : List (Local × Place)) (d : ℕ) (rest : Todo) → IsScoped world → AreOrdered world f hs → f.begun ≡ None
       → ready_work f.todo ≡ Unwrite d ∷ rest → IsAtDeclaration world f hs d
   declares_inside f hs d rest scoped a e q =
-      let i = by_step f hs a e (ap begins_first q) in
+      let i = by_step f hs a e (ap is_begin q) in
       let n = next_of scoped f hs (Unwrite d ∷ rest) a e q refl refl in
       let B : Todo → Type 0 = NoEntersBehind in
       let D : Option Stmt → Type 0 = λ o. DeclareFits (objects_of_body o) (open_blocks f) d in
@@ -242,7 +236,7 @@ module _ (world : World) where
   pub leaves_innermost : (f : Local) (hs : List (Local × Place)) (b : ℕ) (ds : List Decl) (rest : Todo) → IsScoped world → AreOrdered world f hs
       → f.begun ≡ None → ready_work f.todo ≡ Leave b ds ∷ rest → IsAtLeave world f hs b ds rest
   leaves_innermost f hs b ds rest scoped a e q =
-      let i = by_step f hs a e (ap begins_first q) in
+      let i = by_step f hs a e (ap is_begin q) in
       let n = next_of scoped f hs (Leave b ds ∷ rest) a e q refl refl in
       let r = leave_in (objects_in n.body) b ds rest (open_blocks f) n.rest in
       record {
@@ -268,7 +262,7 @@ module _ (world : World) where
   pub enters_with : (f : Local) (hs : List (Local × Place)) (b : ℕ) (ds : List Decl) (rest : Todo) → IsScoped world → AreOrdered world f hs
       → f.begun ≡ None → ready_work f.todo ≡ Enter b ds ∷ rest → IsAtEnter world f hs b ds
   enters_with f hs b ds rest scoped a e q =
-      let i = by_step f hs a e (ap begins_first q) in
+      let i = by_step f hs a e (ap is_begin q) in
       let r = enter_in f i.body b ds rest (scoped i.number i.body i.defined) q i.stage in
       record { function = function_there f i; objects = ap (λ o. objects_of_body o b) (round_body f hs i) ∙ r.0; arguments = r.1 }
 
@@ -385,6 +379,31 @@ module _ (world : World) where
   pub blocks_left : (f : Local) (hs : List (Local × Place)) → AreOrdered world f hs → is_some f.function ≡ true → Closes (ready_work f.todo) (open_blocks f)
   blocks_left f hs a is = function_left f (of_function f hs a (λ below at i. (let n = ap is_some i.function in cc (n, is))))
 
+  pub steps_in : (f : Local) (hs : List (Local × Place)) → AreOrdered world f hs → f.begun ≡ None → is_begin (ready_work f.todo) ≡ false
+      → is_some f.function ≡ true
+  steps_in f hs a e q = function_there f (by_step f hs a e q)
+
+  abbrev number_or : ℕ → Option ℕ → ℕ
+  number_or n None = n
+  number_or n (Some m) = m
+
+  there_is : (n : ℕ) (o : Option Function) (body : Stmt) → slice_get world.program.functions n ≡ o → body_of world (Some n) ≡ Some body → BodyFits body
+      → IsDefined world n
+  there_is n None body e q fits = absurd (let x : body_of world (Some n) ≡ None = rw e in cc (x, q))
+  there_is n (Some g) body e q fits =
+      let x : body_of world (Some n) ≡ g.body = rw e in
+      record { function = g; there = e; body = body; defines = sym x ∙ q; fits = fits }
+
+  defined_in : (f : Local) (n : ℕ) → IsScoped world → f.function ≡ Some n → IsOfFunction world f → IsDefined world n
+  defined_in f n scoped e i =
+      let same : i.number ≡ n = ap (number_or n) (sym i.function ∙ e) in
+      let D : ℕ → Type 0 = IsDefined world in
+      subst D same (there_is i.number (slice_get world.program.functions i.number) i.body refl i.defined (scoped i.number i.body i.defined))
+
+  pub is_defined : (f : Local) (hs : List (Local × Place)) (n : ℕ) → IsScoped world → AreOrdered world f hs → f.function ≡ Some n → IsDefined world n
+  is_defined f hs n scoped a e =
+      defined_in f n scoped e (of_function f hs a (λ below at i. (let x = i.function in cc (x, e))))
+
 pub blocks_are_left : BlocksAreLeft
 blocks_are_left world f hs a is = blocks_left world f hs a is
 
@@ -408,3 +427,9 @@ goes_behind world f hs e a is = goes_on_behind world hs f e a is
 
 pub held_wait : HeldWait
 held_wait world f hs a = all_wait world hs f a
+
+pub steps_in_function : StepsInFunction
+steps_in_function world f hs a e q = steps_in world f hs a e q
+
+pub function_is_defined : FunctionIsDefined
+function_is_defined world f hs n scoped a e = is_defined world f hs n scoped a e

@@ -1,14 +1,14 @@
 -- What is so of frames that are ordered, in the forms in which it is asked for.
-use Rattle.std.specs.Prelude.{◌≡◌, ℕ, true, false, ◌⊎◌, List, [], ◌∷◌, is_some, Option, Some, None}
+use Rattle.std.specs.Prelude.{◌≡◌, ℕ, Bool, true, false, ◌⊎◌, List, [], ◌∷◌, slice_get, is_some, Option, Some, None}
 use Rattle.c_typed.specs.declared.tree.Place.{Place}
 use Rattle.c_typed.specs.Order.{is_body}
-use Rattle.c_model.specs.Program.{Decl, Expr}
+use Rattle.c_model.specs.Program.{Decl, Expr, Stmt, Function}
 use Rattle.c_model.specs.Control.{Todo, Use, Unused, Begin, Enter, Leave, Unwrite, ready_work}
 use Rattle.c_model.specs.OpenBlocks.{Closes, NoEntersBehind}
 use Rattle.c_model.specs.Steps.{Begun, Local, ends_with, settled}
 use Rattle.c_model.specs.Values.{Value}
 use Rattle.c_model.specs.World.{World}
-use Rattle.frame_laws.specs.Scopes.{DeclareFits, ExprFits}
+use Rattle.frame_laws.specs.Scopes.{DeclareFits, ExprFits, BodyFits}
 use Rattle.frame_laws.specs.Frames.{IsScoped, AreOrdered, open_blocks, objects_round}
 
 -- Each is so of the top frame of a state, and of each frame below, with those below that.
@@ -81,3 +81,24 @@ AllWait (h ∷ hs) = (is_some h.0.begun ≡ true) × (is_body h.1.kind ≡ true)
 
 abbrev pub HeldWait : Type 0
 HeldWait = (world : World) (f : Local) (hs : List (Local × Place)) → AreOrdered world f hs → AllWait hs
+
+-- 8. What comes next is a function's, but for the begin of a full expression.
+abbrev pub is_begin : Todo → Bool
+is_begin (Begin e what ∷ rest) = true
+is_begin todo = false
+
+abbrev pub StepsInFunction : Type 0
+StepsInFunction = (world : World) (f : Local) (hs : List (Local × Place)) → AreOrdered world f hs → f.begun ≡ None
+    → is_begin (ready_work f.todo) ≡ false → is_some f.function ≡ true
+
+-- The function of a frame is one of the program, which is defined and in scope.
+pub record IsDefined (world : World) (n : ℕ) : Type 0 where
+  pub function : Function
+  pub there : slice_get world.program.functions n ≡ Some function
+  pub body : Stmt
+  pub defines : function.body ≡ Some body
+  pub fits : BodyFits body
+
+abbrev pub FunctionIsDefined : Type 0
+FunctionIsDefined = (world : World) (f : Local) (hs : List (Local × Place)) (n : ℕ) → IsScoped world → AreOrdered world f hs → f.function ≡ Some n
+    → IsDefined world n

@@ -5,7 +5,7 @@
 
 ghost use Rattle.frame_laws.specs.Laws.{StartsOrdered, StepsOrdered, OrdersOrdered, CanonicalOrdered};
 ghost use Rattle.frame_laws.specs.Facts.{BlocksAreLeft, DeclaresInside, LeavesInnermost, EntersWithObjects};
-ghost use Rattle.frame_laws.specs.Facts.{BeginsInScope, StaysInScope, GoesOnBehind, HeldWait};
+ghost use Rattle.frame_laws.specs.Facts.{BeginsInScope, StaysInScope, GoesOnBehind, HeldWait, StepsInFunction, FunctionIsDefined};
 ghost use Rattle.frame_laws.specs.Named.{NamesAreSeen, NodesAreInScope, LawfulIsScoped, MainIsDefined};
 
 use program_view::law_view;
@@ -29,6 +29,8 @@ pub fn law_frames()
     ensures stays { StaysInScope }
     ensures behind { GoesOnBehind }
     ensures held { HeldWait }
+    ensures function { StepsInFunction }
+    ensures defined { FunctionIsDefined }
 {}
 
 /// The model's expression of a typed tree names the objects that the nodes of the tree name; so where a full expression is in scope, each node is.
