@@ -20,7 +20,7 @@ use Rattle.frame_laws.specs.Frames.{IsScoped, open_blocks, IsOutermost, number_o
 use Rattle.frame_laws.specs.Frames.{IsolatesAt, IsBeforeTree, IsInTree, IsOfInitializer, AreOrdered, function_round, or_else, objects_of_body, objects_round}
 use Rattle.frame_laws.specs.Facts.{BlocksAreLeft, IsAtDeclaration, DeclaresInside, IsAtLeave, LeavesInnermost, IsAtEnter, EntersWithObjects}
 use Rattle.frame_laws.specs.Facts.{IsInScope, BeginsInScope, StaysInScope, IsBehind, GoesOnBehind, AllWait, HeldWait}
-use Rattle.frame_laws.specs.Facts.{is_begin, StepsInFunction, IsDefined, FunctionIsDefined}
+use Rattle.frame_laws.specs.Facts.{HandsOn, is_begin, StepsInFunction, IsDefined, FunctionIsDefined}
 use Rattle.frame_laws.proofs.Runs.{ready_runs, ready_first, runs_close}
 use Rattle.frame_laws.proofs.Finds.{after_goes}
 use Rattle.frame_laws.proofs.FrameKeeps.{inside_of, begun_or}
@@ -404,6 +404,18 @@ module _ (world : World) where
   is_defined f hs n scoped a e =
       defined_in f n scoped e (of_function f hs a (λ below at i. (let x = i.function in cc (x, e))))
 
+  stage_hands : (body : Stmt) (f : Local) → (IsFresh body f ⊎ IsInBody body f) → (f.scene.blocks ≡ []) ⊎ (f.arguments ≡ [])
+  stage_hands body f (inl fresh) = inl fresh.blocks
+  stage_hands body f (inr b) = inr b.arguments
+
+  pub hands_on : (f : Local) (hs : List (Local × Place)) → AreOrdered world f hs → (f.scene.blocks ≡ []) ⊎ (f.arguments ≡ [])
+  hands_on f [] a = let i = a.0 in stage_hands i.body f i.stage
+  hands_on f (h ∷ hs) a = kind a.0
+    where
+      kind : (IsOfFunction world f ⊎ IsOfInitializer f h.0 h.1) → (f.scene.blocks ≡ []) ⊎ (f.arguments ≡ [])
+      kind (inl i) = stage_hands i.body f i.stage
+      kind (inr i) = inr i.arguments
+
 pub blocks_are_left : BlocksAreLeft
 blocks_are_left world f hs a is = blocks_left world f hs a is
 
@@ -415,6 +427,9 @@ leaves_innermost_block world f hs b ds rest scoped a e q = leaves_innermost worl
 
 pub enters_with_objects : EntersWithObjects
 enters_with_objects world f hs b ds rest scoped a e q = enters_with world f hs b ds rest scoped a e q
+
+pub arguments_hand_on : HandsOn
+arguments_hand_on world f hs a = hands_on world f hs a
 
 pub begins_in_scope : BeginsInScope
 begins_in_scope world f hs e what rest scoped a shut q = begins_in world hs f e what rest scoped a shut q

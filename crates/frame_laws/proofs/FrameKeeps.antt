@@ -218,7 +218,7 @@ module _ (world : World) where
   enters_body (Default s) f fits fresh = absurd fits
 
   -- what a control step leaves as it was
-  next_function : (f : Local) (todo : Todo) → (control_next world f todo).function ≡ f.function
+  pub next_function : (f : Local) (todo : Todo) → (control_next world f todo).function ≡ f.function
   next_function f [] = refl
   next_function f (Enter b ds ∷ rest) = refl
   next_function f (Leave b ds ∷ rest) = refl

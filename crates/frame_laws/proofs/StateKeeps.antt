@@ -21,7 +21,7 @@ use Rattle.c_model.specs.Runs.{State, Entry, Outcome, Refused, Raises, Over, No_
 use Rattle.c_model.specs.Runs.{started_run, main_frame, work_of}
 use Rattle.frame_laws.specs.Frames.{IsScoped, HasMain, IsOfFunction, IsolatesAt, IsOfInitializer, AreOrdered}
 use Rattle.frame_laws.specs.Laws.{StartsOrdered, StepsOrdered}
-use Rattle.frame_laws.proofs.FrameKeeps.{next_path, function_steps, function_settles, function_given, initializer_steps, initializer_given, tree_ends}
+use Rattle.frame_laws.proofs.FrameKeeps.{next_function, next_path, function_steps, function_settles, function_given, initializer_steps, initializer_given, tree_ends}
 
 -- 1. Outcomes that run.
 
@@ -76,10 +76,10 @@ module _ (world : World) where
   -- 2. One frame in place of the top one.
 
   replaced : (f g : Local) (hs : List (Local × Place)) → (IsOfFunction world f → IsOfFunction world g)
-      → ((below : Local) (at : Place) → IsOfInitializer f below at → IsOfInitializer g below at) → g.scene.path ≡ f.scene.path
-      → AreOrdered world f hs → AreOrdered world g hs
-  replaced f g [] function initializer path a = (function a.0, path ∙ a.1)
-  replaced f g (h ∷ hs) function initializer path a =
+      → ((below : Local) (at : Place) → IsOfInitializer f below at → IsOfInitializer g below at) → g.function ≡ f.function
+      → g.scene.path ≡ f.scene.path → AreOrdered world f hs → AreOrdered world g hs
+  replaced f g [] function initializer same path a = (function a.0, same ∙ a.1, path ∙ a.2)
+  replaced f g (h ∷ hs) function initializer same path a =
       (kept a.0, record { begun = a.1.begun; body = a.1.body; path = path ∙ a.1.path }, a.2)
     where
       kept : (IsOfFunction world f ⊎ IsOfInitializer f h.0 h.1) → (IsOfFunction world g ⊎ IsOfInitializer g h.0 h.1)
@@ -93,19 +93,19 @@ module _ (world : World) where
   event_keeps f hs None u v e a = a
   event_keeps f hs (Some b) u v e a =
       replaced f (record f { begun = Some (with_given b u v) }) hs (function_given world f b u v e) (λ below at i. initializer_given world f below at b u v e i)
-      refl a
+      refl refl a
 
   control_keeps : IsScoped world → (f : Local) (hs : List (Local × Place)) (v : Value) → f.begun ≡ None → control_move world (ready_work f.todo) ≡ Stay
       → AreOrdered world f hs → AreOrdered world (control_next world f (ready_work f.todo)) hs
   control_keeps scoped f hs v e m a =
       replaced f (control_next world f (ready_work f.todo)) hs (λ i. function_steps world scoped f i e m)
-      (λ below at i. initializer_steps world f below at i e) (next_path world f (ready_work f.todo)) a
+      (λ below at i. initializer_steps world f below at i e) (next_function world f (ready_work f.todo)) (next_path world f (ready_work f.todo)) a
 
   settle_keeps : (f : Local) (hs : List (Local × Place)) (b : Begun) (v : Value) → f.begun ≡ Some b
       → move world f (Some b) Control ≡ Stay
       → AreOrdered world f hs → AreOrdered world (settled world f v b.what) hs
   settle_keeps f hs b v e m a =
-      replaced f (settled world f v b.what) hs (function_settles world f b v e) (λ below at i. absurd (ends below at i)) refl a
+      replaced f (settled world f v b.what) hs (function_settles world f b v e) (λ below at i. absurd (ends below at i)) refl refl a
     where
       ends : (below : Local) (at : Place) → IsOfInitializer f below at → ⊥
       ends below at i =
@@ -263,7 +263,7 @@ module _ (world : World) where
   started_ordered main vs (Done v is s) st q =
       let S : State → Type 0 = λ z. AreOrdered world z.top z.held in
       let first : State = record { top = main_frame world vs; held = []; store = s; trace = [] } in
-      let ordered : AreOrdered world (main_frame world vs) [] = (main_ordered vs (body_of world (Some world.program.main)) refl main, refl) in
+      let ordered : AreOrdered world (main_frame world vs) [] = (main_ordered vs (body_of world (Some world.program.main)) refl main, refl, refl) in
       subst S (same_state first st (through_limited world.limits _ st q)) ordered
   started_ordered main vs (Raised c) st q = absurd (cc (q))
   started_ordered main vs (Ended n is s) st q = absurd (cc (q))

@@ -52,6 +52,9 @@ abbrev pub EntersWithObjects : Type 0
 EntersWithObjects = (world : World) (f : Local) (hs : List (Local × Place)) (b : ℕ) (ds : List Decl) (rest : Todo) → IsScoped world
     → AreOrdered world f hs → f.begun ≡ None → ready_work f.todo ≡ Enter b ds ∷ rest → IsAtEnter world f hs b ds
 
+abbrev pub HandsOn : Type 0
+HandsOn = (world : World) (f : Local) (hs : List (Local × Place)) → AreOrdered world f hs → (f.scene.blocks ≡ []) ⊎ (f.arguments ≡ [])
+
 -- 5. Where a full expression begins, and while it is open, it names automatic objects of open blocks alone; and no arguments wait (6.2.1p4, 6.2.4p6).
 pub record IsInScope (world : World) (f : Local) (hs : List (Local × Place)) (e : Expr) : Type 0 where
   pub names : ExprFits (objects_round world f hs) (open_blocks f) e

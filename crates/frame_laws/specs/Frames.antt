@@ -106,9 +106,9 @@ pub record WasStarted (f below : Local) (at : Place) : Type 0 where
   pub body : is_body at.kind ≡ true
   pub path : f.scene.path ≡ (below.scene.turn, at.node) ∷ below.scene.path
 
--- the top frame, and those below with the body that waits in each
+-- the top frame, and those below with the body that waits in each, down to that of `main`
 abbrev pub AreOrdered : World → Local → List (Local × Place) → Type 0
-AreOrdered world f [] = IsOfFunction world f × (f.scene.path ≡ [])
+AreOrdered world f [] = IsOfFunction world f × (f.function ≡ Some world.program.main) × (f.scene.path ≡ [])
 AreOrdered world f (h ∷ hs) = (IsOfFunction world f ⊎ IsOfInitializer f h.0 h.1) × WasStarted f h.0 h.1 × AreOrdered world h.0 hs
 
 -- the function whose blocks are open: for an isolated initializer that of the frame below

@@ -4,7 +4,7 @@
 #![tactic(auto)]
 
 ghost use Rattle.frame_laws.specs.Laws.{StartsOrdered, StepsOrdered, OrdersOrdered, CanonicalOrdered};
-ghost use Rattle.frame_laws.specs.Facts.{BlocksAreLeft, DeclaresInside, LeavesInnermost, EntersWithObjects};
+ghost use Rattle.frame_laws.specs.Facts.{BlocksAreLeft, DeclaresInside, LeavesInnermost, EntersWithObjects, HandsOn};
 ghost use Rattle.frame_laws.specs.Facts.{BeginsInScope, StaysInScope, GoesOnBehind, HeldWait, StepsInFunction, FunctionIsDefined};
 ghost use Rattle.frame_laws.specs.Named.{NamesAreSeen, NodesAreInScope, LawfulIsScoped, MainIsDefined};
 
@@ -25,6 +25,7 @@ pub fn law_frames()
     ensures declares { DeclaresInside }
     ensures leaves { LeavesInnermost }
     ensures enters { EntersWithObjects }
+    ensures arguments { HandsOn }
     ensures begins { BeginsInScope }
     ensures stays { StaysInScope }
     ensures behind { GoesOnBehind }
