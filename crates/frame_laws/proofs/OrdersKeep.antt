@@ -5,9 +5,11 @@ use Rattle.c_model.specs.Steps.{Pick}
 use Rattle.c_model.specs.Runs.{State, Outcome, Refused, Raises, Over, No_row, Ends, Running, After, here, refused, last, more, too_late, on_running}
 use Rattle.c_model.specs.Runs.{step}
 use Rattle.c_model.specs.Runs.{canonical_pick, canonical_after}
+use Rattle.program_view.specs.View.{world_of}
 use Rattle.frame_laws.specs.Frames.{IsScoped, AreOrdered}
 use Rattle.frame_laws.specs.Laws.{OrdersOrdered, CanonicalOrdered}
-use Rattle.frame_laws.proofs.StateKeeps.{same_state, steps_ordered}
+use Rattle.frame_laws.specs.Named.{LawfulIsScoped, MainIsDefined, RunsAreOrdered}
+use Rattle.frame_laws.proofs.StateKeeps.{same_state, starts_ordered, steps_ordered}
 
 module _ (world : World) (scoped : IsScoped world) where
   abbrev Ordered : State → Type 0
@@ -41,3 +43,10 @@ orders_ordered world st after ps scoped a order = by_order world scoped st ps (R
 
 pub canonical_ordered : CanonicalOrdered
 canonical_ordered world n st after scoped a q = by_canonical world scoped n st a after q
+
+-- in each run of a lawful program
+pub runs_are_ordered : LawfulIsScoped → MainIsDefined → RunsAreOrdered
+runs_are_ordered lawful main p arguments rows number limits input vs ps st after h block starts order =
+    let world = world_of p arguments rows number limits in
+    let scoped : IsScoped world = lawful p world h refl in
+    orders_ordered world st after ps scoped (starts_ordered world input vs st scoped (main p world refl refl block) starts) order

@@ -6,7 +6,7 @@
 ghost use Rattle.frame_laws.specs.Laws.{StartsOrdered, StepsOrdered, OrdersOrdered, CanonicalOrdered};
 ghost use Rattle.frame_laws.specs.Facts.{BlocksAreLeft, DeclaresInside, LeavesInnermost, EntersWithObjects, HandsOn};
 ghost use Rattle.frame_laws.specs.Facts.{BeginsInScope, StaysInScope, GoesOnBehind, HeldWait, StepsInFunction, FunctionIsDefined};
-ghost use Rattle.frame_laws.specs.Named.{NamesAreSeen, NodesAreInScope, LawfulIsScoped, MainIsDefined};
+ghost use Rattle.frame_laws.specs.Named.{NamesAreSeen, NodesAreInScope, LawfulIsScoped, MainIsDefined, RunsAreOrdered};
 
 use program_view::law_view;
 
@@ -47,4 +47,11 @@ pub fn law_scoped()
     ensures main { MainIsDefined }
 {
     law_view();
+}
+
+/// So along each order of picks in each run of a lawful program, whose `main` is a block, the frames are ordered.
+pub fn law_runs()
+    ensures { RunsAreOrdered }
+{
+    law_scoped();
 }
