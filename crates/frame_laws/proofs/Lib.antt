@@ -7,3 +7,4 @@ pub mod NamedNodes
 pub mod LawfulNames
 pub mod LawfulPrograms
 pub mod OrdersKeep
+pub mod ReachedKeeps

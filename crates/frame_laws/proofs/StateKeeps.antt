@@ -21,7 +21,8 @@ use Rattle.c_model.specs.Runs.{State, Entry, Outcome, Refused, Raises, Over, No_
 use Rattle.c_model.specs.Runs.{started_run, main_frame, work_of}
 use Rattle.frame_laws.specs.Frames.{IsScoped, HasMain, IsOfFunction, IsolatesAt, IsOfInitializer, AreOrdered}
 use Rattle.frame_laws.specs.Laws.{StartsOrdered, StepsOrdered}
-use Rattle.frame_laws.proofs.FrameKeeps.{next_function, next_path, function_steps, function_settles, function_given, initializer_steps, initializer_given, tree_ends}
+use Rattle.frame_laws.proofs.FrameKeeps.{next_function, next_path, function_steps, function_settles, function_given, initializer_steps}
+use Rattle.frame_laws.proofs.FrameKeeps.{initializer_given, tree_ends}
 
 -- 1. Outcomes that run.
 
@@ -32,11 +33,11 @@ state_in o other = other
 pub same_state : (a b : State) → Running a ≡ Running b → a ≡ b
 same_state a b q = ap (λ o. state_in o a) q
 
-through_within : (x : Option (Cause × ℕ)) (o : Outcome) (st : State) → within x o ≡ Running st → o ≡ Running st
+pub through_within : (x : Option (Cause × ℕ)) (o : Outcome) (st : State) → within x o ≡ Running st → o ≡ Running st
 through_within None o st q = q
 through_within (Some c) o st q = absurd (cc (q))
 
-through_limited : (limits : Limits) (o : Outcome) (st : State) → limited limits o ≡ Running st → o ≡ Running st
+pub through_limited : (limits : Limits) (o : Outcome) (st : State) → limited limits o ≡ Running st → o ≡ Running st
 through_limited limits Refused st q = q
 through_limited limits (Raises c trace) st q = q
 through_limited limits (Over c n) st q = q

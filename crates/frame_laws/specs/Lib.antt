@@ -4,3 +4,4 @@ pub mod Frames
 pub mod Laws
 pub mod Facts
 pub mod Named
+pub mod Reached

@@ -7,7 +7,9 @@ ghost use Rattle.frame_laws.specs.Laws.{StartsOrdered, StepsOrdered, OrdersOrder
 ghost use Rattle.frame_laws.specs.Facts.{BlocksAreLeft, DeclaresInside, LeavesInnermost, EntersWithObjects, HandsOn};
 ghost use Rattle.frame_laws.specs.Facts.{BeginsInScope, StaysInScope, GoesOnBehind, HeldWait, StepsInFunction, FunctionIsDefined};
 ghost use Rattle.frame_laws.specs.Named.{NamesAreSeen, NodesAreInScope, LawfulIsScoped, MainIsDefined, RunsAreOrdered};
+ghost use Rattle.frame_laws.specs.Reached.{StartsReached, StepsReached, OrdersReached, CanonicalReached};
 
+use listing_laws::law_permitted_decided;
 use program_view::law_view;
 
 /// Along a run of a program whose names are in scope, from its start on, the frames are ordered.
@@ -54,4 +56,15 @@ pub fn law_runs()
     ensures { RunsAreOrdered }
 {
     law_scoped();
+}
+
+/// Along permitted orders, and the canonical one, all that is done of a full expression that is open was reached, in the top frame and in those that are
+/// held, and a body that waits may come next (5.1.2.3p3).
+pub fn law_reached()
+    ensures starts { StartsReached }
+    ensures keeps { StepsReached }
+    ensures orders { OrdersReached }
+    ensures canonical { CanonicalReached }
+{
+    law_permitted_decided();
 }

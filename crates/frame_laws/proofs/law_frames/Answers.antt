@@ -1,4 +1,5 @@
-use Rattle.frame_laws.proofs.FactsHold.{blocks_are_left, declares_inside_blocks, leaves_innermost_block, enters_with_objects, arguments_hand_on, begins_in_scope}
+use Rattle.frame_laws.proofs.FactsHold.{blocks_are_left, declares_inside_blocks, leaves_innermost_block, enters_with_objects, arguments_hand_on}
+use Rattle.frame_laws.proofs.FactsHold.{begins_in_scope}
 use Rattle.frame_laws.proofs.FactsHold.{stays_in_scope, goes_behind, held_wait, steps_in_function, function_is_defined}
 use Rattle.frame_laws.proofs.law_frames.Goals as goal
 
