@@ -1,0 +1,7 @@
+pub mod Scopes
+pub mod Todos
+pub mod Frames
+pub mod Laws
+pub mod Facts
+pub mod Named
+pub mod Reached
