@@ -1,0 +1,4 @@
+mod Asked
+mod Near
+mod Given
+mod Initial

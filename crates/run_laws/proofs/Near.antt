@@ -1,0 +1,388 @@
+-- A node of a lawful program moves a pointer by fewer than 2^127 bytes.
+use Rattle.std.proofs.Common.{arith, ◌≡◌, ◌+◌, ◌*◌, ◌-◌, ◌%◌, ◌<◌, ◌≤◌, ◌^◌, ℕ, zero, suc, ◌==◌, Bool, true, false, not, ◌&&◌, if◌then◌else◌, IsTrue}
+use Rattle.std.proofs.Common.{List, [], ◌∷◌, map, length, Option, Some, None, slice_get, ℤ, pos, negsuc, refl, sym, ap, subst, ◌∙◌, unsigned_abs}
+use Rattle.std.specs.Prelude.{◌-ℤ◌, int_le, nat_le}
+use Rattle.std.specs.Int.{int_rem_euclid}
+use Rattle.std.specs.List.{All}
+use Rattle.std.proofs.lemmas.Bool.Decides.{nat_tests}
+use Rattle.std.proofs.lemmas.Int.{ints}
+use Rattle.std.proofs.lemmas.List.Elements.{All-weaker}
+use Rattle.ub_base.specs.declared.clause.Kind.TheVariants.{Val}
+use Rattle.c_types.specs.declared.kind.IntKind.{IntKind}
+use Rattle.c_types.specs.declared.kind.IntKind.TheVariants.{Bool as Boolean, Char, SChar, UChar, Short, UShort, Int as Int_kind, UInt, Long, ULong, LLong, ULLong}
+use Rattle.c_types.specs.declared.tags.Extent.{Extent}
+use Rattle.c_types.specs.declared.tags.Member.{Member}
+use Rattle.c_types.specs.declared.tags.Tag.{Tag}
+use Rattle.c_types.specs.Kinds.{width, greatest, holds}
+use Rattle.c_types.specs.Layout.{Known, bytes, extent, extents, extent_of_tag, repeated, limited, and_then, padded, if_any, members_extent, no_members, known_by}
+use Rattle.c_types.specs.Types.{CType, void, int, enumeration, pointer, array, struct, union, function}
+use Rattle.c_arith.specs.Operators as arithmetic
+use Rattle.c_arith.specs.Operators.{bits, conv, is_bool, modulus, of_bits}
+use Rattle.c_arith.proofs.Bounds.{held_small}
+use Rattle.c_typed.specs.declared.program.Program.{Program}
+use Rattle.c_typed.specs.declared.tree.Change.{Change}
+use Rattle.c_typed.specs.declared.tree.Change.TheVariants as change
+use Rattle.c_typed.specs.declared.tree.Conversion.TheVariants as conversion
+use Rattle.c_typed.specs.declared.tree.Node.{Node}
+use Rattle.c_typed.specs.declared.tree.Node.TheOpen as shape
+use Rattle.c_typed.specs.declared.tree.Node.TheOpen.{Node-F}
+use Rattle.c_typed.specs.declared.tree.Place.{Place}
+use Rattle.c_typed.specs.declared.tree.Typed.{Typed, out-Typed}
+use Rattle.c_typed.specs.Lawful.{There, IsConstant, StepsOver, SiteIsLawful, TypesAre, UpdateTypes}
+use Rattle.c_typed.specs.Order.{place}
+use Rattle.c_typed.specs.Sites.{Blocks, Site, all_sites, seen, sites, type_seen}
+use Rattle.c_typed.specs.Tree as order
+use Rattle.c_typed.specs.Tree.{is_quiet, size, sizes, trees_of}
+use Rattle.c_model.specs.Nodes.{amount}
+use Rattle.c_model.specs.Program as model
+use Rattle.c_model.specs.Program.{Expr, expr, Exprs, none, more, Head, tree_of}
+use Rattle.c_model.specs.Steps.{Scene, first_quiet, moved_place, name_of, null_of, pointer_to, quiet_value, target, values_of}
+use Rattle.c_model.specs.Values.{Value, Int, Ptr, Fun, Whole, Missing, Nothing, integer_of, or_nothing, value_at}
+use Rattle.c_model.specs.World.{World}
+use Rattle.program_view.specs.Trees.{constant_head, expr_of, exprs_of, is_pointer}
+use Rattle.program_view.proofs.Seen.{node_in, operands_in, own_type, head_in, expr_at, by_size}
+use Rattle.run_acts.specs.Updates.{IsNear, IsNearChange}
+use Rattle.run_code.specs.declared.nodes.NodeInfo.{NodeInfo}
+use Rattle.run_events.specs.Nodes.{head_of, IsNearBy}
+use Rattle.code_view.proofs.Each.{each_laid}
+use Rattle.code_view.proofs.Known.{IsLawfulTree, own_lawful}
+use Rattle.code_view.proofs.Parts.{in_nodes, parts, site_in}
+use Rattle.code_view.proofs.Viewed.{all_both}
+use Rattle.run_laws.specs.Given.{MovesAreNear}
+use Rattle.run_laws.specs.Open.{AreSmall, IsSmall}
+
+-- ---- values of integer types
+kind_modulus : (kind : IntKind) → modulus kind ≤ 2 ^ 64
+kind_modulus Boolean = omega arith
+kind_modulus Char = omega arith
+kind_modulus SChar = omega arith
+kind_modulus UChar = omega arith
+kind_modulus Short = omega arith
+kind_modulus UShort = omega arith
+kind_modulus Int_kind = omega arith
+kind_modulus UInt = omega arith
+kind_modulus Long = omega arith
+kind_modulus ULong = omega arith
+kind_modulus LLong = omega arith
+kind_modulus ULLong = omega arith
+
+modulus_pos : (kind : IntKind) → 0 < modulus kind
+modulus_pos Boolean = omega arith
+modulus_pos Char = omega arith
+modulus_pos SChar = omega arith
+modulus_pos UChar = omega arith
+modulus_pos Short = omega arith
+modulus_pos UShort = omega arith
+modulus_pos Int_kind = omega arith
+modulus_pos UInt = omega arith
+modulus_pos Long = omega arith
+modulus_pos ULong = omega arith
+modulus_pos LLong = omega arith
+modulus_pos ULLong = omega arith
+
+rest_below : (a m : ℕ) → 0 < m → a % m < m
+rest_below a m h = grind (arith, h)
+
+euclid_below : (z : ℤ) (m : ℕ) → 0 < m → unsigned_abs (int_rem_euclid z (pos m)) < m
+euclid_below (pos a) m h = rest_below a m h
+euclid_below (negsuc a) m h = omega (arith, h)
+
+bits_below : (kind : IntKind) (z : ℤ) → bits kind z < modulus kind
+bits_below kind z = euclid_below z (modulus kind) (modulus_pos kind)
+
+less_abs : (n m : ℕ) → n < m → m ≤ 2 ^ 64 → 0 < n → unsigned_abs (pos n -ℤ pos m) < 2 ^ 64
+less_abs n m h few some = grind (arith, ints, h, few, some)
+
+-- a number that isn't above the greatest value of a kind is not 0
+least_greatest : (kind : IntKind) → int_le (pos 0) (greatest kind) ≡ true
+least_greatest Boolean = refl
+least_greatest Char = refl
+least_greatest SChar = refl
+least_greatest UChar = refl
+least_greatest Short = refl
+least_greatest UShort = refl
+least_greatest Int_kind = refl
+least_greatest UInt = refl
+least_greatest Long = refl
+least_greatest ULong = refl
+least_greatest LLong = refl
+least_greatest ULLong = refl
+
+above_some : (kind : IntKind) (n : ℕ) → int_le (pos n) (greatest kind) ≡ false → 0 < n
+above_some kind zero h = absurd (let l = least_greatest kind in cc)
+above_some kind (suc n) h = omega arith
+
+of_bits_small : (kind : IntKind) (n : ℕ) → n < modulus kind → unsigned_abs (of_bits kind n) < 2 ^ 64
+of_bits_small kind n h = go (int_le (pos n) (greatest kind)) refl
+  where
+    go : (b : Bool) → int_le (pos n) (greatest kind) ≡ b → unsigned_abs (if b then pos n else pos n -ℤ pos (modulus kind)) < 2 ^ 64
+    go true e = let few = kind_modulus kind in omega (arith, h, few)
+    go false e = less_abs n (modulus kind) h (kind_modulus kind) (above_some kind n e)
+
+truth_small : (z : ℤ) → unsigned_abs (arithmetic.truth z) < 2 ^ 64
+truth_small z = go (unsigned_abs z == 0)
+  where
+    go : (b : Bool) → unsigned_abs (if b then pos 0 else pos 1) < 2 ^ 64
+    go true = omega arith
+    go false = omega arith
+
+pub conv_small : (kind : IntKind) (z : ℤ) → unsigned_abs (conv kind z) < 2 ^ 64
+conv_small kind z = go (is_bool kind)
+  where
+    go : (b : Bool) → unsigned_abs (if b then arithmetic.truth z else arithmetic.wrapped kind z) < 2 ^ 64
+    go true = truth_small z
+    go false = of_bits_small kind (bits kind z) (bits_below kind z)
+
+pub integer_small : (v : Value) → IsSmall v → unsigned_abs (integer_of v) < 2 ^ 64
+integer_small (Int z) h = h
+integer_small (Ptr a prov) h = omega arith
+integer_small (Fun a) h = omega arith
+integer_small (Whole bs source) h = omega arith
+integer_small Missing h = omega arith
+integer_small Nothing h = omega arith
+
+-- ---- sizes
+limited_small : (x e : Extent) → limited x ≡ Some e → e.size ≤ 2 ^ 40
+limited_small x e h = go (nat_le x.size (2 ^ 40)) refl h
+  where
+    go : (b : Bool) → nat_le x.size (2 ^ 40) ≡ b → (if b then Some x else None) ≡ Some e → e.size ≤ 2 ^ 40
+    go true l h = let is : x ≡ e = cc in subst (λ (z : Extent). z.size ≤ 2 ^ 40) is (grind (arith, nat_tests, l))
+    go false l h = absurd (cc)
+
+repeated_small : (count : ℕ) (o : Option Extent) (e : Extent) → repeated count o ≡ Some e → e.size ≤ 2 ^ 40
+repeated_small count None e h = absurd (cc)
+repeated_small count (Some x) e h = limited_small _ e h
+
+padded_small : (o : Option Extent) (e : Extent) → and_then o padded ≡ Some e → e.size ≤ 2 ^ 40
+padded_small None e h = absurd (cc)
+padded_small (Some x) e h = limited_small _ e h
+
+any_small : (ms : List Member) (o : Option Extent) (e : Extent) → if_any ms (and_then o padded) ≡ Some e → e.size ≤ 2 ^ 40
+any_small [] o e h = absurd (cc)
+any_small (m ∷ ms) o e h = padded_small o e h
+
+tag_small : (known : Known) (o : Option Tag) (e : Extent) → extent_of_tag known o ≡ Some e → e.size ≤ 2 ^ 40
+tag_small known None e h = absurd (cc)
+tag_small known (Some tag) e h = any_small tag.members (members_extent tag.kind known (Some no_members) tag.members) e h
+
+known_small : (n : ℕ) (tags : List Tag) (tag : ℕ) (e : Extent) → known_by n tags tag ≡ Some e → e.size ≤ 2 ^ 40
+known_small zero tags tag e h = absurd (cc)
+known_small (suc n) tags tag e h = tag_small (known_by n tags) (slice_get tags tag) e h
+
+kind_bytes : (kind : IntKind) → bytes kind ≤ 8
+kind_bytes Boolean = omega arith
+kind_bytes Char = omega arith
+kind_bytes SChar = omega arith
+kind_bytes UChar = omega arith
+kind_bytes Short = omega arith
+kind_bytes UShort = omega arith
+kind_bytes Int_kind = omega arith
+kind_bytes UInt = omega arith
+kind_bytes Long = omega arith
+kind_bytes ULong = omega arith
+kind_bytes LLong = omega arith
+kind_bytes ULLong = omega arith
+
+some_size : (n : ℕ) (x e : Extent) → Some x ≡ Some e → x.size ≤ 8 → e.size ≤ 2 ^ 40
+some_size n x e h l =
+    let is : x ≡ e = cc in
+    let same : x.size ≡ e.size = ap (λ (z : Extent). z.size) is in
+    omega (arith, l, same)
+
+extent_small : (tags : List Tag) (t : CType) (e : Extent) → extent (extents tags) t ≡ Some e → e.size ≤ 2 ^ 40
+extent_small tags void e h = absurd (cc)
+extent_small tags (int kind) e h = some_size 0 _ e h (kind_bytes kind)
+extent_small tags (enumeration tag) e h = some_size 0 _ e h (kind_bytes Int_kind)
+extent_small tags (pointer c t) e h = some_size 0 _ e h (omega arith)
+extent_small tags (array c t None) e h = absurd (cc)
+extent_small tags (array c t (Some count)) e h = repeated_small count (extent (extents tags) t) e h
+extent_small tags (struct tag) e h = known_small (length tags) tags tag e h
+extent_small tags (union tag) e h = known_small (length tags) tags tag e h
+extent_small tags (function r ps v) e h = absurd (cc)
+
+there_small : (o : Option Extent) (n : ℕ) → ((e : Extent) → o ≡ Some e → e.size ≤ 2 ^ 40) → There o (λ e. (0 < e.size) × (e.size ≡ n)) → n ≤ 2 ^ 40
+there_small None n small h = absurd h
+there_small (Some e) n small h = let l = small e refl in let is = h.1 in omega (arith, l, is)
+
+steps_small : (tags : List Tag) (t : CType) (n : ℕ) → StepsOver tags t n → n ≤ 2 ^ 40
+steps_small tags (pointer c t) n h = there_small (extent (extents tags) t) n (extent_small tags t) h
+steps_small tags void n h = absurd h
+steps_small tags (int kind) n h = absurd h
+steps_small tags (enumeration tag) n h = absurd h
+steps_small tags (array c t count) n h = absurd h
+steps_small tags (struct tag) n h = absurd h
+steps_small tags (union tag) n h = absurd h
+steps_small tags (function r ps v) n h = absurd h
+
+product_small : (a b : ℕ) → a ≤ 2 ^ 40 → b ≤ 2 ^ 64 → a * b ≤ 2 ^ 104
+product_small a b h k = grind (arith, h, k)
+
+near_small : (n : ℕ) (z : ℤ) → n ≤ 2 ^ 40 → unsigned_abs z < 2 ^ 64 → IsNear n z
+near_small n z h k = let p = product_small n (unsigned_abs z) h (omega (arith, k)) in omega (arith, p)
+
+-- ---- what is known beforehand
+constant_small : (ty : CType) (z : ℤ) → IsConstant ty z → unsigned_abs z < 2 ^ 64
+constant_small (int kind) z h = held_small kind z h
+constant_small (enumeration tag) z h = held_small Int_kind z h
+constant_small (pointer c t) z h = subst (λ (w : ℤ). unsigned_abs w < 2 ^ 64) (sym h) (omega arith)
+constant_small void z h = absurd h
+constant_small (array c t count) z h = absurd h
+constant_small (struct tag) z h = absurd h
+constant_small (union tag) z h = absurd h
+constant_small (function r ps v) z h = absurd h
+
+null_small : (ty : CType) → IsSmall (null_of ty)
+null_small (function r ps v) = tt
+null_small void = tt
+null_small (int kind) = tt
+null_small (enumeration tag) = tt
+null_small (pointer c t) = tt
+null_small (array c t count) = tt
+null_small (struct tag) = tt
+null_small (union tag) = tt
+
+moved_small : (world : World) (offset : ℕ) (v : Value) → IsSmall v → IsSmall (moved_place world offset v)
+moved_small world offset (Ptr a p) h = tt
+moved_small world offset (Int z) h = h
+moved_small world offset (Fun a) h = h
+moved_small world offset (Whole bs source) h = h
+moved_small world offset Missing h = h
+moved_small world offset Nothing h = h
+
+abbrev types_in : List Typed → List CType
+types_in ts = map type_seen (map seen ts)
+
+module _ (p : Program) (around : Blocks) (world : World) (f : Scene) where
+  abbrev Fine : Site → Type 0
+  Fine = SiteIsLawful p around
+
+  abbrev Quiet : Typed → Type 0
+  Quiet t = All Fine (sites t) → IsSmall (quiet_value world f (expr_of t))
+
+  first_small : (ts : List Typed) → ((u : Typed) → size (order.tree_of u) ≤ sizes (trees_of ts) → Quiet u) → All Fine (all_sites (map seen ts))
+      → IsSmall (first_quiet world f (exprs_of ts))
+  first_small [] ih all = tt
+  first_small (t ∷ ts) ih all = ih t (omega arith) (all_both Fine (sites t) (all_sites (map seen ts)) all).0
+
+  number_small : (z : ℤ) (ty : CType) (line : ℕ) (es : Exprs) → unsigned_abs z < 2 ^ 64 → IsSmall (quiet_value world f (expr (constant_head z ty) ty line es))
+  number_small z ty line es h = go (is_pointer ty && (unsigned_abs z == 0))
+    where
+      go : (b : Bool) → IsSmall (quiet_value world f (expr (if b then model.Null else model.Number z) ty line es))
+      go true = null_small (target ty)
+      go false = h
+
+  value_small : (d : Node-F Node Typed) (ty : CType) (line : ℕ) (ts : List Typed) → Fine (site_in d ty ts) → IsSmall (first_quiet world f (exprs_of ts))
+      → IsSmall (quiet_value world f (expr (head_in d ty) ty line (exprs_of ts)))
+  value_small (shape.Const z) ty line [] fine first = number_small z ty line (exprs_of []) (constant_small ty z fine.types)
+  value_small (shape.Const z) ty line (t ∷ ts) fine first = absurd (fine.types)
+  value_small (shape.Member offset) ty line ts fine first = moved_small world offset (first_quiet world f (exprs_of ts)) first
+  value_small (shape.Conv (conversion.Integer kind)) ty line ts fine first = conv_small kind (integer_of (first_quiet world f (exprs_of ts)))
+  value_small _ ty line ts fine first = tt
+
+  quiet_small : (t : Typed) → Quiet t
+  quiet_small = by_size Quiet (λ t ih all.
+      let s = parts Fine t all in
+      subst (λ (z : Expr). IsSmall (quiet_value world f z)) (sym (expr_at t))
+      (value_small (node_in t) (own_type t) (out-Typed t).line (operands_in t) s.0 (first_small (operands_in t) ih s.1)))
+
+  -- ---- the values of operands
+  given_small : (given : Place → Option Value) → AreSmall given → (u : Place) → IsSmall (or_nothing (given u))
+  given_small given small u = go (given u) refl
+    where
+      go : (o : Option Value) → given u ≡ o → IsSmall (or_nothing o)
+      go None e = tt
+      go (Some v) e = small u v e
+
+  values_small : (given : Place → Option Value) → AreSmall given → (ts : List Typed) → All Fine (all_sites (map seen ts)) → (k i : ℕ)
+      → IsSmall (value_at (values_of world f given k (exprs_of ts)) i)
+  values_small given small [] all k i = tt
+  values_small given small (t ∷ ts) all k zero = go (is_quiet (tree_of (expr_of t)))
+    where
+      go : (b : Bool) → IsSmall (if b then quiet_value world f (expr_of t) else or_nothing (given (place k Val)))
+      go true = quiet_small t (all_both Fine (sites t) (all_sites (map seen ts)) all).0
+      go false = given_small given small (place k Val)
+  values_small given small (t ∷ ts) all k (suc i) =
+      values_small given small ts (all_both Fine (sites t) (all_sites (map seen ts)) all).1 (k + size (tree_of (expr_of t))) i
+
+  -- ---- each node
+  move_steps : (n : ℕ) (subtract : Bool) (own : CType) (ss : List CType) → TypesAre p around (shape.PtrAdd n subtract) own ss → n ≤ 2 ^ 40
+  move_steps n subtract own (pointer c s ∷ index ∷ []) h = steps_small p.tags (pointer c s) n h.0
+  move_steps n subtract own [] h = absurd h
+  move_steps n subtract own (s ∷ []) h = absurd (one s h)
+    where
+      one : (s : CType) → TypesAre p around (shape.PtrAdd n subtract) own (s ∷ []) → ⊥
+      one (pointer c s) h = h
+      one void h = h
+      one (int kind) h = h
+      one (enumeration tag) h = h
+      one (array c s count) h = h
+      one (struct tag) h = h
+      one (union tag) h = h
+      one (function r ps v) h = h
+  move_steps n subtract own (s ∷ index ∷ []) h = absurd (two s h)
+    where
+      two : (s : CType) → TypesAre p around (shape.PtrAdd n subtract) own (s ∷ index ∷ []) → ⊥
+      two (pointer c s) h = h
+      two void h = h
+      two (int kind) h = h
+      two (enumeration tag) h = h
+      two (array c s count) h = h
+      two (struct tag) h = h
+      two (union tag) h = h
+      two (function r ps v) h = h
+  move_steps n subtract own (s ∷ index ∷ x ∷ more) h = absurd (many s h)
+    where
+      many : (s : CType) → TypesAre p around (shape.PtrAdd n subtract) own (s ∷ index ∷ x ∷ more) → ⊥
+      many (pointer c s) h = h
+      many void h = h
+      many (int kind) h = h
+      many (enumeration tag) h = h
+      many (array c s count) h = h
+      many (struct tag) h = h
+      many (union tag) h = h
+      many (function r ps v) h = h
+
+  change_steps : (n : ℕ) (subtract : Bool) (t : CType) (rest : List CType) → UpdateTypes p.tags (change.Pointer n subtract) t rest → n ≤ 2 ^ 40
+  change_steps n subtract t [] h = steps_small p.tags t n h
+  change_steps n subtract t (index ∷ []) h = steps_small p.tags t n h.0
+  change_steps n subtract t (index ∷ x ∷ more) h = absurd h
+
+  update_steps : (n : ℕ) (subtract old : Bool) (own : CType) (ss : List CType) → TypesAre p around (shape.Update (change.Pointer n subtract) old) own ss
+      → n ≤ 2 ^ 40
+  update_steps n subtract old own [] h = absurd h
+  update_steps n subtract old own (pointer c t ∷ rest) h = change_steps n subtract t rest h.2
+  update_steps n subtract old own (void ∷ rest) h = absurd h
+  update_steps n subtract old own (int kind ∷ rest) h = absurd h
+  update_steps n subtract old own (enumeration tag ∷ rest) h = absurd h
+  update_steps n subtract old own (array c t count ∷ rest) h = absurd h
+  update_steps n subtract old own (struct tag ∷ rest) h = absurd h
+  update_steps n subtract old own (union tag ∷ rest) h = absurd h
+  update_steps n subtract old own (function r ps v ∷ rest) h = absurd h
+
+  amount_small : (old : Bool) (vs : List Value) → ((i : ℕ) → IsSmall (value_at vs i)) → unsigned_abs (amount old vs) < 2 ^ 64
+  amount_small true vs small = omega arith
+  amount_small false vs small = integer_small (value_at vs 1) (small 1)
+
+  near_node : (d : Node-F Node Typed) (ty : CType) (ts : List Typed) (vs : List Value) → Fine (site_in d ty ts)
+      → ((i : ℕ) → IsSmall (value_at vs i)) → IsNearBy (head_in d ty) vs
+  near_node (shape.PtrAdd n subtract) ty ts vs fine small =
+      near_small n (integer_of (value_at vs 1)) (move_steps n subtract ty (types_in ts) fine.types) (integer_small (value_at vs 1) (small 1))
+  near_node (shape.Update (change.Integer op kind work) old) ty ts vs fine small = tt
+  near_node (shape.Update (change.Pointer n subtract) old) ty ts vs fine small =
+      near_small n (amount old vs) (update_steps n subtract old ty (types_in ts) fine.types) (amount_small old vs small)
+  near_node (shape.Const z) ty ts vs fine small = go (is_pointer ty && (unsigned_abs z == 0))
+    where
+      go : (b : Bool) → IsNearBy (if b then model.Null else model.Number z) vs
+      go true = tt
+      go false = tt
+  near_node _ ty ts vs fine small = tt
+
+pub moves_are_near : MovesAreNear
+moves_are_near p code world f given firsts nodes n laid i k x lawful order at are node_at small =
+    let t = x.tree.now in
+    let h = each_laid p (IsLawfulTree p) (own_lawful p) (λ g e l. (e.blocks, l.nodes)) code n laid lawful order at in
+    let all = in_nodes (SiteIsLawful p h.0) firsts laid.root.now nodes i x are h.1 node_at in
+    let s = parts (SiteIsLawful p h.0) t all in
+    let vs = values_of world f given k (exprs_of (operands_in t)) in
+    subst (λ (z : Expr). IsNearBy (head_of z) vs) (sym (expr_at t))
+    (near_node p h.0 world f (node_in t) (own_type t) (operands_in t) vs s.0 (values_small p h.0 world f given small (operands_in t) s.1 k))

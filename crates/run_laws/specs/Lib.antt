@@ -1,0 +1,4 @@
+pub mod Asked
+pub mod Open
+pub mod Given
+pub mod Initial

@@ -1,0 +1,55 @@
+//! What the picks of a run ask holds in the states of a run: laws that join those of code_view, run_events and run_machine.
+//!
+//! A law function takes nothing and answers nothing: its contract is a law about the definitions.
+#![tactic(auto)]
+
+ghost use Rattle.run_laws.specs.Asked.{RoomsAreAsked, CodeHasRooms, EventsAreAsked, LabelsAreAsked, ConstantsAreAsked};
+ghost use Rattle.run_laws.specs.Given.{MovesAreNear, OpenTakesGiven, OpenCanBeTaken, OpenMayTake, OpenMayTakeNext};
+ghost use Rattle.run_laws.specs.Initial.{OpenIsInitializer, OpenMayStart, OpenMayStartNext};
+
+use code_view::{law_constants, law_events, law_named, law_rooms};
+use run_events::law_acts;
+use run_machine::law_picks;
+
+/// What code_view proves of the rooms, the events, the labels and the constants of a lawful program's code is what run_machine asks of them.
+pub fn law_asked()
+    ensures rooms { RoomsAreAsked }
+    ensures code { CodeHasRooms }
+    ensures events { EventsAreAsked }
+    ensures labels { LabelsAreAsked }
+    ensures constants { ConstantsAreAsked }
+{
+    law_rooms();
+    law_constants();
+}
+
+/// A node of a lawful program moves a pointer by fewer than 2^127 bytes, where the integers that were given are below 2^64 in size (6.5.6p8).
+pub fn law_near()
+    ensures { MovesAreNear }
+{}
+
+/// In a machine that stands for a state, over the code of a lawful program, with the blocks open that are round what its full expression names, what an event
+/// takes that may come next, and isn't a body, is given; so its act is that of its node, and it can be taken.
+pub fn law_given()
+    ensures given { OpenTakesGiven }
+    ensures can { OpenCanBeTaken }
+    ensures may { OpenMayTake }
+    ensures next { OpenMayTakeNext }
+{
+    law_acts();
+    law_named();
+    law_events();
+    law_near();
+    law_asked();
+    law_picks();
+}
+
+/// So the body of an isolated initializer may start, that comes next in such a machine, where each isolated initializer has the number of the full
+/// expression of its own tree (6.7.9p23).
+pub fn law_initial()
+    ensures is { OpenIsInitializer }
+    ensures may { OpenMayStart }
+    ensures next { OpenMayStartNext }
+{
+    law_asked();
+}
