@@ -106,6 +106,18 @@ listed_at listing first end i d at =
       sym (behind first listing i) ∙ (sym (in_front (end - first) (drop first listing) i lt) ∙ at),
     )
 
+-- .. which is one of the part
+pub in_listing : (listing : List Listed) (laid : Laid) (d : Due) → IsListedAt listing laid d → IsListed (part_of listing laid.first laid.end) d
+in_listing listing laid d is =
+    let i = is.at in
+    let first = is.first in
+    let end = is.end in
+    let same : laid.first + (i - laid.first) ≡ i = omega (arith, first) in (
+      i - laid.first,
+      in_front (laid.end - laid.first) (drop laid.first listing) (i - laid.first) (omega (arith, first, end))
+          ∙ (behind laid.first listing (i - laid.first) ∙ (ap (slice_get listing) same ∙ is.entry)),
+    )
+
 -- what stands in a later part stands in the whole
 in_whole : (listing : List Listed) (first cursor end i : ℕ) (d : Due) → first ≤ cursor → slice_get (part_of listing cursor end) i ≡ Some (listed.Event d)
     → IsListed (part_of listing first end) d
@@ -118,7 +130,7 @@ in_whole listing first cursor end i d le at =
           ∙ (behind first listing ((cursor - first) + i) ∙ (ap (slice_get listing) same ∙ there.1)),
     )
 
-part_same : (listing : List Listed) (a b c d : ℕ) → a ≡ b → c ≡ d → part_of listing a c ≡ part_of listing b d
+pub part_same : (listing : List Listed) (a b c d : ℕ) → a ≡ b → c ≡ d → part_of listing a c ≡ part_of listing b d
 part_same listing a b c d h k = ap (λ (n : ℕ). part_of listing n c) h ∙ ap (λ (n : ℕ). part_of listing b n) k
 
 -- ---- the full expression that is open
@@ -139,16 +151,16 @@ module _ (world : World) (meaning : Option ℕ → Meaning) (m : Machine) (st : 
   same_laid : expression.laid ≡ laid
   same_laid = same_Some expression.laid laid (sym expression.at ∙ o.at)
 
-  first_is : s.first ≡ laid.first
+  pub first_is : s.first ≡ laid.first
   first_is = expression.first ∙ ap (λ (z : Laid). z.first) same_laid
 
-  end_is : s.end ≡ laid.end
+  pub end_is : s.end ≡ laid.end
   end_is = expression.end ∙ ap (λ (z : Laid). z.end) same_laid
 
-  root_is : e.root ≡ expr_of laid.root.now
+  pub root_is : e.root ≡ expr_of laid.root.now
   root_is = expression.root ∙ ap (λ (z : Laid). expr_of z.root.now) same_laid
 
-  rooms_is : m.top.rooms ≡ laid.rooms
+  pub rooms_is : m.top.rooms ≡ laid.rooms
   rooms_is = expression.rooms ∙ ap (λ (z : Laid). z.rooms) same_laid
 
   -- places in the listing are below 2^64

@@ -2,3 +2,5 @@ mod Asked
 mod Near
 mod Given
 mod Initial
+mod Beginning
+mod Staying

@@ -2,3 +2,5 @@ pub mod Asked
 pub mod Open
 pub mod Given
 pub mod Initial
+pub mod Beginning
+pub mod Staying

@@ -6,10 +6,14 @@
 ghost use Rattle.run_laws.specs.Asked.{RoomsAreAsked, CodeHasRooms, EventsAreAsked, LabelsAreAsked, ConstantsAreAsked};
 ghost use Rattle.run_laws.specs.Given.{MovesAreNear, OpenTakesGiven, OpenCanBeTaken, OpenMayTake, OpenMayTakeNext};
 ghost use Rattle.run_laws.specs.Initial.{OpenIsInitializer, OpenMayStart, OpenMayStartNext};
+ghost use Rattle.run_laws.specs.Beginning.{BeginsOpen};
+ghost use Rattle.run_laws.specs.Staying.{OpenStays};
 
 use code_view::{law_constants, law_events, law_named, law_rooms};
+use run_code::law_choices;
 use run_events::law_acts;
-use run_machine::law_picks;
+use run_machine::{law_events as law_taken_events, law_picks};
+use run_state::law_operands;
 
 /// What code_view proves of the rooms, the events, the labels and the constants of a lawful program's code is what run_machine asks of them.
 pub fn law_asked()
@@ -52,4 +56,17 @@ pub fn law_initial()
     ensures next { OpenMayStartNext }
 {
     law_asked();
+}
+
+/// The machine stands so as a full expression begins, where it has just the choices that are made at once, and rooms for its values (6.8p4); and behind each
+/// event that isn't a body it stands so again.
+pub fn law_open()
+    ensures begins { BeginsOpen }
+    ensures stays { OpenStays }
+{
+    law_choices();
+    law_named();
+    law_operands();
+    law_events();
+    law_taken_events();
 }

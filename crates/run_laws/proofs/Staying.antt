@@ -1,0 +1,269 @@
+-- Behind an event that isn't a body the machine stands as picks ask it again.
+use Rattle.std.proofs.Common.{arith, ◌≡◌, ◌+◌, ◌<◌, ◌≤◌, ◌^◌, ℕ, suc, Bool, true, false, if◌then◌else◌, List, length, Option, Some, None, slice_get}
+use Rattle.std.proofs.Common.{refl, sym, ap, subst, ◌∙◌}
+use Rattle.std.specs.List.{All}
+use Rattle.std.proofs.lemmas.List.Elements.{All-weaker}
+use Rattle.std.proofs.lemmas.Option.{same_Some, slice_get_within}
+use Rattle.ub_base.specs.declared.clause.Kind.{Kind}
+use Rattle.ub_base.specs.declared.clause.Kind.TheVariants.{Val, Eff, Body}
+use Rattle.c_typed.specs.declared.program.Program.{Program}
+use Rattle.c_typed.specs.declared.tree.Node.TheOpen as shape
+use Rattle.c_typed.specs.declared.tree.Place.{Place}
+use Rattle.c_typed.specs.declared.tree.Slot.{Slot}
+use Rattle.c_typed.specs.declared.tree.Slot.TheVariants as slot
+use Rattle.c_typed.specs.declared.tree.Typed.{Typed}
+use Rattle.c_typed.specs.Order.{is_val, same_place}
+use Rattle.c_typed.specs.Sites.{Head, sites}
+use Rattle.c_typed.specs.Tree.{size}
+use Rattle.c_model.specs.Program.{tree_of}
+use Rattle.c_model.specs.Runs.{State}
+use Rattle.c_model.specs.Steps.{Begun, with_given}
+use Rattle.c_model.specs.Values.{Value}
+use Rattle.c_model.specs.World.{World}
+use Rattle.run_control.specs.View.{Meaning}
+use Rattle.run_code.specs.declared.nodes.NodeInfo.{NodeInfo}
+use Rattle.run_code.specs.declared.steps.Choice.{Choice}
+use Rattle.run_code.specs.declared.steps.Due.{Due}
+use Rattle.run_code.specs.declared.steps.Expression.{Expression as Laid}
+use Rattle.run_code.specs.declared.steps.Listed.{Listed}
+use Rattle.run_code.specs.declared.steps.Operand.{Operand}
+use Rattle.run_code.specs.declared.tables.Tables.{Tables}
+use Rattle.run_code.specs.declared.whole.Code.{Code}
+use Rattle.run_code.specs.Choices.{ChoosesAt}
+use Rattle.run_code.specs.LaidOut.{LaidOutBy}
+use Rattle.run_listing.specs.Along.{IsListed, part_of}
+use Rattle.run_state.specs.declared.machine.Machine.{Machine}
+use Rattle.run_state.specs.declared.machine.Open.{Open}
+use Rattle.run_state.specs.declared.machine.Stage.{Stage}
+use Rattle.run_state.specs.Operands.{Gives, RoomGives}
+use Rattle.run_state.specs.Stands.{Holds}
+use Rattle.run_events.specs.Performs.{gives_value}
+use Rattle.run_machine.specs.Ending.{NotesWay}
+use Rattle.run_machine.specs.Picks.{whole_part}
+use Rattle.run_machine.specs.Taking.{Decides, EventStands, HasRooms, IsPast, TakesEvent, after_event, store_after}
+use Rattle.run_machine.proofs.Laying.{RoomsLaid, rooms_laid}
+use Rattle.code_view.specs.Events.{EventsAreEvaluated, IsListedAt}
+use Rattle.code_view.specs.Named.{NamedIsOpen, NamesAreOpen, SlotIsOpen}
+use Rattle.run_laws.specs.Open.{AreSmall, IsLawfulCode, IsOpen, IsSmall}
+use Rattle.run_laws.specs.Staying.{OpenStays}
+use Rattle.run_laws.proofs.Given.{end_is, first_is, in_listing, part_same, root_is, rooms_is}
+
+-- ---- what stays of the machine
+-- its code and its program, and of its top frame all but where the cursor stands
+record Moves (old : Machine) (s : Stage) (new : Machine) : Type 0 where
+  cursor : ℕ
+  top : new.top ≡ record old.top { stage = Some (record s { cursor = cursor }) }
+  code : new.code.now ≡ old.code.now
+  program : new.program.now ≡ old.program.now
+
+past_moves : (straight : Bool) (old past : Machine) (s : Stage) (d : Due) → old.top.stage ≡ Some s → IsPast straight old s d past → Moves old s past
+past_moves true old past s d stage p = record {
+  cursor = suc (s.cursor + p.1.0);
+  top = ap (λ (k : Machine). k.top) p.5;
+  code = ap (λ (k : Machine). k.code.now) p.5;
+  program = ap (λ (k : Machine). k.program.now) p.5;
+}
+past_moves false old past s d stage p = record {
+  cursor = s.cursor;
+  top = ap (λ (k : Machine). k.top) p ∙ ap (λ (z : Option Stage). record old.top { stage = z }) stage;
+  code = ap (λ (k : Machine). k.code.now) p;
+  program = ap (λ (k : Machine). k.program.now) p;
+}
+
+past_count : (straight : Bool) (old past : Machine) (s : Stage) (d : Due) → IsPast straight old s d past
+    → length past.values.items ≡ length old.values.items
+past_count true old past s d p = ap (λ (k : Machine). length k.values.items) p.5
+past_count false old past s d p = ap (λ (k : Machine). length k.values.items) p
+
+-- what changes neither
+record Same (old new : Machine) : Type 0 where
+  top : new.top ≡ old.top
+  code : new.code.now ≡ old.code.now
+  program : new.program.now ≡ old.program.now
+
+moves_on : (old mid new : Machine) (s : Stage) → Moves old s mid → Same mid new → Moves old s new
+moves_on old mid new s m same = record {
+  cursor = m.cursor;
+  top = same.top ∙ m.top;
+  code = same.code ∙ m.code;
+  program = same.program ∙ m.program;
+}
+
+noted_same : (straight : Bool) (old new : Machine) (u : Place) → NotesWay straight old u new → Same old new
+noted_same true old new u n =
+    record { top = ap (λ (k : Machine). k.top) n; code = ap (λ (k : Machine). k.code.now) n; program = ap (λ (k : Machine). k.program.now) n }
+noted_same false old new u n = record {
+  top = ap (λ (k : Machine). k.top) n.rest;
+  code = ap (λ (k : Machine). k.code.now) n.rest;
+  program = ap (λ (k : Machine). k.program.now) n.rest;
+}
+
+noted_values : (straight : Bool) (old new : Machine) (u : Place) (room : ℕ) (v : Value) → NotesWay straight old u new
+    → Holds old.memory old.values.items room v → Holds new.memory new.values.items room v
+noted_values true old new u room v n h = subst (λ (k : Machine). Holds k.memory k.values.items room v) (sym n) h
+noted_values false old new u room v n h = subst (λ (k : Machine). Holds k.memory k.values.items room v) (sym n.rest) h
+
+-- a choice that is made by an operand that gives a value changes neither
+record TestGives (tables : Tables) (m : Machine) (number : ℕ) : Type 0 where
+  choice : Choice
+  there : slice_get tables.choices.items number ≡ Some choice
+  value : Value
+  gives : Gives m choice.test value
+
+decides_same : (o : Option ℕ) (old new : Machine) → ((number : ℕ) → o ≡ Some number → TestGives old.code.now.tables old number)
+    → Decides o old new → Same old new
+decides_same None old new test d =
+    record { top = ap (λ (k : Machine). k.top) d; code = ap (λ (k : Machine). k.code.now) d; program = ap (λ (k : Machine). k.program.now) d }
+decides_same (Some number) old new test d =
+    let t = test number refl in
+    let has = d t.choice t.gives.0 t.there t.gives.1 in
+    record {
+      top = ap (λ (k : Machine). k.top) has.rest;
+      code = ap (λ (k : Machine). k.code.now) has.rest;
+      program = ap (λ (k : Machine). k.program.now) has.rest;
+    }
+
+-- the choice at an event is made at its value, by what its node's operand gives
+record Test (firsts : List ℕ) (tables : Tables) (x : NodeInfo) (kind : Kind) (number : ℕ) : Type 0 where
+  value : kind ≡ Val
+  choice : Choice
+  there : slice_get tables.choices.items number ≡ Some choice
+  test : choice.test ≡ x.operand
+
+test_at : (firsts : List ℕ) (tables : Tables) (nodes : List NodeInfo) (n : ℕ) (x : NodeInfo) (kind : Kind) (number : ℕ)
+    → ChoosesAt firsts tables nodes n x kind (Some number) → Test firsts tables x kind number
+test_at firsts tables nodes n x Val number h = record { value = refl; choice = h.3; there = h.4; test = h.5.test }
+test_at firsts tables nodes n x Eff number h = absurd (cc)
+test_at firsts tables nodes n x Body number h = absurd (cc)
+
+-- ---- the names that are open
+module _ (old new : Machine) (code : new.code.now ≡ old.code.now) (blocks : new.top.blocks ≡ old.top.blocks) (firsts : List ℕ) (bs : List (ℕ × ℕ)) where
+  slot_moved : (s : Slot) → SlotIsOpen old firsts bs s → SlotIsOpen new firsts bs s
+  slot_moved (slot.Auto block decl) h = (
+    h.0,
+    ap (λ (k : Code). slice_get k.tables.blocks.items (new.top.blocks + block)) code
+        ∙ (ap (λ (n : ℕ). slice_get old.code.now.tables.blocks.items (n + block)) blocks ∙ h.1),
+    h.2,
+    h.3,
+    h.4,
+    h.5,
+  )
+  slot_moved (slot.Static number) h = tt
+
+  name_moved : (h : Head) → NamedIsOpen old firsts bs h → NamedIsOpen new firsts bs h
+  name_moved (shape.Obj named) is = slot_moved named is
+  name_moved (shape.List named bytes) is = slot_moved named is
+  name_moved _ is = tt
+
+  names_moved : (t : Typed) → NamesAreOpen old firsts bs t → NamesAreOpen new firsts bs t
+  names_moved t all =
+      All-weaker (λ s. NamedIsOpen old firsts bs s.head) (λ s. NamedIsOpen new firsts bs s.head) (λ s h. name_moved s.head h) (sites t) all
+
+-- ---- what is small stays so
+small_with : (e : Begun) (u : Place) (v : Value) → AreSmall e.given → IsSmall v → AreSmall (with_given e u v).given
+small_with e u v small own w x is = go (same_place u w) is
+  where
+    go : (b : Bool) → (if b then Some v else e.given w) ≡ Some x → IsSmall x
+    go true h = subst IsSmall (same_Some v x h) own
+    go false h = small w x h
+
+module _ (gives : RoomGives) (evaluated : EventsAreEvaluated) (world : World) (meaning : Option ℕ → Meaning) (old new : Machine) (st : State) (e : Begun)
+    (s : Stage) (laid : Laid) (firsts : List ℕ) (nodes : List NodeInfo) (d : Due) (v : Value) (o : IsOpen world meaning old st e s laid firsts nodes)
+    (t : TakesEvent world meaning old st e s laid d v new) where
+  abbrev listing : List Listed
+  listing = old.code.now.listing.items
+
+  is_listed : IsListedAt listing laid d
+  is_listed = record { at = t.event.at; first = t.event.first; end = t.event.end; entry = t.event.entry }
+
+  entry : (x : NodeInfo) × (slice_get nodes d.place.node ≡ Some x) × ChoosesAt firsts old.code.now.tables nodes d.place.node x d.place.kind d.choice
+  entry = let it = o.lays.each is_listed.at _ is_listed.first is_listed.end is_listed.entry in (it.0, it.1, it.3)
+
+  few : size (tree_of e.root) < 2 ^ 32
+  few = let rooms = t.rooms.nodes in let is = rooms_is world meaning old st e s laid firsts nodes o in let less = o.roomed.few in omega (arith, rooms, is, less)
+
+  in_rooms : RoomsLaid (part_of listing laid.first laid.end) old.top.rooms e
+  in_rooms =
+      rooms_laid old.code.now.tables listing laid firsts nodes o.lays e (root_is world meaning old st e s laid firsts nodes o) few old.top.rooms
+      (subst (λ (es : List Listed). HasRooms es old.top.rooms e)
+      (part_same listing s.first laid.first s.end laid.end (first_is world meaning old st e s laid firsts nodes o)
+      (end_is world meaning old st e s laid firsts nodes o)) t.rooms)
+
+  gives_own : d.place.kind ≡ Val → gives_value d.act ≡ true
+  gives_own is = in_rooms.gives d (in_listing listing laid d is_listed) t.plain ∙ ap is_val is
+
+  passes : Moves old s t.taken.past
+  passes = past_moves s.straight old t.taken.past s d t.stage t.taken.passes
+
+  base_is : t.taken.past.top.base ≡ old.top.base
+  base_is = ap (λ (z : Open). z.base) passes.top
+
+  done_moves : Moves old s t.taken.done
+  done_moves =
+      moves_on old t.taken.past t.taken.done s passes (record {
+        top = ap (λ (k : Machine). k.top) t.taken.changes.rest;
+        code = ap (λ (k : Machine). k.code.now) t.taken.changes.rest;
+        program = ap (λ (k : Machine). k.program.now) t.taken.changes.rest;
+      })
+
+  noted_moves : Moves old s t.taken.noted
+  noted_moves = moves_on old t.taken.done t.taken.noted s done_moves (noted_same s.straight t.taken.done t.taken.noted d.place t.taken.notes)
+
+  room_there : t.taken.past.top.base + d.place.node < length t.taken.past.values.items
+  room_there =
+      let base = base_is in
+      let same : length t.taken.past.values.items ≡ length old.values.items = past_count s.straight old t.taken.past s d t.taken.passes in
+      let node = slice_get_within nodes d.place.node entry.0 entry.1 in
+      let own = o.roomed.own in
+      let is = rooms_is world meaning old st e s laid firsts nodes o in
+      let rooms = o.stood.rooms in
+      omega (arith, base, same, node, own, is, rooms)
+
+  value_held : d.place.kind ≡ Val → Holds t.taken.noted.memory t.taken.noted.values.items (t.taken.noted.top.base + d.place.node) v
+  value_held is =
+      let held = t.taken.does.value (gives_own is) room_there in
+      let base : t.taken.past.top.base ≡ t.taken.noted.top.base = base_is ∙ sym (ap (λ (z : Open). z.base) noted_moves.top) in
+      subst (λ (n : ℕ). Holds t.taken.noted.memory t.taken.noted.values.items (n + d.place.node) v) base
+      (noted_values s.straight t.taken.done t.taken.noted d.place (t.taken.past.top.base + d.place.node) v t.taken.notes held)
+
+  tested : (number : ℕ) → d.choice ≡ Some number → TestGives t.taken.noted.code.now.tables t.taken.noted number
+  tested number is =
+      let x = entry.0 in
+      let chooses = subst (ChoosesAt firsts old.code.now.tables nodes d.place.node x d.place.kind) is entry.2 in
+      let test = test_at firsts old.code.now.tables nodes d.place.node x d.place.kind number chooses in
+      let operand = test.test ∙ (o.lays.numbered.each d.place.node x entry.1).operand in
+      let quiet = evaluated old.code.now firsts nodes s.expression laid d x o.stood.stands.listed o.at o.lays is_listed entry.1 in
+      record {
+        choice = test.choice;
+        there = ap (λ (k : Code). slice_get k.tables.choices.items number) noted_moves.code ∙ test.there;
+        value = v;
+        gives = subst (λ (z : Operand). Gives t.taken.noted z v) (sym operand)
+            (gives t.taken.noted firsts x.tree.now d.place.node v quiet (value_held test.value));
+      }
+
+  pub moves : Moves old s new
+  moves = moves_on old t.taken.noted new s noted_moves (decides_same d.choice t.taken.noted new tested t.taken.decides)
+
+  abbrev after : Stage
+  after = record s { cursor = moves.cursor }
+
+  pub stays : EventStands → IsSmall v
+      → IsOpen world meaning new (after_event world st e d.place v new.items (store_after new)) (with_given e d.place v) after laid firsts nodes
+  stays stands small = record {
+    stood = stands world meaning old new st e s laid d v t;
+    stage = ap (λ (z : Open). z.stage) moves.top;
+    code = subst (λ (p : Program). IsLawfulCode p new.code.now) (sym moves.program)
+        (subst (λ (k : Code). IsLawfulCode old.program.now k) (sym moves.code) o.code);
+    at = ap (λ (k : Code). slice_get k.expressions.items s.expression) moves.code ∙ o.at;
+    lays = subst (λ (k : Code). LaidOutBy firsts nodes k.tables k.listing.items laid) (sym moves.code) o.lays;
+    roomed = o.roomed;
+    names = names_moved old new moves.code (ap (λ (z : Open). z.blocks) moves.top) firsts st.top.scene.blocks laid.root.now o.names;
+    addresses = o.addresses;
+    small = small_with e d.place v o.small small;
+  }
+
+pub open_stays : RoomGives → EventsAreEvaluated → EventStands → OpenStays
+open_stays gives evaluated stands world meaning old new st e s laid firsts nodes d v o t small = (
+  after gives evaluated world meaning old new st e s laid firsts nodes d v o t,
+  stays gives evaluated world meaning old new st e s laid firsts nodes d v o t stands small,
+)
