@@ -33,7 +33,9 @@ use Rattle.run_machine.specs.Picks.{top_of}
 use Rattle.code_view.specs.Named.{NamesAreOpen, OpenIsKnown}
 use Rattle.code_view.specs.Rooms.{IsRoomedBy}
 use Rattle.run_laws.specs.Beginning.{BeginsOpen, StandsBegun}
-use Rattle.run_laws.specs.Open.{AreSmall, IsLawfulCode, IsOpen, IsSmall}
+use Rattle.run_laws.specs.Open.{IsLawfulCode, IsOpen}
+use Rattle.run_laws.specs.Small.{AreSmall, EndInTime, HasSmallBytes, ListsAreSmall}
+use Rattle.run_laws.proofs.Given.{addresses_of}
 
 -- what the operands of the top frame stand on
 pub objects_of : (world : World) (meaning : Option ℕ → Meaning) (m : Machine) (st : State) → Stands world meaning m st → AreAddresses world.rows
@@ -100,15 +102,15 @@ module _ (keeps : KeepsAtBegin) (known : OpenIsKnown) (world : World) (meaning :
   rooms_there = let le = b.has.rooms in let is = rooms_is in omega (arith, le, is)
 
 pub begins_open : KeepsAtBegin → OpenIsKnown → BeginsOpen
-begins_open keeps known world meaning m st e s laid firsts nodes b code lays roomed names addresses = record {
+begins_open keeps known world meaning m st e s laid firsts nodes b code lays roomed names ends bytes lists = record {
   stood = record {
     stands = b.stands;
     begun = b.begun;
-    chosen = kept keeps known world meaning m st e s laid firsts nodes b code lays names addresses;
+    chosen = kept keeps known world meaning m st e s laid firsts nodes b code lays names (addresses_of world.rows ends);
     reached = none_closed world st.top.scene e b.given;
     arguments = b.arguments;
     result = b.result;
-    rooms = rooms_there keeps known world meaning m st e s laid firsts nodes b code lays names addresses;
+    rooms = rooms_there keeps known world meaning m st e s laid firsts nodes b code lays names (addresses_of world.rows ends);
     below = b.below;
   };
   stage = b.has.stage;
@@ -117,6 +119,8 @@ begins_open keeps known world meaning m st e s laid firsts nodes b code lays roo
   lays = lays;
   roomed = roomed;
   names = names;
-  addresses = addresses;
+  ends = ends;
   small = none_small e b.given;
+  bytes = bytes;
+  lists = lists;
 }

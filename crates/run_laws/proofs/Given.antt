@@ -6,6 +6,7 @@ use Rattle.std.specs.List.{All}
 use Rattle.std.proofs.lemmas.List.Elements.{All-weaker}
 use Rattle.std.proofs.lemmas.Option.{same_Some}
 use Rattle.ub_base.specs.declared.names.Item.{Item}
+use Rattle.addr_map.specs.declared.map.Row.{Row}
 use Rattle.c_typed.specs.declared.tree.Node.TheOpen as shape
 use Rattle.c_typed.specs.declared.tree.Place.{Place}
 use Rattle.c_typed.specs.declared.tree.Slot.{Slot}
@@ -34,7 +35,7 @@ use Rattle.run_listing.specs.Cursor.{StandsStraight}
 use Rattle.run_state.specs.declared.machine.Machine.{Machine}
 use Rattle.run_state.specs.declared.machine.Open.{Open}
 use Rattle.run_state.specs.declared.machine.Stage.{Stage}
-use Rattle.run_state.specs.Operands.{StandsObjects}
+use Rattle.run_state.specs.Operands.{AreAddresses, StandsObjects}
 use Rattle.run_state.specs.Stands.{StandLocals, StandsDone, StandsExpression, StandsFrame, StandsValues}
 use Rattle.run_events.specs.Nodes.{ActsAreOfNodes, IsActOf, head_of, TakesGiven}
 use Rattle.run_events.specs.Takes as takes
@@ -47,6 +48,11 @@ use Rattle.code_view.specs.Named.{ListIsThere, NamedIsOpen, NamesAreOpen, OpenIs
 use Rattle.run_laws.specs.Asked.{CodeHasRooms}
 use Rattle.run_laws.specs.Given.{MovesAreNear, OpenCanBeTaken, OpenMayTake, OpenMayTakeNext, OpenTakesGiven}
 use Rattle.run_laws.specs.Open.{aside, IsOpen}
+use Rattle.run_laws.specs.Small.{EndInTime}
+
+-- each row begins at an address
+pub addresses_of : (rows : List Row) → EndInTime rows → AreAddresses rows
+addresses_of rows ends x r e = let l = ends x r e in omega (arith, l)
 
 -- ---- what is said of a machine whatever its cursor is, and whatever it has touched
 locals_aside : (world : World) (m : Machine) (stage : Option Stage) (items : List Item) (f : Scene) (bs : List (ℕ × ℕ)) → StandLocals world m m.top f bs
@@ -196,7 +202,7 @@ module _ (world : World) (meaning : Option ℕ → Meaning) (m : Machine) (st : 
     objects : StandsObjects world n f
     objects = record {
       rows = o.stood.stands.memory.rows;
-      addresses = o.addresses;
+      addresses = addresses_of world.rows o.ends;
       places = o.stood.stands.tables.places;
       locals = locals_aside world m stage items f f.blocks (top_frame world meaning m st o.stood.stands).locals;
     }
@@ -230,7 +236,7 @@ module _ (world : World) (meaning : Option ℕ → Meaning) (m : Machine) (st : 
         (values_aside world m stage items laid.first laid.end f e values_are) root_is o.lays.numbered at (due_is d x is at)
         (ap (λ es. slice_get es is.0) (sym part) ∙ is.1) may plain (node_stands named d.place.node x at)
         (near m.program.now m.code.now world f e.given firsts nodes s.expression laid d.place.node (suc d.place.node) x o.code.lawful o.code.order o.at
-        o.lays.numbered at o.small)
+        o.lays.numbered at o.ends o.small)
 
     -- ---- it can be taken
     pub event_is : OpenIsKnown → EventsAreEvaluated → (d : Due) → IsListed (whole_part m s) d → IsEventOf world m.code.now f laid e d
@@ -294,7 +300,7 @@ module _ (laws : Laws) where
   takes_given world meaning m st e s laid firsts nodes stage items d x o is may plain at =
       given_of world meaning m st e s laid firsts nodes o stage items laws.takes laws.named laws.near d x is may plain at
 
-  act_is : (world : World) (meaning : Option ℕ → Meaning) (m : Machine) (st : State) (e : Begun) (s : Stage) (laid : Laid) (firsts : List ℕ)
+  pub act_is : (world : World) (meaning : Option ℕ → Meaning) (m : Machine) (st : State) (e : Begun) (s : Stage) (laid : Laid) (firsts : List ℕ)
       (nodes : List NodeInfo) → IsOpen world meaning m st e s laid firsts nodes → (stage : Option Stage) (items : List Item) (d : Due)
       → IsListed (whole_part m s) d → MayPick world st.top (Some e) (Ev d.place) → is_body d.place.kind ≡ false
       → IsActOf world (aside m stage items) st.top.scene e d

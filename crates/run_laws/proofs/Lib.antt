@@ -1,4 +1,7 @@
 mod Asked
+mod Numbers
+mod Scripts
+mod Acting
 mod Near
 mod Given
 mod Initial

@@ -8,6 +8,10 @@ use Rattle.std.proofs.lemmas.Bool.Decides.{nat_tests}
 use Rattle.std.proofs.lemmas.Int.{ints}
 use Rattle.std.proofs.lemmas.List.Elements.{All-weaker}
 use Rattle.ub_base.specs.declared.clause.Kind.TheVariants.{Val}
+use Rattle.ub_base.specs.declared.names.ObjName.{ObjName}
+use Rattle.ub_base.specs.declared.names.ObjName.TheVariants as object
+use Rattle.addr_map.specs.declared.map.Row.{Row}
+use Rattle.addr_map.specs.Rows.{row_of}
 use Rattle.c_types.specs.declared.kind.IntKind.{IntKind}
 use Rattle.c_types.specs.declared.kind.IntKind.TheVariants.{Bool as Boolean, Char, SChar, UChar, Short, UShort, Int as Int_kind, UInt, Long, ULong, LLong, ULLong}
 use Rattle.c_types.specs.declared.tags.Extent.{Extent}
@@ -28,11 +32,12 @@ use Rattle.c_typed.specs.declared.tree.Node.TheOpen as shape
 use Rattle.c_typed.specs.declared.tree.Node.TheOpen.{Node-F}
 use Rattle.c_typed.specs.declared.tree.Place.{Place}
 use Rattle.c_typed.specs.declared.tree.Typed.{Typed, out-Typed}
-use Rattle.c_typed.specs.Lawful.{There, IsConstant, StepsOver, SiteIsLawful, TypesAre, UpdateTypes}
+use Rattle.c_typed.specs.Lawful.{IsLawful, There, IsConstant, StepsOver, SiteIsLawful, TypesAre, UpdateTypes}
 use Rattle.c_typed.specs.Order.{place}
 use Rattle.c_typed.specs.Sites.{Blocks, Site, all_sites, seen, sites, type_seen}
 use Rattle.c_typed.specs.Tree as order
 use Rattle.c_typed.specs.Tree.{is_quiet, size, sizes, trees_of}
+use Rattle.mem_spec.specs.Acts.{base_in}
 use Rattle.c_model.specs.Nodes.{amount}
 use Rattle.c_model.specs.Program as model
 use Rattle.c_model.specs.Program.{Expr, expr, Exprs, none, more, Head, tree_of}
@@ -43,95 +48,18 @@ use Rattle.program_view.specs.Trees.{constant_head, expr_of, exprs_of, is_pointe
 use Rattle.program_view.proofs.Seen.{node_in, operands_in, own_type, head_in, expr_at, by_size}
 use Rattle.run_acts.specs.Updates.{IsNear, IsNearChange}
 use Rattle.run_code.specs.declared.nodes.NodeInfo.{NodeInfo}
+use Rattle.run_code.specs.declared.steps.Expression.{Expression as Laid}
+use Rattle.run_code.specs.declared.whole.Code.{Code}
+use Rattle.run_code.specs.Numbered.{AreNodes}
 use Rattle.run_events.specs.Nodes.{head_of, IsNearBy}
+use Rattle.code_view.specs.Known.{AreInOrder}
 use Rattle.code_view.proofs.Each.{each_laid}
 use Rattle.code_view.proofs.Known.{IsLawfulTree, own_lawful}
 use Rattle.code_view.proofs.Parts.{in_nodes, parts, site_in}
 use Rattle.code_view.proofs.Viewed.{all_both}
 use Rattle.run_laws.specs.Given.{MovesAreNear}
-use Rattle.run_laws.specs.Open.{AreSmall, IsSmall}
-
--- ---- values of integer types
-kind_modulus : (kind : IntKind) → modulus kind ≤ 2 ^ 64
-kind_modulus Boolean = omega arith
-kind_modulus Char = omega arith
-kind_modulus SChar = omega arith
-kind_modulus UChar = omega arith
-kind_modulus Short = omega arith
-kind_modulus UShort = omega arith
-kind_modulus Int_kind = omega arith
-kind_modulus UInt = omega arith
-kind_modulus Long = omega arith
-kind_modulus ULong = omega arith
-kind_modulus LLong = omega arith
-kind_modulus ULLong = omega arith
-
-modulus_pos : (kind : IntKind) → 0 < modulus kind
-modulus_pos Boolean = omega arith
-modulus_pos Char = omega arith
-modulus_pos SChar = omega arith
-modulus_pos UChar = omega arith
-modulus_pos Short = omega arith
-modulus_pos UShort = omega arith
-modulus_pos Int_kind = omega arith
-modulus_pos UInt = omega arith
-modulus_pos Long = omega arith
-modulus_pos ULong = omega arith
-modulus_pos LLong = omega arith
-modulus_pos ULLong = omega arith
-
-rest_below : (a m : ℕ) → 0 < m → a % m < m
-rest_below a m h = grind (arith, h)
-
-euclid_below : (z : ℤ) (m : ℕ) → 0 < m → unsigned_abs (int_rem_euclid z (pos m)) < m
-euclid_below (pos a) m h = rest_below a m h
-euclid_below (negsuc a) m h = omega (arith, h)
-
-bits_below : (kind : IntKind) (z : ℤ) → bits kind z < modulus kind
-bits_below kind z = euclid_below z (modulus kind) (modulus_pos kind)
-
-less_abs : (n m : ℕ) → n < m → m ≤ 2 ^ 64 → 0 < n → unsigned_abs (pos n -ℤ pos m) < 2 ^ 64
-less_abs n m h few some = grind (arith, ints, h, few, some)
-
--- a number that isn't above the greatest value of a kind is not 0
-least_greatest : (kind : IntKind) → int_le (pos 0) (greatest kind) ≡ true
-least_greatest Boolean = refl
-least_greatest Char = refl
-least_greatest SChar = refl
-least_greatest UChar = refl
-least_greatest Short = refl
-least_greatest UShort = refl
-least_greatest Int_kind = refl
-least_greatest UInt = refl
-least_greatest Long = refl
-least_greatest ULong = refl
-least_greatest LLong = refl
-least_greatest ULLong = refl
-
-above_some : (kind : IntKind) (n : ℕ) → int_le (pos n) (greatest kind) ≡ false → 0 < n
-above_some kind zero h = absurd (let l = least_greatest kind in cc)
-above_some kind (suc n) h = omega arith
-
-of_bits_small : (kind : IntKind) (n : ℕ) → n < modulus kind → unsigned_abs (of_bits kind n) < 2 ^ 64
-of_bits_small kind n h = go (int_le (pos n) (greatest kind)) refl
-  where
-    go : (b : Bool) → int_le (pos n) (greatest kind) ≡ b → unsigned_abs (if b then pos n else pos n -ℤ pos (modulus kind)) < 2 ^ 64
-    go true e = let few = kind_modulus kind in omega (arith, h, few)
-    go false e = less_abs n (modulus kind) h (kind_modulus kind) (above_some kind n e)
-
-truth_small : (z : ℤ) → unsigned_abs (arithmetic.truth z) < 2 ^ 64
-truth_small z = go (unsigned_abs z == 0)
-  where
-    go : (b : Bool) → unsigned_abs (if b then pos 0 else pos 1) < 2 ^ 64
-    go true = omega arith
-    go false = omega arith
-
-pub conv_small : (kind : IntKind) (z : ℤ) → unsigned_abs (conv kind z) < 2 ^ 64
-conv_small kind z = go (is_bool kind)
-  where
-    go : (b : Bool) → unsigned_abs (if b then arithmetic.truth z else arithmetic.wrapped kind z) < 2 ^ 64
-    go true = truth_small z
-    go false = of_bits_small kind (bits kind z) (bits_below kind z)
+use Rattle.run_laws.specs.Small.{AreSmall, EndInTime, IsSmall}
+use Rattle.run_laws.proofs.Numbers.{conv_small}
 
 pub integer_small : (v : Value) → IsSmall v → unsigned_abs (integer_of v) < 2 ^ 64
 integer_small (Int z) h = h
@@ -233,26 +161,33 @@ constant_small (function r ps v) z h = absurd h
 
 null_small : (ty : CType) → IsSmall (null_of ty)
 null_small (function r ps v) = tt
-null_small void = tt
-null_small (int kind) = tt
-null_small (enumeration tag) = tt
-null_small (pointer c t) = tt
-null_small (array c t count) = tt
-null_small (struct tag) = tt
-null_small (union tag) = tt
+null_small void = omega arith
+null_small (int kind) = omega arith
+null_small (enumeration tag) = omega arith
+null_small (pointer c t) = omega arith
+null_small (array c t count) = omega arith
+null_small (struct tag) = omega arith
+null_small (union tag) = omega arith
 
 moved_small : (world : World) (offset : ℕ) (v : Value) → IsSmall v → IsSmall (moved_place world offset v)
-moved_small world offset (Ptr a p) h = tt
+moved_small world offset (Ptr a p) h = omega arith
 moved_small world offset (Int z) h = h
 moved_small world offset (Fun a) h = h
 moved_small world offset (Whole bs source) h = h
 moved_small world offset Missing h = h
 moved_small world offset Nothing h = h
 
+pub base_small : (rows : List Row) → EndInTime rows → (x : ObjName) → base_in (row_of rows x) < 2 ^ 64
+base_small rows ends x = go (row_of rows x) refl
+  where
+    go : (o : Option Row) → row_of rows x ≡ o → base_in o < 2 ^ 64
+    go None e = omega arith
+    go (Some r) e = let l = ends x r e in omega (arith, l)
+
 abbrev types_in : List Typed → List CType
 types_in ts = map type_seen (map seen ts)
 
-module _ (p : Program) (around : Blocks) (world : World) (f : Scene) where
+module _ (p : Program) (around : Blocks) (world : World) (f : Scene) (ends : EndInTime world.rows) where
   abbrev Fine : Site → Type 0
   Fine = SiteIsLawful p around
 
@@ -275,6 +210,8 @@ module _ (p : Program) (around : Blocks) (world : World) (f : Scene) where
       → IsSmall (quiet_value world f (expr (head_in d ty) ty line (exprs_of ts)))
   value_small (shape.Const z) ty line [] fine first = number_small z ty line (exprs_of []) (constant_small ty z fine.types)
   value_small (shape.Const z) ty line (t ∷ ts) fine first = absurd (fine.types)
+  value_small (shape.Obj s) ty line ts fine first = base_small world.rows ends (name_of world f s)
+  value_small (shape.Str k) ty line ts fine first = base_small world.rows ends (object.Lit k)
   value_small (shape.Member offset) ty line ts fine first = moved_small world offset (first_quiet world f (exprs_of ts)) first
   value_small (shape.Conv (conversion.Integer kind)) ty line ts fine first = conv_small kind (integer_of (first_quiet world f (exprs_of ts)))
   value_small _ ty line ts fine first = tt
@@ -286,14 +223,14 @@ module _ (p : Program) (around : Blocks) (world : World) (f : Scene) where
       (value_small (node_in t) (own_type t) (out-Typed t).line (operands_in t) s.0 (first_small (operands_in t) ih s.1)))
 
   -- ---- the values of operands
-  given_small : (given : Place → Option Value) → AreSmall given → (u : Place) → IsSmall (or_nothing (given u))
+  pub given_small : (given : Place → Option Value) → AreSmall given → (u : Place) → IsSmall (or_nothing (given u))
   given_small given small u = go (given u) refl
     where
       go : (o : Option Value) → given u ≡ o → IsSmall (or_nothing o)
       go None e = tt
       go (Some v) e = small u v e
 
-  values_small : (given : Place → Option Value) → AreSmall given → (ts : List Typed) → All Fine (all_sites (map seen ts)) → (k i : ℕ)
+  pub values_small : (given : Place → Option Value) → AreSmall given → (ts : List Typed) → All Fine (all_sites (map seen ts)) → (k i : ℕ)
       → IsSmall (value_at (values_of world f given k (exprs_of ts)) i)
   values_small given small [] all k i = tt
   values_small given small (t ∷ ts) all k zero = go (is_quiet (tree_of (expr_of t)))
@@ -377,12 +314,23 @@ module _ (p : Program) (around : Blocks) (world : World) (f : Scene) where
       go false = tt
   near_node _ ty ts vs fine small = tt
 
+-- the values of the operands of a node of a lawful program are small
+pub operands_small : (p : Program) (code : Code) (world : World) (f : Scene) (given : Place → Option Value) (firsts : List ℕ) (nodes : List NodeInfo)
+    (n : ℕ) (laid : Laid) (i k : ℕ) (x : NodeInfo) → IsLawful p → AreInOrder p code → slice_get code.expressions.items n ≡ Some laid
+    → AreNodes firsts laid.root.now nodes → slice_get nodes i ≡ Some x → EndInTime world.rows → AreSmall given → (j : ℕ)
+    → IsSmall (value_at (values_of world f given k (exprs_of (operands_in x.tree.now))) j)
+operands_small p code world f given firsts nodes n laid i k x lawful order at are node_at ends small j =
+    let t = x.tree.now in
+    let h = each_laid p (IsLawfulTree p) (own_lawful p) (λ g e l. (e.blocks, l.nodes)) code n laid lawful order at in
+    let all = in_nodes (SiteIsLawful p h.0) firsts laid.root.now nodes i x are h.1 node_at in
+    values_small p h.0 world f ends given small (operands_in t) (parts (SiteIsLawful p h.0) t all).1 k j
+
 pub moves_are_near : MovesAreNear
-moves_are_near p code world f given firsts nodes n laid i k x lawful order at are node_at small =
+moves_are_near p code world f given firsts nodes n laid i k x lawful order at are node_at ends small =
     let t = x.tree.now in
     let h = each_laid p (IsLawfulTree p) (own_lawful p) (λ g e l. (e.blocks, l.nodes)) code n laid lawful order at in
     let all = in_nodes (SiteIsLawful p h.0) firsts laid.root.now nodes i x are h.1 node_at in
     let s = parts (SiteIsLawful p h.0) t all in
     let vs = values_of world f given k (exprs_of (operands_in t)) in
     subst (λ (z : Expr). IsNearBy (head_of z) vs) (sym (expr_at t))
-    (near_node p h.0 world f (node_in t) (own_type t) (operands_in t) vs s.0 (values_small p h.0 world f given small (operands_in t) s.1 k))
+    (near_node p h.0 world f ends (node_in t) (own_type t) (operands_in t) vs s.0 (values_small p h.0 world f ends given small (operands_in t) s.1 k))

@@ -1,5 +1,5 @@
 -- Behind an event that isn't a body the machine stands as picks ask it again.
-use Rattle.std.proofs.Common.{arith, ◌≡◌, ◌+◌, ◌<◌, ◌≤◌, ◌^◌, ℕ, suc, Bool, true, false, if◌then◌else◌, List, length, Option, Some, None, slice_get}
+use Rattle.std.proofs.Common.{arith, ◌≡◌, ◌+◌, ◌<◌, ◌≤◌, ◌^◌, ℕ, zero, suc, Bool, true, false, if◌then◌else◌, List, length, Option, Some, None, slice_get}
 use Rattle.std.proofs.Common.{refl, sym, ap, subst, ◌∙◌}
 use Rattle.std.specs.List.{All}
 use Rattle.std.proofs.lemmas.List.Elements.{All-weaker}
@@ -11,15 +11,22 @@ use Rattle.c_typed.specs.declared.tree.Node.TheOpen as shape
 use Rattle.c_typed.specs.declared.tree.Place.{Place}
 use Rattle.c_typed.specs.declared.tree.Slot.{Slot}
 use Rattle.c_typed.specs.declared.tree.Slot.TheVariants as slot
-use Rattle.c_typed.specs.declared.tree.Typed.{Typed}
-use Rattle.c_typed.specs.Order.{is_val, same_place}
+use Rattle.c_typed.specs.declared.tree.Typed.{Typed, out-Typed}
+use Rattle.c_typed.specs.Order.{is_val, place, same_place}
 use Rattle.c_typed.specs.Sites.{Head, sites}
 use Rattle.c_typed.specs.Tree.{size}
-use Rattle.c_model.specs.Program.{tree_of}
+use Rattle.mem_spec.specs.Script.{Script, Done as Acts_done, run}
+use Rattle.c_model.specs.ChoiceLaws.{StaysClosed}
+use Rattle.c_model.specs.Nodes.{act_of}
+use Rattle.c_model.specs.Program as model
+use Rattle.c_model.specs.Program.{Expr, expr, Exprs, Head as Model_head, tree_of}
 use Rattle.c_model.specs.Runs.{State}
-use Rattle.c_model.specs.Steps.{Begun, with_given}
-use Rattle.c_model.specs.Values.{Value}
+use Rattle.c_model.specs.Steps.{Begun, Scene, at_node, call_act, event_act, event_of, first_type, name_of, operand_values, own_kind, target, values_of, with_given}
+use Rattle.c_model.specs.Values.{Value, or_nothing, value_at}
 use Rattle.c_model.specs.World.{World}
+use Rattle.program_view.specs.Laws.{TreesAreKept}
+use Rattle.program_view.specs.Trees.{exprs_of}
+use Rattle.program_view.proofs.Seen.{expr_at, head_in, node_in, operands_in, own_type}
 use Rattle.run_control.specs.View.{Meaning}
 use Rattle.run_code.specs.declared.nodes.NodeInfo.{NodeInfo}
 use Rattle.run_code.specs.declared.steps.Choice.{Choice}
@@ -37,16 +44,23 @@ use Rattle.run_state.specs.declared.machine.Open.{Open}
 use Rattle.run_state.specs.declared.machine.Stage.{Stage}
 use Rattle.run_state.specs.Operands.{Gives, RoomGives}
 use Rattle.run_state.specs.Stands.{Holds}
+use Rattle.run_code.specs.Keeping.{KeepsAtEvent}
+use Rattle.run_listing.specs.Cursor.{StandsBehind}
+use Rattle.run_events.specs.Nodes.{IsActOf}
 use Rattle.run_events.specs.Performs.{gives_value}
+use Rattle.run_events.proofs.Nodes.{node_is}
+use Rattle.run_machine.proofs.Behind.{ran}
 use Rattle.run_machine.specs.Ending.{NotesWay}
 use Rattle.run_machine.specs.Picks.{whole_part}
 use Rattle.run_machine.specs.Taking.{Decides, EventStands, HasRooms, IsPast, TakesEvent, after_event, store_after}
 use Rattle.run_machine.proofs.Laying.{RoomsLaid, rooms_laid}
 use Rattle.code_view.specs.Events.{EventsAreEvaluated, IsListedAt}
 use Rattle.code_view.specs.Named.{NamedIsOpen, NamesAreOpen, SlotIsOpen}
-use Rattle.run_laws.specs.Open.{AreSmall, IsLawfulCode, IsOpen, IsSmall}
+use Rattle.run_laws.specs.Open.{aside, IsLawfulCode, IsOpen}
+use Rattle.run_laws.specs.Small.{ActsGiveSmall, AreSmall, EndInTime, FillsSmall, HasSmallBytes, IsSmall, NodeFillsSmall}
 use Rattle.run_laws.specs.Staying.{OpenStays}
-use Rattle.run_laws.proofs.Given.{end_is, first_is, in_listing, part_same, root_is, rooms_is}
+use Rattle.run_laws.proofs.Given.{Laws, act_is, end_is, first_is, in_listing, part_same, root_is, rooms_is}
+use Rattle.run_laws.proofs.Near.{base_small, operands_small}
 
 -- ---- what stays of the machine
 -- its code and its program, and of its top frame all but where the cursor stands
@@ -167,6 +181,20 @@ small_with e u v small own w x is = go (same_place u w) is
     go true h = subst IsSmall (same_Some v x h) own
     go false h = small w x h
 
+or_small : (z : Option Value) → ((v : Value) → z ≡ Some v → IsSmall v) → IsSmall (or_nothing z)
+or_small None h = tt
+or_small (Some v) h = h v refl
+
+operand_small : (world : World) (f : Scene) → EndInTime world.rows → (given : Place → Option Value) (k : ℕ) (h : Model_head) (es : Exprs) (j : ℕ)
+    → IsSmall (value_at (values_of world f given k es) j) → IsSmall (value_at (operand_values world f given k h es) j)
+operand_small world f ends given k (model.Listed named fillings) es zero small = base_small world.rows ends (name_of world f named)
+operand_small world f ends given k (model.Listed named fillings) es (suc j) small = tt
+operand_small world f ends given k h es j small = small
+
+past_is : (straight : Bool) (old past : Machine) (s : Stage) (d : Due) → IsPast straight old s d past → (z : Option Stage) × (past ≡ aside old z old.items)
+past_is true old past s d p = (Some (record s { cursor = suc (s.cursor + p.1.0) }), p.5)
+past_is false old past s d p = (old.top.stage, p)
+
 module _ (gives : RoomGives) (evaluated : EventsAreEvaluated) (world : World) (meaning : Option ℕ → Meaning) (old new : Machine) (st : State) (e : Begun)
     (s : Stage) (laid : Laid) (firsts : List ℕ) (nodes : List NodeInfo) (d : Due) (v : Value) (o : IsOpen world meaning old st e s laid firsts nodes)
     (t : TakesEvent world meaning old st e s laid d v new) where
@@ -175,6 +203,14 @@ module _ (gives : RoomGives) (evaluated : EventsAreEvaluated) (world : World) (m
 
   is_listed : IsListedAt listing laid d
   is_listed = record { at = t.event.at; first = t.event.first; end = t.event.end; entry = t.event.entry }
+
+  -- the event is listed
+  listed_there : IsListed (whole_part old s) d
+  listed_there =
+      let part =
+      part_same listing s.first laid.first s.end laid.end (first_is world meaning old st e s laid firsts nodes o)
+      (end_is world meaning old st e s laid firsts nodes o) in
+      subst (λ es. IsListed es d) (sym part) (in_listing listing laid d is_listed)
 
   entry : (x : NodeInfo) × (slice_get nodes d.place.node ≡ Some x) × ChoosesAt firsts old.code.now.tables nodes d.place.node x d.place.kind d.choice
   entry = let it = o.lays.each is_listed.at _ is_listed.first is_listed.end is_listed.entry in (it.0, it.1, it.3)
@@ -247,7 +283,66 @@ module _ (gives : RoomGives) (evaluated : EventsAreEvaluated) (world : World) (m
   abbrev after : Stage
   after = record s { cursor = moves.cursor }
 
-  pub stays : EventStands → IsSmall v
+  -- ---- what it gives is small
+  x_in : (x : NodeInfo) × (slice_get nodes d.place.node ≡ Some x)
+  x_in = (entry.0, entry.1)
+
+  abbrev its_tree : Typed
+  its_tree = x_in.0.tree.now
+
+  abbrev its_head : Model_head
+  its_head = head_in (node_in its_tree) (own_type its_tree)
+
+  abbrev its_operands : Exprs
+  its_operands = exprs_of (operands_in its_tree)
+
+  abbrev its_values : List Value
+  its_values = operand_values world st.top.scene e.given (suc d.place.node) its_head its_operands
+
+  node_there : at_node 0 e.root d.place.node ≡ Some (expr its_head (own_type its_tree) (out-Typed its_tree).line its_operands)
+  node_there =
+      ap (λ (z : Expr). at_node 0 z d.place.node) (root_is world meaning old st e s laid firsts nodes o)
+      ∙ (node_is firsts laid.root.now nodes d.place.node x_in.0 o.lays.numbered x_in.1 ∙ ap Some (expr_at its_tree))
+
+  fills : FillsSmall its_head
+  fills = subst NodeFillsSmall node_there (o.lists d.place.node)
+
+  values_in : (j : ℕ) → IsSmall (value_at its_values j)
+  values_in j =
+      operand_small world st.top.scene o.ends e.given (suc d.place.node) its_head its_operands j
+      (operands_small old.program.now old.code.now world st.top.scene e.given firsts nodes s.expression laid d.place.node (suc d.place.node) x_in.0
+      o.code.lawful o.code.order o.at o.lays.numbered x_in.1 o.ends o.small j)
+
+  abbrev own : Value
+  own = or_nothing (e.given (place d.place.node (own_kind d.place.kind)))
+
+  own_small : IsSmall own
+  own_small = or_small (e.given (place d.place.node (own_kind d.place.kind))) (o.small (place d.place.node (own_kind d.place.kind)))
+
+  abbrev does : Option Expr → Script Value
+  does z = event_act world st.top.scene e d.place z
+
+  -- what the event does by the definitions
+  abbrev its_act : Script Value
+  its_act = act_of world.rows (event_of world st.top.scene d.place) its_head (target (first_type its_operands)) d.place.kind its_values own
+
+  does_act : does (at_node 0 e.root d.place.node) ≡ its_act
+  does_act =
+      ap does node_there
+      ∙ ap (λ (b : Bool). if b then call_act world (event_of world st.top.scene d.place) its_head its_operands
+      (values_of world st.top.scene e.given (suc d.place.node) its_operands) else its_act) t.plain
+
+  gives_small : ActsGiveSmall → run world.rows (does (at_node 0 e.root d.place.node)) st.store ≡ Acts_done v new.items (store_after new)
+      → IsSmall v × HasSmallBytes (store_after new)
+  gives_small acts ran =
+      acts world.rows (event_of world st.top.scene d.place) its_head (target (first_type its_operands)) d.place.kind its_values own st.store (store_after new)
+      v new.items o.ends t.plain fills values_in own_small o.bytes (ap (λ (p : Script Value). run world.rows p st.store) (sym does_act) ∙ ran)
+
+  -- in the machine whose cursor has passed it
+  past_aside : (z : Option Stage) × (t.taken.past ≡ aside old z old.items)
+  past_aside = past_is s.straight old t.taken.past s d t.taken.passes
+
+  pub stays : EventStands → IsSmall v × HasSmallBytes (store_after new)
       → IsOpen world meaning new (after_event world st e d.place v new.items (store_after new)) (with_given e d.place v) after laid firsts nodes
   stays stands small = record {
     stood = stands world meaning old new st e s laid d v t;
@@ -258,12 +353,23 @@ module _ (gives : RoomGives) (evaluated : EventsAreEvaluated) (world : World) (m
     lays = subst (λ (k : Code). LaidOutBy firsts nodes k.tables k.listing.items laid) (sym moves.code) o.lays;
     roomed = o.roomed;
     names = names_moved old new moves.code (ap (λ (z : Open). z.blocks) moves.top) firsts st.top.scene.blocks laid.root.now o.names;
-    addresses = o.addresses;
-    small = small_with e d.place v o.small small;
+    ends = o.ends;
+    small = small_with e d.place v o.small small.0;
+    bytes = small.1;
+    lists = o.lists;
   }
 
-pub open_stays : RoomGives → EventsAreEvaluated → EventStands → OpenStays
-open_stays gives evaluated stands world meaning old new st e s laid firsts nodes d v o t small = (
-  after gives evaluated world meaning old new st e s laid firsts nodes d v o t,
-  stays gives evaluated world meaning old new st e s laid firsts nodes d v o t stands small,
-)
+module _ (trees : TreesAreKept) (keeps_at : KeepsAtEvent) (gives : RoomGives) (behind : StandsBehind) (closes : StaysClosed) (laws : Laws)
+    (acts : ActsGiveSmall) (stands : EventStands) where
+  pub open_stays : OpenStays
+  open_stays world meaning old new st e s laid firsts nodes d v o t =
+      let evaluated = laws.evaluated in
+      let past = past_aside gives evaluated world meaning old new st e s laid firsts nodes d v o t in
+      let listed = listed_there gives evaluated world meaning old new st e s laid firsts nodes d v o t in
+      let is = subst (λ (k : Machine). IsActOf world k st.top.scene e d) (sym past.1)
+      (act_is laws world meaning old st e s laid firsts nodes o past.0 old.items d listed t.may t.plain) in
+      let ran = ran trees keeps_at gives behind closes world meaning old new st e s laid d v t is in
+      let small = gives_small gives evaluated world meaning old new st e s laid firsts nodes d v o t acts ran in (
+        after gives evaluated world meaning old new st e s laid firsts nodes d v o t,
+        stays gives evaluated world meaning old new st e s laid firsts nodes d v o t stands small,
+      )

@@ -14,13 +14,13 @@ use Rattle.run_code.specs.LaidOut.{LaidOutBy}
 use Rattle.run_state.specs.declared.machine.Machine.{Machine}
 use Rattle.run_state.specs.declared.machine.Stage.{Stage}
 use Rattle.run_state.specs.declared.watch.Begun.{Begun as Shown}
-use Rattle.run_state.specs.Operands.{AreAddresses}
 use Rattle.run_state.specs.Stands.{Stands}
 use Rattle.run_machine.specs.Ending.{KeepToRooms}
 use Rattle.run_machine.specs.Picks.{top_of}
 use Rattle.code_view.specs.Named.{NamesAreOpen}
 use Rattle.code_view.specs.Rooms.{IsRoomedBy}
 use Rattle.run_laws.specs.Open.{IsLawfulCode, IsOpen}
+use Rattle.run_laws.specs.Small.{EndInTime, HasSmallBytes, ListsAreSmall}
 
 -- What the beginning leaves in the machine, beside that it stands for the definitions' next state: this full expression is open in the top frame, with just
 -- the choices that are made at once, and there are rooms for its values.
@@ -48,4 +48,5 @@ BeginsOpen =
     (world : World) (meaning : Option ℕ → Meaning) (m : Machine) (st : State) (e : Begun) (s : Stage) (laid : Laid) (firsts : List ℕ)
     (nodes : List NodeInfo) → StandsBegun world meaning m st e s laid → IsLawfulCode m.program.now m.code.now
     → LaidOutBy firsts nodes m.code.now.tables m.code.now.listing.items laid → IsRoomedBy nodes laid
-    → NamesAreOpen m firsts st.top.scene.blocks laid.root.now → AreAddresses world.rows → IsOpen world meaning m st e s laid firsts nodes
+    → NamesAreOpen m firsts st.top.scene.blocks laid.root.now → EndInTime world.rows → HasSmallBytes st.store → ListsAreSmall e.root
+    → IsOpen world meaning m st e s laid firsts nodes

@@ -27,7 +27,8 @@ use Rattle.run_machine.specs.Answering.{IsWithin}
 use Rattle.run_machine.specs.Picks.{whole_part, ComesNext}
 use Rattle.run_machine.specs.Taking.{CanBeTaken, IsAt, MayTake, MayTakeNext}
 use Rattle.code_view.specs.Known.{AreInOrder}
-use Rattle.run_laws.specs.Open.{aside, AreSmall, IsOpen}
+use Rattle.run_laws.specs.Open.{aside, IsOpen}
+use Rattle.run_laws.specs.Small.{AreSmall, EndInTime}
 
 -- 1. Each node of a full expression of a lawful program moves a pointer by fewer than 2^127 bytes, where the integers that were given are small: an element
 -- has at most 2^40 bytes (6.5.6p8).
@@ -35,7 +36,7 @@ abbrev pub MovesAreNear : Type 0
 MovesAreNear =
     (p : Program) (code : Code) (world : World) (f : Scene) (given : Place → Option Value) (firsts : List ℕ) (nodes : List NodeInfo) (n : ℕ) (laid : Laid)
     (i k : ℕ) (x : NodeInfo) → IsLawful p → AreInOrder p code → slice_get code.expressions.items n ≡ Some laid → AreNodes firsts laid.root.now nodes
-    → slice_get nodes i ≡ Some x → AreSmall given
+    → slice_get nodes i ≡ Some x → EndInTime world.rows → AreSmall given
     → IsNearBy (head_of (expr_of x.tree.now)) (values_of world f given k (exprs_of (out-Typed x.tree.now).children))
 
 -- 2. What the event takes is given, wherever the cursor stands and whatever was touched.

@@ -1,4 +1,5 @@
 pub mod Asked
+pub mod Small
 pub mod Open
 pub mod Given
 pub mod Initial

@@ -1,11 +1,9 @@
 -- A full expression that is open in the top frame of a machine, over the code of a lawful program (own).
-use Rattle.std.specs.Prelude.{◌≡◌, ◌<◌, ◌^◌, ℕ, List, Option, Some, slice_get, unsigned_abs}
+use Rattle.std.specs.Prelude.{◌≡◌, ℕ, List, Option, Some, slice_get}
 use Rattle.ub_base.specs.declared.names.Item.{Item}
 use Rattle.c_typed.specs.declared.program.Program.{Program}
-use Rattle.c_typed.specs.declared.tree.Place.{Place}
 use Rattle.c_typed.specs.Lawful.{IsLawful}
 use Rattle.c_model.specs.Steps.{Begun, Scene}
-use Rattle.c_model.specs.Values.{Value, Int}
 use Rattle.c_model.specs.World.{World}
 use Rattle.run_control.specs.View.{Meaning}
 use Rattle.c_model.specs.Runs.{State}
@@ -15,11 +13,11 @@ use Rattle.run_code.specs.declared.whole.Code.{Code}
 use Rattle.run_code.specs.LaidOut.{LaidOutBy}
 use Rattle.run_state.specs.declared.machine.Machine.{Machine}
 use Rattle.run_state.specs.declared.machine.Stage.{Stage}
-use Rattle.run_state.specs.Operands.{AreAddresses}
 use Rattle.run_machine.specs.Taking.{AreLawful, StandsOpen}
 use Rattle.code_view.specs.Known.{AreInOrder}
 use Rattle.code_view.specs.Named.{NamesAreOpen}
 use Rattle.code_view.specs.Rooms.{IsRoomedBy}
+use Rattle.run_laws.specs.Small.{AreSmall, EndInTime, HasSmallBytes, ListsAreSmall}
 
 -- the code of a lawful program, as `code_of` of run_code gives it: its full expressions are the program's in turn, and its constants are lawful
 pub record IsLawfulCode (p : Program) (code : Code) : Type 0 where
@@ -27,17 +25,8 @@ pub record IsLawfulCode (p : Program) (code : Code) : Type 0 where
   pub order : AreInOrder p code
   pub constants : AreLawful p code
 
--- an integer is below 2^64 in size, as the values of each integer type are (6.2.5)
-abbrev pub IsSmall : Value → Type 0
-IsSmall (Int z) = unsigned_abs z < 2 ^ 64
-IsSmall v = Unit {0}
-
--- so is each that an event has given
-abbrev pub AreSmall : (Place → Option Value) → Type 0
-AreSmall given = (u : Place) (v : Value) → given u ≡ Some v → IsSmall v
-
 -- A machine stands for the state, with this full expression open, whose stage this is. It is laid out by these nodes in the code of a lawful program, with its
--- rooms, and the blocks are open that are round what it names. Rows begin at addresses, and the integers that were given are small.
+-- rooms, and the blocks are open that are round what it names. What was given, what the store holds, and what the expression's lists have is small.
 pub record IsOpen (world : World) (meaning : Option ℕ → Meaning) (m : Machine) (st : State) (e : Begun) (s : Stage) (laid : Laid) (firsts : List ℕ)
     (nodes : List NodeInfo) : Type 0 where
   pub stood : StandsOpen world meaning m st e
@@ -47,8 +36,10 @@ pub record IsOpen (world : World) (meaning : Option ℕ → Meaning) (m : Machin
   pub lays : LaidOutBy firsts nodes m.code.now.tables m.code.now.listing.items laid
   pub roomed : IsRoomedBy nodes laid
   pub names : NamesAreOpen m firsts st.top.scene.blocks laid.root.now
-  pub addresses : AreAddresses world.rows
+  pub ends : EndInTime world.rows
   pub small : AreSmall e.given
+  pub bytes : HasSmallBytes st.store
+  pub lists : ListsAreSmall e.root
 
 -- the machine with another stage of its top frame, and other items that it has touched
 abbrev pub aside : Machine → Option Stage → List Item → Machine

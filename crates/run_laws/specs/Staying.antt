@@ -11,13 +11,11 @@ use Rattle.run_code.specs.declared.steps.Expression.{Expression as Laid}
 use Rattle.run_state.specs.declared.machine.Machine.{Machine}
 use Rattle.run_state.specs.declared.machine.Stage.{Stage}
 use Rattle.run_machine.specs.Taking.{TakesEvent, after_event, store_after}
-use Rattle.run_laws.specs.Open.{IsOpen, IsSmall}
+use Rattle.run_laws.specs.Open.{IsOpen}
 
--- where the value that the event gives is small
 abbrev pub OpenStays : Type 0
 OpenStays =
     (world : World) (meaning : Option ℕ → Meaning) (old new : Machine) (st : State) (e : Begun) (s : Stage) (laid : Laid) (firsts : List ℕ)
     (nodes : List NodeInfo) (d : Due) (v : Value) → IsOpen world meaning old st e s laid firsts nodes → TakesEvent world meaning old st e s laid d v new
-    → IsSmall v
     → (after : Stage)
     × IsOpen world meaning new (after_event world st e d.place v new.items (store_after new)) (with_given e d.place v) after laid firsts nodes

@@ -7,11 +7,15 @@ ghost use Rattle.run_laws.specs.Asked.{RoomsAreAsked, CodeHasRooms, EventsAreAsk
 ghost use Rattle.run_laws.specs.Given.{MovesAreNear, OpenTakesGiven, OpenCanBeTaken, OpenMayTake, OpenMayTakeNext};
 ghost use Rattle.run_laws.specs.Initial.{OpenIsInitializer, OpenMayStart, OpenMayStartNext};
 ghost use Rattle.run_laws.specs.Beginning.{BeginsOpen};
+ghost use Rattle.run_laws.specs.Small.{ActsGiveSmall};
 ghost use Rattle.run_laws.specs.Staying.{OpenStays};
 
+use c_model::law_update_halves;
 use code_view::{law_constants, law_events, law_named, law_rooms};
+use program_view::law_view;
 use run_code::law_choices;
 use run_events::law_acts;
+use run_listing::law_cursor;
 use run_machine::{law_events as law_taken_events, law_picks};
 use run_state::law_operands;
 
@@ -27,7 +31,12 @@ pub fn law_asked()
     law_constants();
 }
 
-/// A node of a lawful program moves a pointer by fewer than 2^127 bytes, where the integers that were given are below 2^64 in size (6.5.6p8).
+/// From integers and addresses below 2^64 in size, in a store whose bytes are below 256, an event that isn't a body gives such a value, and leaves such bytes.
+pub fn law_small()
+    ensures { ActsGiveSmall }
+{}
+
+/// A node of a lawful program moves a pointer by fewer than 2^127 bytes, where the values that were given are small (6.5.6p8).
 pub fn law_near()
     ensures { MovesAreNear }
 {}
@@ -64,9 +73,17 @@ pub fn law_open()
     ensures begins { BeginsOpen }
     ensures stays { OpenStays }
 {
+    law_view();
+    law_update_halves();
     law_choices();
-    law_named();
+    law_cursor();
     law_operands();
+    law_acts();
+    law_named();
     law_events();
+    law_near();
+    law_asked();
+    law_small();
+    law_picks();
     law_taken_events();
 }
