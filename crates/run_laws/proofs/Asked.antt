@@ -26,7 +26,7 @@ same_kept (act.Change c true ty place o room) = refl
 same_kept (act.Change c false ty place o room) = refl
 same_kept _ = refl
 
-update_room : (entries : List Listed) (e : Begun) (room : ℕ) → IsUpdateRoom entries e room → IsUpdateRoomOf entries e.root room
+abbrev update_room : (entries : List Listed) (e : Begun) (room : ℕ) → IsUpdateRoom entries e room → IsUpdateRoomOf entries e.root room
 update_room entries e room r = record {
   due = r.due;
   store = r.store;

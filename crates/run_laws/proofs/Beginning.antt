@@ -27,14 +27,13 @@ use Rattle.run_state.specs.declared.machine.Stage.{Stage}
 use Rattle.run_state.specs.declared.watch.Begun.{Begun as Shown}
 use Rattle.run_state.specs.Operands.{AreAddresses, StandsObjects}
 use Rattle.run_state.specs.Stands.{Stands, StandsExpression}
-use Rattle.run_machine.proofs.Opened.{one_open, top_frame}
-use Rattle.run_machine.proofs.Parts.{each_at}
 use Rattle.run_machine.specs.Picks.{top_of}
 use Rattle.code_view.specs.Named.{NamesAreOpen, OpenIsKnown}
 use Rattle.code_view.specs.Rooms.{IsRoomedBy}
 use Rattle.run_laws.specs.Beginning.{BeginsOpen, StandsBegun}
 use Rattle.run_laws.specs.Open.{IsLawfulCode, IsOpen}
 use Rattle.run_laws.specs.Small.{AreSmall, EndInTime, HasSmallBytes, ListsAreSmall}
+use Rattle.run_laws.proofs.Frames.{each_at, one_open, top_frame}
 use Rattle.run_laws.proofs.Given.{addresses_of}
 
 -- what the operands of the top frame stand on

@@ -42,13 +42,13 @@ use Rattle.run_events.specs.Takes as takes
 use Rattle.run_events.specs.Takes.{NodeStands, PermittedTakesGiven}
 use Rattle.run_machine.specs.Picks.{whole_part, ComesNext, NextIsPermitted}
 use Rattle.run_machine.specs.Taking.{HasRooms, IsAt, IsEventOf, past_event, passed_stage, staged}
-use Rattle.run_machine.proofs.Opened.{one_open, top_frame}
 use Rattle.code_view.specs.Events.{EventsAreEvaluated, IsListedAt}
 use Rattle.code_view.specs.Named.{ListIsThere, NamedIsOpen, NamesAreOpen, OpenIsKnown, OpenIsNamed, SlotIsOpen}
 use Rattle.run_laws.specs.Asked.{CodeHasRooms}
 use Rattle.run_laws.specs.Given.{MovesAreNear, OpenCanBeTaken, OpenMayTake, OpenMayTakeNext, OpenTakesGiven}
 use Rattle.run_laws.specs.Open.{aside, IsOpen}
 use Rattle.run_laws.specs.Small.{EndInTime}
+use Rattle.run_laws.proofs.Frames.{one_open, top_frame}
 
 -- each row begins at an address
 pub addresses_of : (rows : List Row) → EndInTime rows → AreAddresses rows
@@ -235,8 +235,8 @@ module _ (world : World) (meaning : Option ℕ → Meaning) (m : Machine) (st : 
         permitted world n f e firsts laid.root.now nodes d x laid.first laid.end is.0 objects
         (values_aside world m stage items laid.first laid.end f e values_are) root_is o.lays.numbered at (due_is d x is at)
         (ap (λ es. slice_get es is.0) (sym part) ∙ is.1) may plain (node_stands named d.place.node x at)
-        (near m.program.now m.code.now world f e.given firsts nodes s.expression laid d.place.node (suc d.place.node) x o.code.lawful o.code.order o.at
-        o.lays.numbered at o.ends o.small)
+        (near m.program.now world f e.given firsts laid.root.now nodes d.place.node (suc d.place.node) x (o.code.trees s.expression laid o.at) o.lays.numbered at
+        o.ends o.small)
 
     -- ---- it can be taken
     pub event_is : OpenIsKnown → EventsAreEvaluated → (d : Due) → IsListed (whole_part m s) d → IsEventOf world m.code.now f laid e d

@@ -32,7 +32,7 @@ use Rattle.c_typed.specs.declared.tree.Node.TheOpen as shape
 use Rattle.c_typed.specs.declared.tree.Node.TheOpen.{Node-F}
 use Rattle.c_typed.specs.declared.tree.Place.{Place}
 use Rattle.c_typed.specs.declared.tree.Typed.{Typed, out-Typed}
-use Rattle.c_typed.specs.Lawful.{IsLawful, There, IsConstant, StepsOver, SiteIsLawful, TypesAre, UpdateTypes}
+use Rattle.c_typed.specs.Lawful.{There, IsConstant, StepsOver, SiteIsLawful, TypesAre, UpdateTypes}
 use Rattle.c_typed.specs.Order.{place}
 use Rattle.c_typed.specs.Sites.{Blocks, Site, all_sites, seen, sites, type_seen}
 use Rattle.c_typed.specs.Tree as order
@@ -48,16 +48,11 @@ use Rattle.program_view.specs.Trees.{constant_head, expr_of, exprs_of, is_pointe
 use Rattle.program_view.proofs.Seen.{node_in, operands_in, own_type, head_in, expr_at, by_size}
 use Rattle.run_acts.specs.Updates.{IsNear, IsNearChange}
 use Rattle.run_code.specs.declared.nodes.NodeInfo.{NodeInfo}
-use Rattle.run_code.specs.declared.steps.Expression.{Expression as Laid}
-use Rattle.run_code.specs.declared.whole.Code.{Code}
 use Rattle.run_code.specs.Numbered.{AreNodes}
 use Rattle.run_events.specs.Nodes.{head_of, IsNearBy}
-use Rattle.code_view.specs.Known.{AreInOrder}
-use Rattle.code_view.proofs.Each.{each_laid}
-use Rattle.code_view.proofs.Known.{IsLawfulTree, own_lawful}
-use Rattle.code_view.proofs.Parts.{in_nodes, parts, site_in}
-use Rattle.code_view.proofs.Viewed.{all_both}
+use Rattle.run_laws.proofs.Sites.{all_both, in_nodes, parts, site_in}
 use Rattle.run_laws.specs.Given.{MovesAreNear}
+use Rattle.run_laws.specs.Sited.{IsLawfulTree}
 use Rattle.run_laws.specs.Small.{AreSmall, EndInTime, IsSmall}
 use Rattle.run_laws.proofs.Numbers.{conv_small}
 
@@ -242,47 +237,47 @@ module _ (p : Program) (around : Blocks) (world : World) (f : Scene) (ends : End
       values_small given small ts (all_both Fine (sites t) (all_sites (map seen ts)) all).1 (k + size (tree_of (expr_of t))) i
 
   -- ---- each node
+  move_two : (n : ℕ) (subtract : Bool) (own s index : CType) → TypesAre p around (shape.PtrAdd n subtract) own (s ∷ index ∷ []) → n ≤ 2 ^ 40
+  move_two n subtract own (pointer c s) index h = steps_small p.tags (pointer c s) n h.0
+  move_two n subtract own void index h = absurd h
+  move_two n subtract own (int kind) index h = absurd h
+  move_two n subtract own (enumeration tag) index h = absurd h
+  move_two n subtract own (array c s count) index h = absurd h
+  move_two n subtract own (struct tag) index h = absurd h
+  move_two n subtract own (union tag) index h = absurd h
+  move_two n subtract own (function r ps v) index h = absurd h
+
+  none_one : (n : ℕ) (subtract : Bool) (own s : CType) → TypesAre p around (shape.PtrAdd n subtract) own (s ∷ []) → ⊥
+  none_one n subtract own (pointer c s) h = h
+  none_one n subtract own void h = h
+  none_one n subtract own (int kind) h = h
+  none_one n subtract own (enumeration tag) h = h
+  none_one n subtract own (array c s count) h = h
+  none_one n subtract own (struct tag) h = h
+  none_one n subtract own (union tag) h = h
+  none_one n subtract own (function r ps v) h = h
+
+  none_three : (n : ℕ) (subtract : Bool) (own s index x : CType) (xs : List CType)
+      → TypesAre p around (shape.PtrAdd n subtract) own (s ∷ index ∷ x ∷ xs) → ⊥
+  none_three n subtract own (pointer c s) index x xs h = h
+  none_three n subtract own void index x xs h = h
+  none_three n subtract own (int kind) index x xs h = h
+  none_three n subtract own (enumeration tag) index x xs h = h
+  none_three n subtract own (array c s count) index x xs h = h
+  none_three n subtract own (struct tag) index x xs h = h
+  none_three n subtract own (union tag) index x xs h = h
+  none_three n subtract own (function r ps v) index x xs h = h
+
   move_steps : (n : ℕ) (subtract : Bool) (own : CType) (ss : List CType) → TypesAre p around (shape.PtrAdd n subtract) own ss → n ≤ 2 ^ 40
-  move_steps n subtract own (pointer c s ∷ index ∷ []) h = steps_small p.tags (pointer c s) n h.0
   move_steps n subtract own [] h = absurd h
-  move_steps n subtract own (s ∷ []) h = absurd (one s h)
-    where
-      one : (s : CType) → TypesAre p around (shape.PtrAdd n subtract) own (s ∷ []) → ⊥
-      one (pointer c s) h = h
-      one void h = h
-      one (int kind) h = h
-      one (enumeration tag) h = h
-      one (array c s count) h = h
-      one (struct tag) h = h
-      one (union tag) h = h
-      one (function r ps v) h = h
-  move_steps n subtract own (s ∷ index ∷ []) h = absurd (two s h)
-    where
-      two : (s : CType) → TypesAre p around (shape.PtrAdd n subtract) own (s ∷ index ∷ []) → ⊥
-      two (pointer c s) h = h
-      two void h = h
-      two (int kind) h = h
-      two (enumeration tag) h = h
-      two (array c s count) h = h
-      two (struct tag) h = h
-      two (union tag) h = h
-      two (function r ps v) h = h
-  move_steps n subtract own (s ∷ index ∷ x ∷ more) h = absurd (many s h)
-    where
-      many : (s : CType) → TypesAre p around (shape.PtrAdd n subtract) own (s ∷ index ∷ x ∷ more) → ⊥
-      many (pointer c s) h = h
-      many void h = h
-      many (int kind) h = h
-      many (enumeration tag) h = h
-      many (array c s count) h = h
-      many (struct tag) h = h
-      many (union tag) h = h
-      many (function r ps v) h = h
+  move_steps n subtract own (s ∷ []) h = absurd (none_one n subtract own s h)
+  move_steps n subtract own (s ∷ index ∷ []) h = move_two n subtract own s index h
+  move_steps n subtract own (s ∷ index ∷ x ∷ xs) h = absurd (none_three n subtract own s index x xs h)
 
   change_steps : (n : ℕ) (subtract : Bool) (t : CType) (rest : List CType) → UpdateTypes p.tags (change.Pointer n subtract) t rest → n ≤ 2 ^ 40
   change_steps n subtract t [] h = steps_small p.tags t n h
   change_steps n subtract t (index ∷ []) h = steps_small p.tags t n h.0
-  change_steps n subtract t (index ∷ x ∷ more) h = absurd h
+  change_steps n subtract t (index ∷ x ∷ xs) h = absurd h
 
   update_steps : (n : ℕ) (subtract old : Bool) (own : CType) (ss : List CType) → TypesAre p around (shape.Update (change.Pointer n subtract) old) own ss
       → n ≤ 2 ^ 40
@@ -314,23 +309,20 @@ module _ (p : Program) (around : Blocks) (world : World) (f : Scene) (ends : End
       go false = tt
   near_node _ ty ts vs fine small = tt
 
--- the values of the operands of a node of a lawful program are small
-pub operands_small : (p : Program) (code : Code) (world : World) (f : Scene) (given : Place → Option Value) (firsts : List ℕ) (nodes : List NodeInfo)
-    (n : ℕ) (laid : Laid) (i k : ℕ) (x : NodeInfo) → IsLawful p → AreInOrder p code → slice_get code.expressions.items n ≡ Some laid
-    → AreNodes firsts laid.root.now nodes → slice_get nodes i ≡ Some x → EndInTime world.rows → AreSmall given → (j : ℕ)
-    → IsSmall (value_at (values_of world f given k (exprs_of (operands_in x.tree.now))) j)
-operands_small p code world f given firsts nodes n laid i k x lawful order at are node_at ends small j =
+-- the values of the operands of a node of a lawful tree are small
+pub operands_small : (p : Program) (world : World) (f : Scene) (given : Place → Option Value) (firsts : List ℕ) (root : Typed) (nodes : List NodeInfo)
+    (i k : ℕ) (x : NodeInfo) → IsLawfulTree p root → AreNodes firsts root nodes → slice_get nodes i ≡ Some x → EndInTime world.rows → AreSmall given
+    → (j : ℕ) → IsSmall (value_at (values_of world f given k (exprs_of (operands_in x.tree.now))) j)
+operands_small p world f given firsts root nodes i k x lawful are at ends small j =
+    let Q = SiteIsLawful p lawful.0 in
     let t = x.tree.now in
-    let h = each_laid p (IsLawfulTree p) (own_lawful p) (λ g e l. (e.blocks, l.nodes)) code n laid lawful order at in
-    let all = in_nodes (SiteIsLawful p h.0) firsts laid.root.now nodes i x are h.1 node_at in
-    values_small p h.0 world f ends given small (operands_in t) (parts (SiteIsLawful p h.0) t all).1 k j
+    values_small p lawful.0 world f ends given small (operands_in t) (parts Q t (in_nodes Q firsts root nodes i x are lawful.1 at)).1 k j
 
 pub moves_are_near : MovesAreNear
-moves_are_near p code world f given firsts nodes n laid i k x lawful order at are node_at ends small =
+moves_are_near p world f given firsts root nodes i k x lawful are at ends small =
+    let Q = SiteIsLawful p lawful.0 in
     let t = x.tree.now in
-    let h = each_laid p (IsLawfulTree p) (own_lawful p) (λ g e l. (e.blocks, l.nodes)) code n laid lawful order at in
-    let all = in_nodes (SiteIsLawful p h.0) firsts laid.root.now nodes i x are h.1 node_at in
-    let s = parts (SiteIsLawful p h.0) t all in
+    let s = parts Q t (in_nodes Q firsts root nodes i x are lawful.1 at) in
     let vs = values_of world f given k (exprs_of (operands_in t)) in
     subst (λ (z : Expr). IsNearBy (head_of z) vs) (sym (expr_at t))
-    (near_node p h.0 world f ends (node_in t) (own_type t) (operands_in t) vs s.0 (values_small p h.0 world f ends given small (operands_in t) s.1 k))
+    (near_node p lawful.0 world f ends (node_in t) (own_type t) (operands_in t) vs s.0 (values_small p lawful.0 world f ends given small (operands_in t) s.1 k))

@@ -4,6 +4,7 @@ use Rattle.std.proofs.Common.{refl, sym, ap, subst, ◌∙◌}
 use Rattle.std.specs.List.{All}
 use Rattle.std.proofs.lemmas.List.Elements.{All-weaker}
 use Rattle.std.proofs.lemmas.Option.{same_Some, slice_get_within}
+use Rattle.ub_base.specs.declared.names.Event.{Event}
 use Rattle.ub_base.specs.declared.clause.Kind.{Kind}
 use Rattle.ub_base.specs.declared.clause.Kind.TheVariants.{Val, Eff, Body}
 use Rattle.c_typed.specs.declared.program.Program.{Program}
@@ -15,8 +16,9 @@ use Rattle.c_typed.specs.declared.tree.Typed.{Typed, out-Typed}
 use Rattle.c_typed.specs.Order.{is_val, place, same_place}
 use Rattle.c_typed.specs.Sites.{Head, sites}
 use Rattle.c_typed.specs.Tree.{size}
+use Rattle.mem_spec.specs.Store.{Store}
+use Rattle.prov_memory.specs.Memory.{store_of}
 use Rattle.mem_spec.specs.Script.{Script, Done as Acts_done, run}
-use Rattle.c_model.specs.ChoiceLaws.{StaysClosed}
 use Rattle.c_model.specs.Nodes.{act_of}
 use Rattle.c_model.specs.Program as model
 use Rattle.c_model.specs.Program.{Expr, expr, Exprs, Head as Model_head, tree_of}
@@ -24,7 +26,6 @@ use Rattle.c_model.specs.Runs.{State}
 use Rattle.c_model.specs.Steps.{Begun, Scene, at_node, call_act, event_act, event_of, first_type, name_of, operand_values, own_kind, target, values_of, with_given}
 use Rattle.c_model.specs.Values.{Value, or_nothing, value_at}
 use Rattle.c_model.specs.World.{World}
-use Rattle.program_view.specs.Laws.{TreesAreKept}
 use Rattle.program_view.specs.Trees.{exprs_of}
 use Rattle.program_view.proofs.Seen.{expr_at, head_in, node_in, operands_in, own_type}
 use Rattle.run_control.specs.View.{Meaning}
@@ -32,11 +33,14 @@ use Rattle.run_code.specs.declared.nodes.NodeInfo.{NodeInfo}
 use Rattle.run_code.specs.declared.steps.Choice.{Choice}
 use Rattle.run_code.specs.declared.steps.Due.{Due}
 use Rattle.run_code.specs.declared.steps.Expression.{Expression as Laid}
+use Rattle.run_code.specs.declared.steps.Act.{Act}
 use Rattle.run_code.specs.declared.steps.Listed.{Listed}
+use Rattle.run_code.specs.declared.steps.Listed.TheVariants as listed
 use Rattle.run_code.specs.declared.steps.Operand.{Operand}
 use Rattle.run_code.specs.declared.tables.Tables.{Tables}
 use Rattle.run_code.specs.declared.whole.Code.{Code}
 use Rattle.run_code.specs.Choices.{ChoosesAt}
+use Rattle.run_code.specs.EventActs.{IsAct, IsValue, Sight, head_at, sight_of}
 use Rattle.run_code.specs.LaidOut.{LaidOutBy}
 use Rattle.run_listing.specs.Along.{IsListed, part_of}
 use Rattle.run_state.specs.declared.machine.Machine.{Machine}
@@ -44,31 +48,37 @@ use Rattle.run_state.specs.declared.machine.Open.{Open}
 use Rattle.run_state.specs.declared.machine.Stage.{Stage}
 use Rattle.run_state.specs.Operands.{Gives, RoomGives}
 use Rattle.run_state.specs.Stands.{Holds}
-use Rattle.run_code.specs.Keeping.{KeepsAtEvent}
-use Rattle.run_listing.specs.Cursor.{StandsBehind}
 use Rattle.run_events.specs.Nodes.{IsActOf}
+use Rattle.run_events.specs.Acts.{script_in}
 use Rattle.run_events.specs.Performs.{gives_value}
 use Rattle.run_events.proofs.Nodes.{node_is}
-use Rattle.run_machine.proofs.Behind.{ran}
 use Rattle.run_machine.specs.Ending.{NotesWay}
-use Rattle.run_machine.specs.Picks.{whole_part}
+use Rattle.run_machine.specs.Picks.{event_at, whole_part}
 use Rattle.run_machine.specs.Taking.{Decides, EventStands, HasRooms, IsPast, TakesEvent, after_event, store_after}
-use Rattle.run_machine.proofs.Laying.{RoomsLaid, rooms_laid}
 use Rattle.code_view.specs.Events.{EventsAreEvaluated, IsListedAt}
 use Rattle.code_view.specs.Named.{NamedIsOpen, NamesAreOpen, SlotIsOpen}
 use Rattle.run_laws.specs.Open.{aside, IsLawfulCode, IsOpen}
 use Rattle.run_laws.specs.Small.{ActsGiveSmall, AreSmall, EndInTime, FillsSmall, HasSmallBytes, IsSmall, NodeFillsSmall}
 use Rattle.run_laws.specs.Staying.{OpenStays}
+use Rattle.run_laws.proofs.Frames.{top_frame}
 use Rattle.run_laws.proofs.Given.{Laws, act_is, end_is, first_is, in_listing, part_same, root_is, rooms_is}
 use Rattle.run_laws.proofs.Near.{base_small, operands_small}
 
 -- ---- what stays of the machine
 -- its code and its program, and of its top frame all but where the cursor stands
-record Moves (old : Machine) (s : Stage) (new : Machine) : Type 0 where
-  cursor : ℕ
-  top : new.top ≡ record old.top { stage = Some (record s { cursor = cursor }) }
-  code : new.code.now ≡ old.code.now
-  program : new.program.now ≡ old.program.now
+pub record Moves (old : Machine) (s : Stage) (new : Machine) : Type 0 where
+  pub cursor : ℕ
+  pub top : new.top ≡ record old.top { stage = Some (record s { cursor = cursor }) }
+  pub code : new.code.now ≡ old.code.now
+  pub program : new.program.now ≡ old.program.now
+
+-- of the memory and the streams too
+abbrev StoreOf : Machine → Store
+StoreOf m = store_of m.memory m.streams
+
+past_store : (straight : Bool) (old past : Machine) (s : Stage) (d : Due) → IsPast straight old s d past → StoreOf past ≡ StoreOf old
+past_store true old past s d p = ap StoreOf p.5
+past_store false old past s d p = ap StoreOf p
 
 past_moves : (straight : Bool) (old past : Machine) (s : Stage) (d : Due) → old.top.stage ≡ Some s → IsPast straight old s d past → Moves old s past
 past_moves true old past s d stage p = record {
@@ -112,6 +122,10 @@ noted_same false old new u n = record {
   program = ap (λ (k : Machine). k.program.now) n.rest;
 }
 
+noted_store : (straight : Bool) (old new : Machine) (u : Place) → NotesWay straight old u new → StoreOf new ≡ StoreOf old
+noted_store true old new u n = ap StoreOf n
+noted_store false old new u n = ap StoreOf n.rest
+
 noted_values : (straight : Bool) (old new : Machine) (u : Place) (room : ℕ) (v : Value) → NotesWay straight old u new
     → Holds old.memory old.values.items room v → Holds new.memory new.values.items room v
 noted_values true old new u room v n h = subst (λ (k : Machine). Holds k.memory k.values.items room v) (sym n) h
@@ -137,6 +151,11 @@ decides_same (Some number) old new test d =
       program = ap (λ (k : Machine). k.program.now) has.rest;
     }
 
+decides_store : (o : Option ℕ) (old new : Machine) → ((number : ℕ) → o ≡ Some number → TestGives old.code.now.tables old number) → Decides o old new
+    → StoreOf new ≡ StoreOf old
+decides_store None old new test d = ap StoreOf d
+decides_store (Some number) old new test d = let t = test number refl in ap StoreOf (d t.choice t.gives.0 t.there t.gives.1).rest
+
 -- the choice at an event is made at its value, by what its node's operand gives
 record Test (firsts : List ℕ) (tables : Tables) (x : NodeInfo) (kind : Kind) (number : ℕ) : Type 0 where
   value : kind ≡ Val
@@ -149,6 +168,29 @@ test_at : (firsts : List ℕ) (tables : Tables) (nodes : List NodeInfo) (n : ℕ
 test_at firsts tables nodes n x Val number h = record { value = refl; choice = h.3; there = h.4; test = h.5.test }
 test_at firsts tables nodes n x Eff number h = absurd (cc)
 test_at firsts tables nodes n x Body number h = absurd (cc)
+
+-- the act of a node's value gives one
+value_gives : (h : Head) (s : Sight) (a : Act) → IsValue h s a → gives_value a ≡ true
+value_gives (shape.Load how) s a h = ap gives_value h.2
+value_gives (shape.Conv c) s a h = ap gives_value h
+value_gives (shape.Un op) s a h = ap gives_value h
+value_gives (shape.Bin op kind) s a h = ap gives_value h
+value_gives (shape.PtrAdd n subtract) s a h = ap gives_value h
+value_gives (shape.PtrDiff n) s a h = ap gives_value h
+value_gives (shape.Rel op pointers) s a h = ap gives_value h
+value_gives (shape.Eq op) s a h = ap gives_value h
+value_gives (shape.Member offset) s a h = ap gives_value h
+value_gives (shape.Part offset how) s a h = ap gives_value h
+value_gives (shape.Assign first how) s a h = ap gives_value h
+value_gives (shape.Update c old) s a h = ap gives_value h.2
+value_gives shape.And s a h = ap gives_value h
+value_gives shape.Or s a h = ap gives_value h
+value_gives shape.Cond s a h = ap gives_value h
+value_gives shape.Comma s a h = ap gives_value h
+value_gives (shape.Call discarded) s a h = ap gives_value h
+value_gives (shape.List named bytes) s a h = ap gives_value h
+value_gives (shape.Isolated tree) s a h = ap gives_value h
+value_gives _ s a h = ap gives_value h
 
 -- ---- the names that are open
 module _ (old new : Machine) (code : new.code.now ≡ old.code.now) (blocks : new.top.blocks ≡ old.top.blocks) (firsts : List ℕ) (bs : List (ℕ × ℕ)) where
@@ -180,6 +222,9 @@ small_with e u v small own w x is = go (same_place u w) is
     go : (b : Bool) → (if b then Some v else e.given w) ≡ Some x → IsSmall x
     go true h = subst IsSmall (same_Some v x h) own
     go false h = small w x h
+
+abbrev event_with : (number turn : ℕ) → Place → Event
+event_with number turn u = record { frame = record { 0 = number }; turn = turn; node = u.node; kind = u.kind }
 
 or_small : (z : Option Value) → ((v : Value) → z ≡ Some v → IsSmall v) → IsSmall (or_nothing z)
 or_small None h = tt
@@ -213,20 +258,15 @@ module _ (gives : RoomGives) (evaluated : EventsAreEvaluated) (world : World) (m
       subst (λ es. IsListed es d) (sym part) (in_listing listing laid d is_listed)
 
   entry : (x : NodeInfo) × (slice_get nodes d.place.node ≡ Some x) × ChoosesAt firsts old.code.now.tables nodes d.place.node x d.place.kind d.choice
-  entry = let it = o.lays.each is_listed.at _ is_listed.first is_listed.end is_listed.entry in (it.0, it.1, it.3)
-
-  few : size (tree_of e.root) < 2 ^ 32
-  few = let rooms = t.rooms.nodes in let is = rooms_is world meaning old st e s laid firsts nodes o in let less = o.roomed.few in omega (arith, rooms, is, less)
-
-  in_rooms : RoomsLaid (part_of listing laid.first laid.end) old.top.rooms e
-  in_rooms =
-      rooms_laid old.code.now.tables listing laid firsts nodes o.lays e (root_is world meaning old st e s laid firsts nodes o) few old.top.rooms
-      (subst (λ (es : List Listed). HasRooms es old.top.rooms e)
-      (part_same listing s.first laid.first s.end laid.end (first_is world meaning old st e s laid firsts nodes o)
-      (end_is world meaning old st e s laid firsts nodes o)) t.rooms)
+  entry = let it = o.lays.each is_listed.at (listed.Event d) is_listed.first is_listed.end is_listed.entry in (it.0, it.1, it.3)
 
   gives_own : d.place.kind ≡ Val → gives_value d.act ≡ true
-  gives_own is = in_rooms.gives d (in_listing listing laid d is_listed) t.plain ∙ ap is_val is
+  gives_own is =
+      let it = o.lays.each is_listed.at (listed.Event d) is_listed.first is_listed.end is_listed.entry in
+      let x = it.0 in
+      let h = head_at (out-Typed x.tree.now).node in
+      let seen = sight_of firsts (length nodes) d.place.node x in
+      value_gives h seen d.act (subst (λ (k : Kind). IsAct firsts old.code.now.tables x.initializer h seen k d.act) is it.2.does)
 
   passes : Moves old s t.taken.past
   passes = past_moves s.straight old t.taken.past s d t.stage t.taken.passes
@@ -310,8 +350,8 @@ module _ (gives : RoomGives) (evaluated : EventsAreEvaluated) (world : World) (m
   values_in : (j : ℕ) → IsSmall (value_at its_values j)
   values_in j =
       operand_small world st.top.scene o.ends e.given (suc d.place.node) its_head its_operands j
-      (operands_small old.program.now old.code.now world st.top.scene e.given firsts nodes s.expression laid d.place.node (suc d.place.node) x_in.0
-      o.code.lawful o.code.order o.at o.lays.numbered x_in.1 o.ends o.small j)
+      (operands_small old.program.now world st.top.scene e.given firsts laid.root.now nodes d.place.node (suc d.place.node) x_in.0
+      (o.code.trees s.expression laid o.at) o.lays.numbered x_in.1 o.ends o.small j)
 
   abbrev own : Value
   own = or_nothing (e.given (place d.place.node (own_kind d.place.kind)))
@@ -332,11 +372,36 @@ module _ (gives : RoomGives) (evaluated : EventsAreEvaluated) (world : World) (m
       ∙ ap (λ (b : Bool). if b then call_act world (event_of world st.top.scene d.place) its_head its_operands
       (values_of world st.top.scene e.given (suc d.place.node) its_operands) else its_act) t.plain
 
-  gives_small : ActsGiveSmall → run world.rows (does (at_node 0 e.root d.place.node)) st.store ≡ Acts_done v new.items (store_after new)
-      → IsSmall v × HasSmallBytes (store_after new)
-  gives_small acts ran =
-      acts world.rows (event_of world st.top.scene d.place) its_head (target (first_type its_operands)) d.place.kind its_values own st.store (store_after new)
-      v new.items o.ends t.plain fills values_in own_small o.bytes (ap (λ (p : Script Value). run world.rows p st.store) (sym does_act) ∙ ran)
+  -- which the act in the code does
+  seen : event_at t.taken.past d.place ≡ event_of world st.top.scene d.place
+  seen =
+      let frame = top_frame world meaning old st o.stood.stands in
+      let number : t.taken.past.top.frame.0 ≡ world.number st.top.scene.path = ap (λ (z : Open). z.frame.0) passes.top ∙ frame.number in
+      let turn : t.taken.past.top.turn ≡ st.top.scene.turn = ap (λ (z : Open). z.turn) passes.top ∙ frame.turn in
+      ap (λ (n : ℕ). event_with n t.taken.past.top.turn d.place) number
+      ∙ ap (λ (n : ℕ). event_with (world.number st.top.scene.path) n d.place) turn
+
+  ran : IsActOf world t.taken.past st.top.scene e d
+      → run world.rows (does (at_node 0 e.root d.place.node)) st.store ≡ Acts_done v t.taken.done.items (StoreOf t.taken.done)
+  ran is =
+      let past = t.taken.past in
+      let script : script_in world.rows past (event_at past d.place) d.act ≡ does (at_node 0 e.root d.place.node) =
+      ap (λ (w : Event). script_in world.rows past w d.act) seen ∙ is.same in
+      let store : StoreOf past ≡ st.store = past_store s.straight old past s d t.taken.passes ∙ sym o.stood.stands.memory.store in
+      ap (λ (p : Script Value). run world.rows p st.store) (sym script)
+      ∙ (ap (run world.rows (script_in world.rows past (event_at past d.place) d.act)) (sym store) ∙ t.taken.does.did)
+
+  same_store : StoreOf t.taken.done ≡ store_after new
+  same_store =
+      sym (decides_store d.choice t.taken.noted new tested t.taken.decides ∙ noted_store s.straight t.taken.done t.taken.noted d.place t.taken.notes)
+
+  gives_small : ActsGiveSmall → IsActOf world t.taken.past st.top.scene e d → IsSmall v × HasSmallBytes (store_after new)
+  gives_small acts is =
+      let small =
+      acts world.rows (event_of world st.top.scene d.place) its_head (target (first_type its_operands)) d.place.kind its_values own st.store
+      (StoreOf t.taken.done) v t.taken.done.items o.ends t.plain fills values_in own_small o.bytes
+      (ap (λ (p : Script Value). run world.rows p st.store) (sym does_act) ∙ ran is) in
+      (small.0, subst HasSmallBytes same_store small.1)
 
   -- in the machine whose cursor has passed it
   past_aside : (z : Option Stage) × (t.taken.past ≡ aside old z old.items)
@@ -359,8 +424,7 @@ module _ (gives : RoomGives) (evaluated : EventsAreEvaluated) (world : World) (m
     lists = o.lists;
   }
 
-module _ (trees : TreesAreKept) (keeps_at : KeepsAtEvent) (gives : RoomGives) (behind : StandsBehind) (closes : StaysClosed) (laws : Laws)
-    (acts : ActsGiveSmall) (stands : EventStands) where
+module _ (gives : RoomGives) (laws : Laws) (acts : ActsGiveSmall) (stands : EventStands) where
   pub open_stays : OpenStays
   open_stays world meaning old new st e s laid firsts nodes d v o t =
       let evaluated = laws.evaluated in
@@ -368,8 +432,7 @@ module _ (trees : TreesAreKept) (keeps_at : KeepsAtEvent) (gives : RoomGives) (b
       let listed = listed_there gives evaluated world meaning old new st e s laid firsts nodes d v o t in
       let is = subst (λ (k : Machine). IsActOf world k st.top.scene e d) (sym past.1)
       (act_is laws world meaning old st e s laid firsts nodes o past.0 old.items d listed t.may t.plain) in
-      let ran = ran trees keeps_at gives behind closes world meaning old new st e s laid d v t is in
-      let small = gives_small gives evaluated world meaning old new st e s laid firsts nodes d v o t acts ran in (
+      let small = gives_small gives evaluated world meaning old new st e s laid firsts nodes d v o t acts is in (
         after gives evaluated world meaning old new st e s laid firsts nodes d v o t,
         stays gives evaluated world meaning old new st e s laid firsts nodes d v o t stands small,
       )

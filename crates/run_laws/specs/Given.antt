@@ -4,8 +4,7 @@ use Rattle.std.specs.Borrow.{Bor}
 use Rattle.ub_base.specs.declared.names.Item.{Item}
 use Rattle.c_typed.specs.declared.program.Program.{Program}
 use Rattle.c_typed.specs.declared.tree.Place.{Place}
-use Rattle.c_typed.specs.declared.tree.Typed.{out-Typed}
-use Rattle.c_typed.specs.Lawful.{IsLawful}
+use Rattle.c_typed.specs.declared.tree.Typed.{Typed, out-Typed}
 use Rattle.c_typed.specs.Order.{is_body}
 use Rattle.c_model.specs.Runs.{State}
 use Rattle.c_model.specs.Steps.{Begun, Ev, MayPick, Scene, values_of}
@@ -17,7 +16,6 @@ use Rattle.run_control.specs.View.{Meaning}
 use Rattle.run_code.specs.declared.nodes.NodeInfo.{NodeInfo}
 use Rattle.run_code.specs.declared.steps.Due.{Due}
 use Rattle.run_code.specs.declared.steps.Expression.{Expression as Laid}
-use Rattle.run_code.specs.declared.whole.Code.{Code}
 use Rattle.run_code.specs.Numbered.{AreNodes}
 use Rattle.run_listing.specs.Along.{IsListed}
 use Rattle.run_state.specs.declared.machine.Machine.{Machine}
@@ -26,17 +24,16 @@ use Rattle.run_events.specs.Nodes.{head_of, IsNearBy, TakesGiven}
 use Rattle.run_machine.specs.Answering.{IsWithin}
 use Rattle.run_machine.specs.Picks.{whole_part, ComesNext}
 use Rattle.run_machine.specs.Taking.{CanBeTaken, IsAt, MayTake, MayTakeNext}
-use Rattle.code_view.specs.Known.{AreInOrder}
 use Rattle.run_laws.specs.Open.{aside, IsOpen}
+use Rattle.run_laws.specs.Sited.{IsLawfulTree}
 use Rattle.run_laws.specs.Small.{AreSmall, EndInTime}
 
--- 1. Each node of a full expression of a lawful program moves a pointer by fewer than 2^127 bytes, where the integers that were given are small: an element
--- has at most 2^40 bytes (6.5.6p8).
+-- 1. Each node of a lawful tree moves a pointer by fewer than 2^127 bytes, where the values that were given are small: an element has at most 2^40 bytes
+-- (6.5.6p8).
 abbrev pub MovesAreNear : Type 0
 MovesAreNear =
-    (p : Program) (code : Code) (world : World) (f : Scene) (given : Place → Option Value) (firsts : List ℕ) (nodes : List NodeInfo) (n : ℕ) (laid : Laid)
-    (i k : ℕ) (x : NodeInfo) → IsLawful p → AreInOrder p code → slice_get code.expressions.items n ≡ Some laid → AreNodes firsts laid.root.now nodes
-    → slice_get nodes i ≡ Some x → EndInTime world.rows → AreSmall given
+    (p : Program) (world : World) (f : Scene) (given : Place → Option Value) (firsts : List ℕ) (root : Typed) (nodes : List NodeInfo) (i k : ℕ)
+    (x : NodeInfo) → IsLawfulTree p root → AreNodes firsts root nodes → slice_get nodes i ≡ Some x → EndInTime world.rows → AreSmall given
     → IsNearBy (head_of (expr_of x.tree.now)) (values_of world f given k (exprs_of (out-Typed x.tree.now).children))
 
 -- 2. What the event takes is given, wherever the cursor stands and whatever was touched.

@@ -17,12 +17,14 @@ use Rattle.run_machine.specs.Taking.{AreLawful, StandsOpen}
 use Rattle.code_view.specs.Known.{AreInOrder}
 use Rattle.code_view.specs.Named.{NamesAreOpen}
 use Rattle.code_view.specs.Rooms.{IsRoomedBy}
+use Rattle.run_laws.specs.Sited.{IsLawfulTree}
 use Rattle.run_laws.specs.Small.{AreSmall, EndInTime, HasSmallBytes, ListsAreSmall}
 
--- the code of a lawful program, as `code_of` of run_code gives it: its full expressions are the program's in turn, and its constants are lawful
+-- the code of a lawful program: its full expressions are the program's in turn, the nodes of each are lawful, and so are its constants
 pub record IsLawfulCode (p : Program) (code : Code) : Type 0 where
   pub lawful : IsLawful p
   pub order : AreInOrder p code
+  pub trees : (n : ℕ) (laid : Laid) → slice_get code.expressions.items n ≡ Some laid → IsLawfulTree p laid.root.now
   pub constants : AreLawful p code
 
 -- A machine stands for the state, with this full expression open, whose stage this is. It is laid out by these nodes in the code of a lawful program, with its

@@ -10,12 +10,9 @@ ghost use Rattle.run_laws.specs.Beginning.{BeginsOpen};
 ghost use Rattle.run_laws.specs.Small.{ActsGiveSmall};
 ghost use Rattle.run_laws.specs.Staying.{OpenStays};
 
-use c_model::law_update_halves;
 use code_view::{law_constants, law_events, law_named, law_rooms};
-use program_view::law_view;
 use run_code::law_choices;
 use run_events::law_acts;
-use run_listing::law_cursor;
 use run_machine::{law_events as law_taken_events, law_picks};
 use run_state::law_operands;
 
@@ -36,7 +33,7 @@ pub fn law_small()
     ensures { ActsGiveSmall }
 {}
 
-/// A node of a lawful program moves a pointer by fewer than 2^127 bytes, where the values that were given are small (6.5.6p8).
+/// A node of a lawful tree moves a pointer by fewer than 2^127 bytes, where the values that were given are small (6.5.6p8).
 pub fn law_near()
     ensures { MovesAreNear }
 {}
@@ -73,10 +70,7 @@ pub fn law_open()
     ensures begins { BeginsOpen }
     ensures stays { OpenStays }
 {
-    law_view();
-    law_update_halves();
     law_choices();
-    law_cursor();
     law_operands();
     law_acts();
     law_named();

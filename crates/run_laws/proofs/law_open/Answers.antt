@@ -8,8 +8,7 @@ returns-clause-begins c = begins_open c.law_choices.ensures.begins c.law_named.e
 
 pub returns-clause-stays : goal.returns-clause-stays
 returns-clause-stays c =
-    open_stays c.law_view.ensures.trees c.law_choices.ensures.event c.law_operands.ensures.rooms c.law_cursor.ensures.behind
-    c.law_update_halves.ensures.closed
+    open_stays c.law_operands.ensures.rooms
     (laws_of c.law_acts.ensures.takes c.law_acts.ensures.nodes c.law_named.ensures.nodes c.law_named.ensures.known c.law_events.ensures.evaluated
     c.law_near.ensures c.law_asked.ensures.code c.law_picks.ensures.next)
-    c.law_small.ensures c.law_taken_events.ensures.stands
+    c.law_small.ensures c.law_events-2.ensures.stands
