@@ -1,11 +1,8 @@
 -- What code_view gives of code is what run_machine asks of it.
-use Rattle.std.proofs.Common.{◌≡◌, ℕ, Bool, true, false, List, Option, Some, None, refl, sym, subst, ◌∙◌}
-use Rattle.c_model.specs.Program.{Expr}
+use Rattle.std.proofs.Common.{◌≡◌, ℕ, true, false, List, refl, sym, subst, ◌∙◌}
 use Rattle.c_model.specs.Steps.{Begun}
-use Rattle.program_view.specs.Trees.{expr_of}
 use Rattle.run_code.specs.declared.steps.Act.{Act}
 use Rattle.run_code.specs.declared.steps.Act.TheVariants as act
-use Rattle.run_code.specs.declared.steps.Due.{Due}
 use Rattle.run_code.specs.declared.steps.Listed.{Listed}
 use Rattle.run_code.specs.OfTrees.{listing_in}
 use Rattle.run_events.specs.Performs.{gives_value, kept_room}

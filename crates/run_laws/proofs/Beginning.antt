@@ -1,14 +1,12 @@
 -- As a full expression begins, the machine stands as picks ask it.
-use Rattle.std.proofs.Common.{arith, ◌≡◌, ◌+◌, ◌≤◌, ℕ, true, List, [], length, Option, Some, None, slice_get, refl, sym, ap, subst, ◌∙◌}
+use Rattle.std.proofs.Common.{arith, ◌≡◌, ◌+◌, ◌≤◌, ℕ, true, List, [], length, Option, Some, None, sym, ap, subst, ◌∙◌}
 use Rattle.std.proofs.lemmas.Option.{same_Some}
 use Rattle.std.specs.Prelude.{is_some}
 use Rattle.c_typed.specs.declared.tree.Place.{Place}
-use Rattle.c_typed.specs.Tree as typed
 use Rattle.c_model.specs.ChoiceLaws.{IsClosed}
 use Rattle.c_model.specs.Program.{tree_of}
 use Rattle.c_model.specs.Runs.{State}
 use Rattle.c_model.specs.Steps.{Begun, Scene}
-use Rattle.c_model.specs.Values.{Value}
 use Rattle.c_model.specs.World.{World}
 use Rattle.elaborate.specs.Formed.{is_formed}
 use Rattle.program_view.specs.Trees.{expr_of}
@@ -29,10 +27,9 @@ use Rattle.run_state.specs.Operands.{AreAddresses, StandsObjects}
 use Rattle.run_state.specs.Stands.{Stands, StandsExpression}
 use Rattle.run_machine.specs.Picks.{top_of}
 use Rattle.code_view.specs.Named.{NamesAreOpen, OpenIsKnown}
-use Rattle.code_view.specs.Rooms.{IsRoomedBy}
-use Rattle.run_laws.specs.Beginning.{BeginsOpen, StandsBegun}
-use Rattle.run_laws.specs.Open.{IsLawfulCode, IsOpen}
-use Rattle.run_laws.specs.Small.{AreSmall, EndInTime, HasSmallBytes, ListsAreSmall}
+use Rattle.run_laws.specs.Beginning.{BeginsOpen, HasJustBegun}
+use Rattle.run_laws.specs.Open.{IsLawfulCode}
+use Rattle.run_laws.specs.Small.{AreSmall}
 use Rattle.run_laws.proofs.Frames.{each_at, one_open, top_frame}
 use Rattle.run_laws.proofs.Given.{addresses_of}
 
@@ -53,7 +50,7 @@ none_closed : (world : World) (f : Scene) (e : Begun) → ((u : Place) → e.giv
 none_closed world f e none v is = absurd (let no = ap is_some (none v) in cc)
 
 module _ (keeps : KeepsAtBegin) (known : OpenIsKnown) (world : World) (meaning : Option ℕ → Meaning) (m : Machine) (st : State) (e : Begun) (s : Stage)
-    (laid : Laid) (firsts : List ℕ) (nodes : List NodeInfo) (b : StandsBegun world meaning m st e s laid) (code : IsLawfulCode m.program.now m.code.now)
+    (laid : Laid) (firsts : List ℕ) (nodes : List NodeInfo) (b : HasJustBegun world meaning m st e s laid) (code : IsLawfulCode m.program.now m.code.now)
     (lays : LaidOutBy firsts nodes m.code.now.tables m.code.now.listing.items laid) (names : NamesAreOpen m firsts st.top.scene.blocks laid.root.now)
     (addresses : AreAddresses world.rows) where
   abbrev f : Scene

@@ -2,19 +2,16 @@
 use Rattle.std.proofs.Common.{arith, ◌≡◌, ◌+◌, ◌-◌, ◌<◌, ◌≤◌, ◌^◌, min, ℕ, zero, suc, Bool, true, false, List, [], ◌∷◌, length, take, drop}
 use Rattle.std.proofs.Common.{Option, Some, None, slice_get, refl, sym, ap, subst, ◌∙◌}
 use Rattle.std.specs.Borrow.{Bor}
-use Rattle.std.specs.List.{All}
 use Rattle.std.proofs.lemmas.List.Elements.{All-weaker}
 use Rattle.std.proofs.lemmas.Option.{same_Some}
 use Rattle.ub_base.specs.declared.names.Item.{Item}
 use Rattle.addr_map.specs.declared.map.Row.{Row}
 use Rattle.c_typed.specs.declared.tree.Node.TheOpen as shape
-use Rattle.c_typed.specs.declared.tree.Place.{Place}
 use Rattle.c_typed.specs.declared.tree.Slot.{Slot}
 use Rattle.c_typed.specs.declared.tree.Slot.TheVariants as slot
-use Rattle.c_typed.specs.declared.tree.Typed.{Typed, out-Typed}
+use Rattle.c_typed.specs.declared.tree.Typed.{Typed}
 use Rattle.c_typed.specs.Order.{is_body}
 use Rattle.c_typed.specs.Sites.{Head, sites}
-use Rattle.c_typed.specs.Tree.{is_quiet}
 use Rattle.c_model.specs.Program as model
 use Rattle.c_model.specs.Program.{Expr, expr, tree_of}
 use Rattle.c_model.specs.Runs.{State}
@@ -30,18 +27,16 @@ use Rattle.run_code.specs.declared.steps.Listed.TheVariants as listed
 use Rattle.run_code.specs.Chosen.{Views}
 use Rattle.run_code.specs.EventActs.{IsDue, IsEntry}
 use Rattle.run_code.specs.OfTrees.{listing_in}
-use Rattle.run_listing.specs.Along.{IsListed, Next, part_of}
-use Rattle.run_listing.specs.Cursor.{StandsStraight}
+use Rattle.run_listing.specs.Along.{IsListed, part_of}
 use Rattle.run_state.specs.declared.machine.Machine.{Machine}
-use Rattle.run_state.specs.declared.machine.Open.{Open}
 use Rattle.run_state.specs.declared.machine.Stage.{Stage}
 use Rattle.run_state.specs.Operands.{AreAddresses, StandsObjects}
-use Rattle.run_state.specs.Stands.{StandLocals, StandsDone, StandsExpression, StandsFrame, StandsValues}
+use Rattle.run_state.specs.Stands.{StandLocals, StandsDone, StandsExpression, StandsValues}
 use Rattle.run_events.specs.Nodes.{ActsAreOfNodes, IsActOf, head_of, TakesGiven}
 use Rattle.run_events.specs.Takes as takes
 use Rattle.run_events.specs.Takes.{NodeStands, PermittedTakesGiven}
 use Rattle.run_machine.specs.Picks.{whole_part, ComesNext, NextIsPermitted}
-use Rattle.run_machine.specs.Taking.{HasRooms, IsAt, IsEventOf, past_event, passed_stage, staged}
+use Rattle.run_machine.specs.Taking.{HasRooms, IsAt, IsEventOf, past_event, passed_stage}
 use Rattle.code_view.specs.Events.{EventsAreEvaluated, IsListedAt}
 use Rattle.code_view.specs.Named.{ListIsThere, NamedIsOpen, NamesAreOpen, OpenIsKnown, OpenIsNamed, SlotIsOpen}
 use Rattle.run_laws.specs.Asked.{CodeHasRooms}

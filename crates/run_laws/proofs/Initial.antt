@@ -1,26 +1,22 @@
 -- The body of an isolated initializer may start, that comes next in a machine that stands so.
-use Rattle.std.proofs.Common.{arith, ◌≡◌, ◌+◌, ◌<◌, ◌^◌, ℕ, true, List, [], Option, Some, slice_get, refl, sym, ap, subst, ◌∙◌}
-use Rattle.std.proofs.lemmas.Option.{same_Some}
+use Rattle.std.proofs.Common.{arith, ◌+◌, ◌<◌, ◌^◌, ℕ, List, Option, Some, ap, subst, ◌∙◌}
 use Rattle.ub_base.specs.declared.clause.Kind.{Kind}
-use Rattle.ub_base.specs.declared.clause.Kind.TheVariants.{Body}
 use Rattle.c_typed.specs.declared.tree.Node.{Node}
 use Rattle.c_typed.specs.declared.tree.Node.TheOpen as shape
 use Rattle.c_typed.specs.declared.tree.Node.TheOpen.{Node-F}
 use Rattle.c_typed.specs.declared.tree.Typed.{Typed, out-Typed}
 use Rattle.c_typed.specs.Sites as sites
-use Rattle.c_model.specs.Program as model
 use Rattle.c_model.specs.Program.{Expr, expr}
 use Rattle.c_model.specs.Runs.{State}
 use Rattle.c_model.specs.Steps.{Begun, at_node}
 use Rattle.c_model.specs.World.{World}
 use Rattle.program_view.specs.Trees.{expr_of, exprs_of}
-use Rattle.program_view.proofs.Seen.{node_in, operands_in, own_type, head_in, expr_at}
+use Rattle.program_view.proofs.Seen.{operands_in, own_type, head_in, expr_at}
 use Rattle.run_control.specs.View.{Meaning}
 use Rattle.run_code.specs.declared.nodes.NodeInfo.{NodeInfo}
-use Rattle.run_code.specs.declared.steps.Act.TheVariants as act
 use Rattle.run_code.specs.declared.steps.Due.{Due}
 use Rattle.run_code.specs.declared.steps.Expression.{Expression as Laid}
-use Rattle.run_code.specs.EventActs.{IsAct, head_at, sight_of}
+use Rattle.run_code.specs.EventActs.{IsAct, sight_of}
 use Rattle.run_listing.specs.Along.{IsListed}
 use Rattle.run_state.specs.declared.machine.Machine.{Machine}
 use Rattle.run_state.specs.declared.machine.Stage.{Stage}
@@ -96,5 +92,5 @@ module _ (rooms : CodeHasRooms) where
     few = rooms_few world meaning m st e s laid firsts nodes o;
     each = λ next comes.
         initializer_is world meaning m st e s laid firsts nodes o numbered next.1.now
-            (next_listed world meaning m st e s laid firsts nodes o straight next comes) (bodies next comes);
+        (next_listed world meaning m st e s laid firsts nodes o straight next comes) (bodies next comes);
   }

@@ -1,12 +1,9 @@
 -- A node of a lawful program moves a pointer by fewer than 2^127 bytes.
-use Rattle.std.proofs.Common.{arith, ◌≡◌, ◌+◌, ◌*◌, ◌-◌, ◌%◌, ◌<◌, ◌≤◌, ◌^◌, ℕ, zero, suc, ◌==◌, Bool, true, false, not, ◌&&◌, if◌then◌else◌, IsTrue}
-use Rattle.std.proofs.Common.{List, [], ◌∷◌, map, length, Option, Some, None, slice_get, ℤ, pos, negsuc, refl, sym, ap, subst, ◌∙◌, unsigned_abs}
-use Rattle.std.specs.Prelude.{◌-ℤ◌, int_le, nat_le}
-use Rattle.std.specs.Int.{int_rem_euclid}
+use Rattle.std.proofs.Common.{arith, ◌≡◌, ◌+◌, ◌*◌, ◌<◌, ◌≤◌, ◌^◌, ℕ, zero, suc, ◌==◌, Bool, true, false, ◌&&◌, if◌then◌else◌}
+use Rattle.std.proofs.Common.{List, [], ◌∷◌, map, length, Option, Some, None, slice_get, ℤ, refl, sym, ap, subst, unsigned_abs}
+use Rattle.std.specs.Prelude.{nat_le}
 use Rattle.std.specs.List.{All}
 use Rattle.std.proofs.lemmas.Bool.Decides.{nat_tests}
-use Rattle.std.proofs.lemmas.Int.{ints}
-use Rattle.std.proofs.lemmas.List.Elements.{All-weaker}
 use Rattle.ub_base.specs.declared.clause.Kind.TheVariants.{Val}
 use Rattle.ub_base.specs.declared.names.ObjName.{ObjName}
 use Rattle.ub_base.specs.declared.names.ObjName.TheVariants as object
@@ -17,14 +14,10 @@ use Rattle.c_types.specs.declared.kind.IntKind.TheVariants.{Bool as Boolean, Cha
 use Rattle.c_types.specs.declared.tags.Extent.{Extent}
 use Rattle.c_types.specs.declared.tags.Member.{Member}
 use Rattle.c_types.specs.declared.tags.Tag.{Tag}
-use Rattle.c_types.specs.Kinds.{width, greatest, holds}
 use Rattle.c_types.specs.Layout.{Known, bytes, extent, extents, extent_of_tag, repeated, limited, and_then, padded, if_any, members_extent, no_members, known_by}
 use Rattle.c_types.specs.Types.{CType, void, int, enumeration, pointer, array, struct, union, function}
-use Rattle.c_arith.specs.Operators as arithmetic
-use Rattle.c_arith.specs.Operators.{bits, conv, is_bool, modulus, of_bits}
 use Rattle.c_arith.proofs.Bounds.{held_small}
 use Rattle.c_typed.specs.declared.program.Program.{Program}
-use Rattle.c_typed.specs.declared.tree.Change.{Change}
 use Rattle.c_typed.specs.declared.tree.Change.TheVariants as change
 use Rattle.c_typed.specs.declared.tree.Conversion.TheVariants as conversion
 use Rattle.c_typed.specs.declared.tree.Node.{Node}
@@ -41,12 +34,12 @@ use Rattle.mem_spec.specs.Acts.{base_in}
 use Rattle.c_model.specs.Nodes.{amount}
 use Rattle.c_model.specs.Program as model
 use Rattle.c_model.specs.Program.{Expr, expr, Exprs, none, more, Head, tree_of}
-use Rattle.c_model.specs.Steps.{Scene, first_quiet, moved_place, name_of, null_of, pointer_to, quiet_value, target, values_of}
+use Rattle.c_model.specs.Steps.{Scene, first_quiet, moved_place, name_of, null_of, quiet_value, target, values_of}
 use Rattle.c_model.specs.Values.{Value, Int, Ptr, Fun, Whole, Missing, Nothing, integer_of, or_nothing, value_at}
 use Rattle.c_model.specs.World.{World}
 use Rattle.program_view.specs.Trees.{constant_head, expr_of, exprs_of, is_pointer}
 use Rattle.program_view.proofs.Seen.{node_in, operands_in, own_type, head_in, expr_at, by_size}
-use Rattle.run_acts.specs.Updates.{IsNear, IsNearChange}
+use Rattle.run_acts.specs.Updates.{IsNear}
 use Rattle.run_code.specs.declared.nodes.NodeInfo.{NodeInfo}
 use Rattle.run_code.specs.Numbered.{AreNodes}
 use Rattle.run_events.specs.Nodes.{head_of, IsNearBy}

@@ -1,13 +1,13 @@
 -- What operators give of integers below 2^64 in size is so too, and so is what bytes are the number of.
-use Rattle.std.proofs.Common.{arith, ◌≡◌, ◌+◌, ◌*◌, ◌-◌, ◌/◌, ◌%◌, ◌<◌, ◌≤◌, ◌^◌, ℕ, zero, suc, min, ◌==◌, Bool, true, false, ◌&&◌, if◌then◌else◌, IsTrue}
-use Rattle.std.proofs.Common.{List, [], ◌∷◌, length, take, drop, Option, Some, None, refl, sym, ap, subst, ◌∙◌, ℤ, pos, negsuc, unsigned_abs, Result, Ok, Err}
-use Rattle.std.specs.Prelude.{nat_le, nat_lt, ◌-ℤ◌, ◌+ℤ◌, ◌*ℤ◌, neg_ℤ, int_le, int_lt, bit_and, bit_or, bit_xor}
+use Rattle.std.proofs.Common.{arith, ◌≡◌, ◌+◌, ◌*◌, ◌-◌, ◌/◌, ◌%◌, ◌<◌, ◌≤◌, ◌^◌, ℕ, zero, suc, ◌==◌, Bool, true, false, ◌&&◌, if◌then◌else◌, IsTrue}
+use Rattle.std.proofs.Common.{List, [], ◌∷◌, length, refl, ap, subst, ◌∙◌, ℤ, pos, negsuc, unsigned_abs, Result, Ok, Err}
+use Rattle.std.specs.Prelude.{nat_le, ◌-ℤ◌, ◌+ℤ◌, ◌*ℤ◌, neg_ℤ, int_le, int_lt, bit_and, bit_or, bit_xor}
 use Rattle.std.specs.Int.{int_rem_euclid, int_div_euclid}
 use Rattle.std.specs.Int.RustNames.{int_div, int_rem}
 use Rattle.std.specs.List.{All}
 use Rattle.std.proofs.lemmas.Bool.Decides.{nat_tests}
 use Rattle.std.proofs.lemmas.Int.{ints}
-use Rattle.std.proofs.lemmas.List.Elements.{All-nil, All-cons, All-head, All-tail}
+use Rattle.std.proofs.lemmas.List.Elements.{All-head, All-tail}
 use Rattle.std.proofs.lemmas.Nat.{and_le_l, or_lt, xor_lt}
 use Rattle.ub_base.specs.declared.clause.Clause.{Clause}
 use Rattle.ub_base.specs.declared.clause.Clause.TheVariants.{DivideByZero, Unrepresentable, ShiftCount, LeftShift, Exceptional}
@@ -16,10 +16,10 @@ use Rattle.c_types.specs.declared.kind.IntKind.TheVariants.{Bool as Boolean, Cha
 use Rattle.c_types.specs.declared.kind.BinOp.{BinOp}
 use Rattle.c_types.specs.declared.kind.BinOp.TheVariants.{Add, Sub, Mul, Div, Rem, Shl, Shr, BitAnd, BitXor, BitOr}
 use Rattle.c_types.specs.Kinds.{width, is_signed, greatest, holds}
-use Rattle.c_arith.specs.Operators.{bits, bitwise, complemented, conv, divided, fitted, is_count, is_operand, modulus, negated, is_bool, of_bits, shifted, shifted_left, shifted_right, truth, value, wrapped}
+use Rattle.c_arith.specs.Operators.{bits, complemented, conv, divided, fitted, is_count, is_operand, modulus, negated, is_bool, of_bits, shifted, shifted_left, shifted_right, truth, value, wrapped}
 use Rattle.c_arith.proofs.Bounds.{held_small}
 use Rattle.c_model.specs.Nodes.{operated}
-use Rattle.mem_spec.specs.Acts.{number_in, number_of, value_of}
+use Rattle.mem_spec.specs.Acts.{number_of, value_of}
 use Rattle.mem_spec.specs.Agreement.{bytes_of_kind}
 use Rattle.mem_spec.specs.Store.{TaggedByte}
 use Rattle.run_laws.specs.Small.{IsSmallByte}

@@ -1,18 +1,16 @@
 -- What a script gives is small, and leaves small bytes, where it meets small bytes.
-use Rattle.std.proofs.Common.{arith, ◌≡◌, ◌+◌, ◌*◌, ◌-◌, ◌/◌, ◌%◌, ◌<◌, ◌≤◌, ◌^◌, ℕ, zero, suc, min, Bool, true, false, ◌&&◌, if◌then◌else◌}
-use Rattle.std.proofs.Common.{List, [], ◌∷◌, ◌++◌, length, take, drop, Option, Some, None, refl, sym, ap, subst, ◌∙◌, ℤ, pos}
-use Rattle.std.specs.Prelude.{nat_le, nat_lt, is_some, slice_index_or}
+use Rattle.std.proofs.Common.{arith, ◌≡◌, ◌+◌, ◌-◌, ℕ, zero, suc, Bool, true, false, ◌&&◌, if◌then◌else◌}
+use Rattle.std.proofs.Common.{List, [], ◌∷◌, length, refl, subst}
+use Rattle.std.specs.Prelude.{nat_le, nat_lt, slice_index_or}
 use Rattle.std.specs.List.{All}
 use Rattle.std.proofs.lemmas.List.Elements.{All-nil, All-cons, All-head, All-tail}
 use Rattle.ub_base.specs.declared.clause.Clause.{Clause}
 use Rattle.ub_base.specs.declared.names.Item.{Item}
-use Rattle.ub_base.specs.declared.names.ObjName.{ObjName}
 use Rattle.ub_base.specs.Names.{same_object}
 use Rattle.addr_map.specs.declared.map.Row.{Row}
-use Rattle.mem_spec.specs.Acts.{number_in, number_of}
 use Rattle.mem_spec.specs.Script.{Script, Give, Raise, Finish, Exceed, Misplace, Do, Touch, Ask, Get, Put, Bear, Bury, Show, Find, Settle, Take, Print}
-use Rattle.mem_spec.specs.Script.{Act, Done, Raised, Ended, Outside, Unplaced, Answer, answer, item_of, left, refused, refuses, run, touched, ◌>>=◌, ◌>>◌, require, touch}
-use Rattle.mem_spec.specs.Store.{Store, TaggedByte, born, buried, fresh, range_from, shown, settled, with_bytes}
+use Rattle.mem_spec.specs.Script.{Act, Done, Raised, Ended, Outside, Unplaced, Answer, answer, item_of, left, refused, refuses, run, touched, ◌>>=◌, ◌>>◌, require}
+use Rattle.mem_spec.specs.Store.{Store, TaggedByte, fresh, range_from}
 use Rattle.run_laws.specs.Small.{HasSmallBytes, IsSmallByte}
 
 -- ---- scripts

@@ -1,7 +1,6 @@
 -- Behind an event that isn't a body the machine stands as picks ask it again.
-use Rattle.std.proofs.Common.{arith, ◌≡◌, ◌+◌, ◌<◌, ◌≤◌, ◌^◌, ℕ, zero, suc, Bool, true, false, if◌then◌else◌, List, length, Option, Some, None, slice_get}
+use Rattle.std.proofs.Common.{arith, ◌≡◌, ◌+◌, ◌<◌, ℕ, zero, suc, Bool, true, false, if◌then◌else◌, List, length, Option, Some, None, slice_get}
 use Rattle.std.proofs.Common.{refl, sym, ap, subst, ◌∙◌}
-use Rattle.std.specs.List.{All}
 use Rattle.std.proofs.lemmas.List.Elements.{All-weaker}
 use Rattle.std.proofs.lemmas.Option.{same_Some, slice_get_within}
 use Rattle.ub_base.specs.declared.names.Event.{Event}
@@ -13,9 +12,8 @@ use Rattle.c_typed.specs.declared.tree.Place.{Place}
 use Rattle.c_typed.specs.declared.tree.Slot.{Slot}
 use Rattle.c_typed.specs.declared.tree.Slot.TheVariants as slot
 use Rattle.c_typed.specs.declared.tree.Typed.{Typed, out-Typed}
-use Rattle.c_typed.specs.Order.{is_val, place, same_place}
+use Rattle.c_typed.specs.Order.{place, same_place}
 use Rattle.c_typed.specs.Sites.{Head, sites}
-use Rattle.c_typed.specs.Tree.{size}
 use Rattle.mem_spec.specs.Store.{Store}
 use Rattle.prov_memory.specs.Memory.{store_of}
 use Rattle.mem_spec.specs.Script.{Script, Done as Acts_done, run}
@@ -42,7 +40,7 @@ use Rattle.run_code.specs.declared.whole.Code.{Code}
 use Rattle.run_code.specs.Choices.{ChoosesAt}
 use Rattle.run_code.specs.EventActs.{IsAct, IsValue, Sight, head_at, sight_of}
 use Rattle.run_code.specs.LaidOut.{LaidOutBy}
-use Rattle.run_listing.specs.Along.{IsListed, part_of}
+use Rattle.run_listing.specs.Along.{IsListed}
 use Rattle.run_state.specs.declared.machine.Machine.{Machine}
 use Rattle.run_state.specs.declared.machine.Open.{Open}
 use Rattle.run_state.specs.declared.machine.Stage.{Stage}
@@ -54,7 +52,7 @@ use Rattle.run_events.specs.Performs.{gives_value}
 use Rattle.run_events.proofs.Nodes.{node_is}
 use Rattle.run_machine.specs.Ending.{NotesWay}
 use Rattle.run_machine.specs.Picks.{event_at, whole_part}
-use Rattle.run_machine.specs.Taking.{Decides, EventStands, HasRooms, IsPast, TakesEvent, after_event, store_after}
+use Rattle.run_machine.specs.Taking.{Decides, EventStands, IsPast, TakesEvent, after_event, store_after}
 use Rattle.code_view.specs.Events.{EventsAreEvaluated, IsListedAt}
 use Rattle.code_view.specs.Named.{NamedIsOpen, NamesAreOpen, SlotIsOpen}
 use Rattle.run_laws.specs.Open.{aside, IsLawfulCode, IsOpen}

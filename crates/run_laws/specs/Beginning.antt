@@ -33,7 +33,7 @@ pub record HasBegun (m : Machine) (s : Stage) (laid : Laid) : Type 0 where
 
 -- The machine stands for a state in which a full expression has begun, with nothing given: its frame has handed on its arguments and has no result yet, and
 -- the frames below keep their values in their rooms.
-pub record StandsBegun (world : World) (meaning : Option ℕ → Meaning) (m : Machine) (st : State) (e : Begun) (s : Stage) (laid : Laid) : Type 0 where
+pub record HasJustBegun (world : World) (meaning : Option ℕ → Meaning) (m : Machine) (st : State) (e : Begun) (s : Stage) (laid : Laid) : Type 0 where
   pub stands : Stands world meaning m st
   pub begun : st.top.begun ≡ Some e
   pub given : (u : Place) → e.given u ≡ None
@@ -46,7 +46,7 @@ pub record StandsBegun (world : World) (meaning : Option ℕ → Meaning) (m : M
 abbrev pub BeginsOpen : Type 0
 BeginsOpen =
     (world : World) (meaning : Option ℕ → Meaning) (m : Machine) (st : State) (e : Begun) (s : Stage) (laid : Laid) (firsts : List ℕ)
-    (nodes : List NodeInfo) → StandsBegun world meaning m st e s laid → IsLawfulCode m.program.now m.code.now
+    (nodes : List NodeInfo) → HasJustBegun world meaning m st e s laid → IsLawfulCode m.program.now m.code.now
     → LaidOutBy firsts nodes m.code.now.tables m.code.now.listing.items laid → IsRoomedBy nodes laid
     → NamesAreOpen m firsts st.top.scene.blocks laid.root.now → EndInTime world.rows → HasSmallBytes st.store → ListsAreSmall e.root
     → IsOpen world meaning m st e s laid firsts nodes

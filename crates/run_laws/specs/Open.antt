@@ -3,7 +3,7 @@ use Rattle.std.specs.Prelude.{◌≡◌, ℕ, List, Option, Some, slice_get}
 use Rattle.ub_base.specs.declared.names.Item.{Item}
 use Rattle.c_typed.specs.declared.program.Program.{Program}
 use Rattle.c_typed.specs.Lawful.{IsLawful}
-use Rattle.c_model.specs.Steps.{Begun, Scene}
+use Rattle.c_model.specs.Steps.{Begun}
 use Rattle.c_model.specs.World.{World}
 use Rattle.run_control.specs.View.{Meaning}
 use Rattle.c_model.specs.Runs.{State}
