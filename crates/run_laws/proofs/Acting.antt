@@ -118,10 +118,12 @@ use Rattle.c_model.specs.Nodes.{
 }
 use Rattle.c_model.specs.Program as model
 use Rattle.c_model.specs.Program.{Content, Filling, Head}
-use Rattle.c_model.specs.Values.{Value, Int, Ptr, Fun, Missing, Nothing, Pointer, address_after, integer_of, part_bytes, pointer_of, pointer_value, unplaced, value_at}
+use Rattle.c_model.specs.Values.{Value, Int, Ptr, Fun, Missing, Nothing, Pointer, address_after, integer_of, part_bytes, pointer_of, pointer_value}
+use Rattle.c_model.specs.Values.{unplaced, value_at}
 use Rattle.c_model.specs.Values as values
 use Rattle.run_laws.specs.Small.{ActsGiveSmall, AreSmallFillings, EndInTime, FillsSmall, IsSmall, IsSmallByte, IsSmallContent}
-use Rattle.run_laws.proofs.Numbers.{bits_below, conv_small, IsSmallResult, complemented_small, eight_below, negated_small, number_below, operated_small, power_le, quotient_le, value_of_small}
+use Rattle.run_laws.proofs.Numbers.{bits_below, conv_small, IsSmallResult, complemented_small, eight_below, negated_small, number_below, operated_small}
+use Rattle.run_laws.proofs.Numbers.{power_le, quotient_le, value_of_small}
 use Rattle.run_laws.proofs.Scripts.{Any, GivesSo, after_so, require_so, runs_so, then_so}
 
 -- where this is required
@@ -166,7 +168,8 @@ module _ (rows : List Row) (len align a : ℕ) where
   access_so : (p : Prov) → GivesSo Any (acts.access rows len align a p)
   access_so p =
       require_then Any (not (a == 0)) InvalidPointer (seen p) (λ e.
-      then_so Any Any (object_of rows len a p) (λ x. touch (Ask x) >>= (λ life. alive x life)) (object_so rows len a p) (λ x any. (tt, λ life g. alive_so x life)))
+      then_so Any Any (object_of rows len a p) (λ x. touch (Ask x) >>= (λ life. alive x life)) (object_so rows len a p)
+      (λ x any. (tt, λ life g. alive_so x life)))
 
 show_each_so : (xs : List ObjName) → GivesSo Any (show_each xs)
 show_each_so [] = tt
@@ -317,7 +320,8 @@ stored_small (Some form) via i (b ∷ bs) h =
 writable_so : (first : Bool) (life : Option Life) → GivesSo Any (check_writable first life)
 writable_so true life = tt
 writable_so false life =
-    require_then Any (not (is_literal life)) StoreToLiteral (require (not (is_constant life)) StoreToConst) (λ e. require_so (not (is_constant life)) StoreToConst)
+    require_then Any (not (is_literal life)) StoreToLiteral (require (not (is_constant life)) StoreToConst)
+    (λ e. require_so (not (is_constant life)) StoreToConst)
 
 module _ (first : Bool) (via : Seen) (bs : List TaggedByte) (at : Accessed) where
   abbrev put_there : Script (Unit {0})
@@ -432,7 +436,8 @@ shift_is rows ends a (Either id past start) by =
     go false false e f = tt
 
 shifted_so : (rows : List Row) → EndInTime rows → (p : Pointer) (by : ℤ) → GivesSo IsSmall (shifted rows p by)
-shifted_so rows ends p by = then_so IsFew IsSmall (shift rows p.address p.prov by) (λ z. Give (Ptr (unsigned_abs z) p.prov)) (shift_is rows ends p.address p.prov by) (λ z h. h)
+shifted_so rows ends p by = then_so IsFew IsSmall (shift rows p.address p.prov by) (λ z. Give (Ptr (unsigned_abs z) p.prov))
+    (shift_is rows ends p.address p.prov by) (λ z h. h)
 
 settle_to_so : (p : Prov) (x : ObjName) (c : Clause) → GivesSo Any (settle_to p x c)
 settle_to_so Empty x c = tt

@@ -230,8 +230,8 @@ module _ (world : World) (meaning : Option ℕ → Meaning) (m : Machine) (st : 
         permitted world n f e firsts laid.root.now nodes d x laid.first laid.end is.0 objects
         (values_aside world m stage items laid.first laid.end f e values_are) root_is o.lays.numbered at (due_is d x is at)
         (ap (λ es. slice_get es is.0) (sym part) ∙ is.1) may plain (node_stands named d.place.node x at)
-        (near m.program.now world f e.given firsts laid.root.now nodes d.place.node (suc d.place.node) x (o.code.trees s.expression laid o.at) o.lays.numbered at
-        o.ends o.small)
+        (near m.program.now world f e.given firsts laid.root.now nodes d.place.node (suc d.place.node) x (o.code.trees s.expression laid o.at)
+        o.lays.numbered at o.ends o.small)
 
     -- ---- it can be taken
     pub event_is : OpenIsKnown → EventsAreEvaluated → (d : Due) → IsListed (whole_part m s) d → IsEventOf world m.code.now f laid e d

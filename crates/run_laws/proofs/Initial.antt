@@ -56,8 +56,8 @@ module _ (world : World) (meaning : Option ℕ → Meaning) (m : Machine) (st : 
         line = (out-Typed t).line;
         operands = exprs_of (operands_in t);
         node = ap (λ (z : Expr). at_node 0 z d.place.node) (root_is world meaning m st e s laid firsts nodes o)
-            ∙ (node_is firsts laid.root.now nodes d.place.node x o.lays.numbered b.there ∙ (ap Some (expr_at t) ∙ ap (λ (z : Node-F Node Typed). Some (Seen t z))
-            b.isolated));
+            ∙ (node_is firsts laid.root.now nodes d.place.node x o.lays.numbered b.there
+            ∙ (ap Some (expr_at t) ∙ ap (λ (z : Node-F Node Typed). Some (Seen t z)) b.isolated));
         laid = has.0;
         at = has.1;
         root = ap expr_of has.2;

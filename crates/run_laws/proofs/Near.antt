@@ -10,11 +10,13 @@ use Rattle.ub_base.specs.declared.names.ObjName.TheVariants as object
 use Rattle.addr_map.specs.declared.map.Row.{Row}
 use Rattle.addr_map.specs.Rows.{row_of}
 use Rattle.c_types.specs.declared.kind.IntKind.{IntKind}
-use Rattle.c_types.specs.declared.kind.IntKind.TheVariants.{Bool as Boolean, Char, SChar, UChar, Short, UShort, Int as Int_kind, UInt, Long, ULong, LLong, ULLong}
+use Rattle.c_types.specs.declared.kind.IntKind.TheVariants.{Bool as Boolean, Char, SChar, UChar, Short, UShort, Int as Int_kind, UInt, Long, ULong, LLong}
+use Rattle.c_types.specs.declared.kind.IntKind.TheVariants.{ULLong}
 use Rattle.c_types.specs.declared.tags.Extent.{Extent}
 use Rattle.c_types.specs.declared.tags.Member.{Member}
 use Rattle.c_types.specs.declared.tags.Tag.{Tag}
-use Rattle.c_types.specs.Layout.{Known, bytes, extent, extents, extent_of_tag, repeated, limited, and_then, padded, if_any, members_extent, no_members, known_by}
+use Rattle.c_types.specs.Layout.{Known, bytes, extent, extents, extent_of_tag, repeated, limited, and_then, padded, if_any, members_extent, no_members}
+use Rattle.c_types.specs.Layout.{known_by}
 use Rattle.c_types.specs.Types.{CType, void, int, enumeration, pointer, array, struct, union, function}
 use Rattle.c_arith.proofs.Bounds.{held_small}
 use Rattle.c_typed.specs.declared.program.Program.{Program}

@@ -16,7 +16,8 @@ use Rattle.c_types.specs.declared.kind.IntKind.TheVariants.{Bool as Boolean, Cha
 use Rattle.c_types.specs.declared.kind.BinOp.{BinOp}
 use Rattle.c_types.specs.declared.kind.BinOp.TheVariants.{Add, Sub, Mul, Div, Rem, Shl, Shr, BitAnd, BitXor, BitOr}
 use Rattle.c_types.specs.Kinds.{width, is_signed, greatest, holds}
-use Rattle.c_arith.specs.Operators.{bits, complemented, conv, divided, fitted, is_count, is_operand, modulus, negated, is_bool, of_bits, shifted, shifted_left, shifted_right, truth, value, wrapped}
+use Rattle.c_arith.specs.Operators.{bits, complemented, conv, divided, fitted, is_count, is_operand, modulus, negated, is_bool, of_bits, shifted}
+use Rattle.c_arith.specs.Operators.{shifted_left, shifted_right, truth, value, wrapped}
 use Rattle.c_arith.proofs.Bounds.{held_small}
 use Rattle.c_model.specs.Nodes.{operated}
 use Rattle.mem_spec.specs.Acts.{number_of, value_of}
@@ -181,9 +182,12 @@ value_small Rem kind a b h = divided_small kind a b (int_rem a b) (λ e. let l =
 value_small Shl kind a b h = shifted_small kind b (shifted_left kind a b) (left_shift_small kind a b)
 value_small Shr kind a b h =
     shifted_small kind b (Ok (shifted_right a b)) (let l = euclid_le a (2 ^ unsigned_abs b) in omega (arith, l, h))
-value_small BitAnd kind a b h = of_bits_small kind (bit_and (bits kind a) (bits kind b)) (and_below kind (bits kind a) (bits kind b) (bits_below kind a) (bits_below kind b))
-value_small BitXor kind a b h = of_bits_small kind (bit_xor (bits kind a) (bits kind b)) (xor_lt (width kind) (bits kind a) (bits kind b) (bits_below kind a) (bits_below kind b))
-value_small BitOr kind a b h = of_bits_small kind (bit_or (bits kind a) (bits kind b)) (or_lt (width kind) (bits kind a) (bits kind b) (bits_below kind a) (bits_below kind b))
+value_small BitAnd kind a b h = of_bits_small kind (bit_and (bits kind a) (bits kind b))
+    (and_below kind (bits kind a) (bits kind b) (bits_below kind a) (bits_below kind b))
+value_small BitXor kind a b h = of_bits_small kind (bit_xor (bits kind a) (bits kind b))
+    (xor_lt (width kind) (bits kind a) (bits kind b) (bits_below kind a) (bits_below kind b))
+value_small BitOr kind a b h = of_bits_small kind (bit_or (bits kind a) (bits kind b))
+    (or_lt (width kind) (bits kind a) (bits kind b) (bits_below kind a) (bits_below kind b))
 
 pub operated_small : (op : BinOp) (kind : IntKind) (a b : ℤ) → IsSmallResult (operated op kind a b)
 operated_small op kind a b = go (holds kind a && is_operand op kind b) refl

@@ -9,7 +9,8 @@ use Rattle.ub_base.specs.declared.names.Item.{Item}
 use Rattle.ub_base.specs.Names.{same_object}
 use Rattle.addr_map.specs.declared.map.Row.{Row}
 use Rattle.mem_spec.specs.Script.{Script, Give, Raise, Finish, Exceed, Misplace, Do, Touch, Ask, Get, Put, Bear, Bury, Show, Find, Settle, Take, Print}
-use Rattle.mem_spec.specs.Script.{Act, Done, Raised, Ended, Outside, Unplaced, Answer, answer, item_of, left, refused, refuses, run, touched, ◌>>=◌, ◌>>◌, require}
+use Rattle.mem_spec.specs.Script.{Act, Done, Raised, Ended, Outside, Unplaced, Answer, answer, item_of, left, refused, refuses, run, touched, ◌>>=◌, ◌>>◌}
+use Rattle.mem_spec.specs.Script.{require}
 use Rattle.mem_spec.specs.Store.{Store, TaggedByte, fresh, range_from}
 use Rattle.run_laws.specs.Small.{HasSmallBytes, IsSmallByte}
 

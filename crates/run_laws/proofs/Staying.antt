@@ -21,7 +21,8 @@ use Rattle.c_model.specs.Nodes.{act_of}
 use Rattle.c_model.specs.Program as model
 use Rattle.c_model.specs.Program.{Expr, expr, Exprs, Head as Model_head, tree_of}
 use Rattle.c_model.specs.Runs.{State}
-use Rattle.c_model.specs.Steps.{Begun, Scene, at_node, call_act, event_act, event_of, first_type, name_of, operand_values, own_kind, target, values_of, with_given}
+use Rattle.c_model.specs.Steps.{Begun, Scene, at_node, call_act, event_act, event_of, first_type, name_of, operand_values, own_kind, target, values_of}
+use Rattle.c_model.specs.Steps.{with_given}
 use Rattle.c_model.specs.Values.{Value, or_nothing, value_at}
 use Rattle.c_model.specs.World.{World}
 use Rattle.program_view.specs.Trees.{exprs_of}
