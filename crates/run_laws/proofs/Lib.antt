@@ -1,0 +1,11 @@
+mod Asked
+mod Numbers
+mod Scripts
+mod Acting
+mod Sites
+mod Near
+mod Frames
+mod Given
+mod Initial
+mod Beginning
+mod Staying

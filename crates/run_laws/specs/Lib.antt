@@ -1,0 +1,8 @@
+pub mod Asked
+pub mod Small
+pub mod Sited
+pub mod Open
+pub mod Given
+pub mod Initial
+pub mod Beginning
+pub mod Staying
