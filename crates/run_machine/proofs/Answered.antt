@@ -233,12 +233,12 @@ module _ (stands : EventStands) (steps : EventSteps) (world : World) (meaning : 
       ChangesOnly past done d.place.node d.act → (gives_value d.act ≡ false → done.values ≡ past.values) → s.straight ≡ true → (r : Result Pick Halt) →
       FollowsEvent now.code.now who None d done new r → CompletesPick d new r → CompletesAfter world r d.place new (step world st (Ev d.place))
   unfolding takes taken
-  completes_done completes done new did changes effect straight (Ok (pick.Event event completed None)) f noted = λ rows then is first begun.
+  completes_done completes done new did changes effect straight (Ok (pick.Event event completed None)) f noted = λ rows later is first begun.
       let v = did.0 in
       let took = takes done f.2.noted new v did.1 changes effect f.2.notes f.2.decides rows in
       let next = after_event world st e d.place v new.items (store_after new) in
-      let ran : Running next ≡ Running then = sym (steps world meaning m new st e s laid d v took t.act t.within) ∙ is in
-      let same : next ≡ then = cc in
+      let ran : Running next ≡ Running later = sym (steps world meaning m new st e s laid d v took t.act t.within) ∙ is in
+      let same : next ≡ later = cc in
       let both : Some (with_given e d.place v) ≡ Some first = ap (λ (z : State). z.top.begun) same ∙ begun in
       let it : with_given e d.place v ≡ first = cc in
       completes world meaning m new st e s laid d v took straight completed noted

@@ -4,7 +4,7 @@ use Rattle.std.proofs.lemmas.Option.{same_Some}
 use Rattle.std.specs.Borrow.{Bor}
 use Rattle.ub_base.specs.declared.names.Item.{Item}
 use Rattle.c_typed.specs.declared.tree.Place.{Place}
-use Rattle.c_model.specs.Runs.{State, chosen_pick, step}
+use Rattle.c_model.specs.Runs.{State, chosen_pick, step, canonical_pick}
 use Rattle.c_model.specs.Steps.{Begun, Control, Ev, MayPick}
 use Rattle.c_model.specs.World.{World}
 use Rattle.run_control.specs.View.{Meaning}
@@ -16,6 +16,7 @@ use Rattle.run_state.specs.declared.machine.Stage.{Stage}
 use Rattle.run_state.specs.declared.watch.Begun.{Begun as Shown}
 use Rattle.run_machine.specs.declared.pick.Pick.{Pick}
 use Rattle.run_machine.specs.Picks.{at_cursor, top_of, ByWay, ComesNext, Follows, FollowsIn, NextIsPermitted, TakesCanonical}
+use Rattle.run_code.specs.declared.steps.Expression.{Expression}
 use Rattle.run_machine.specs.Completing.{CompletesAfter, CompletesEvent, CompletesNext}
 use Rattle.run_machine.specs.Taking.{AnswersEvent, AnswersNext, AnswersTaken, IsAt, MayTake, MayTakeNext, StandsOpen, at_next}
 use Rattle.run_machine.proofs.Still.{items_stand}
