@@ -69,8 +69,7 @@ pub fn law_events()
     ensures laid { EventsAreInCode }
 {}
 
-/// Where the code has a room for each node of a full expression, and one behind these for each update that gives its old value, no two of them one, what each
-/// update is to store has its room, in which no other node keeps anything (6.5.2.4p2, 6.5.16.2p3).
+/// What each update of a full expression is to store has its room in the code, in which no other node keeps anything (6.5.2.4p2, 6.5.16.2p3).
 pub fn law_rooms()
     ensures { RoomsAreThere }
 {}

@@ -81,6 +81,7 @@ use Rattle.run_code.specs.EventActs.{
 use Rattle.run_code.specs.AtOnce.{chosen_in, chosen_of, Lists}
 use Rattle.run_code.specs.Choices.{Goes, IsChoiceOf, MakesChoice, ChoosesAt}
 use Rattle.run_code.specs.LaidOut.{IsLaidOut}
+use Rattle.run_code.specs.Rooms.{IsRoomedBy}
 use Rattle.run_code.proofs.AtOnce.{lists_grown, front_longer}
 use Rattle.run_code.proofs.Collected.{slice_get-front}
 
@@ -227,6 +228,7 @@ laid_out_grown old new entries more g e l = (
   record {
     numbered = l.2.numbered;
     value = l.2.value;
+    rooms = l.2.rooms;
     chosen = lists_grown old.chosen.items new.chosen.items e.chosen (chosen_of l.0 e.root.now 0) g.chosen l.2.chosen;
     order = l.2.order;
     within = omega (arith, l.2.within, length-append entries more);
@@ -247,10 +249,10 @@ all_grown old new entries longer more es g e h =
 -- one more full expression, whose entries come last
 pub one_more : (tables : Tables) (entries longer more : List Listed) (es : List Expression) (firsts : List ℕ) (nodes : List NodeInfo) (e : Expression) →
     longer ≡ entries ++ more
-    → AreNodes firsts e.root.now nodes → AreEntries firsts tables nodes more → Lists tables.chosen.items e.chosen (chosen_of firsts e.root.now 0)
-    → e.value ≡ resolved firsts e.root.now 0 → e.first ≡ length entries → e.end ≡ length longer
+    → AreNodes firsts e.root.now nodes → IsRoomedBy nodes e.rooms → AreEntries firsts tables nodes more
+    → Lists tables.chosen.items e.chosen (chosen_of firsts e.root.now 0) → e.value ≡ resolved firsts e.root.now 0 → e.first ≡ length entries → e.end ≡ length longer
     → ∥ All (IsLaidOut tables longer) es ∥₁ → ∥ All (IsLaidOut tables longer) (es ++ e ∷ []) ∥₁
-one_more tables entries longer more es firsts nodes e l n a k v f t h =
+one_more tables entries longer more es firsts nodes e l n w a k v f t h =
     let count : length longer ≡ length entries + length more = ap length l ∙ length-append entries more in
     let new : IsLaidOut tables longer e = (
       firsts,
@@ -258,6 +260,7 @@ one_more tables entries longer more es firsts nodes e l n a k v f t h =
       record {
         numbered = n;
         value = v;
+        rooms = w;
         chosen = k;
         order = omega (arith, f, t, count);
         within = omega (arith, t);
@@ -336,12 +339,12 @@ tables_grown old new entries es g h = all_grown old new entries entries [] es g 
 
 pub expression_pushed : (b : Bool) (tables : Tables) (entries longer more : List Listed) (es fs : List Expression) (firsts : List ℕ) (nodes : List NodeInfo)
     (e : Expression) → fs ≡ (if b then es ++ e ∷ [] else es) → longer ≡ entries ++ more
-    → AreNodes firsts e.root.now nodes → AreEntries firsts tables nodes more → Lists tables.chosen.items e.chosen (chosen_of firsts e.root.now 0)
-    → e.value ≡ resolved firsts e.root.now 0 → e.first ≡ length entries → e.end ≡ length longer
+    → AreNodes firsts e.root.now nodes → IsRoomedBy nodes e.rooms → AreEntries firsts tables nodes more
+    → Lists tables.chosen.items e.chosen (chosen_of firsts e.root.now 0) → e.value ≡ resolved firsts e.root.now 0 → e.first ≡ length entries → e.end ≡ length longer
     → ∥ All (IsLaidOut tables longer) es ∥₁ → ∥ All (IsLaidOut tables longer) fs ∥₁
-expression_pushed true tables entries longer more es fs firsts nodes e p l n a k v f t h =
-    subst (λ z. ∥ All (IsLaidOut tables longer) z ∥₁) (sym p) (one_more tables entries longer more es firsts nodes e l n a k v f t h)
-expression_pushed false tables entries longer more es fs firsts nodes e p l n a k v f t h = subst (λ z. ∥ All (IsLaidOut tables longer) z ∥₁) (sym p) h
+expression_pushed true tables entries longer more es fs firsts nodes e p l n w a k v f t h =
+    subst (λ z. ∥ All (IsLaidOut tables longer) z ∥₁) (sym p) (one_more tables entries longer more es firsts nodes e l n w a k v f t h)
+expression_pushed false tables entries longer more es fs firsts nodes e p l n w a k v f t h = subst (λ z. ∥ All (IsLaidOut tables longer) z ∥₁) (sym p) h
 
 -- the value of the root
 pub root_value : (firsts : List ℕ) (root : Typed) (nodes : List NodeInfo) (x : NodeInfo) → AreNodes firsts root nodes →

@@ -1,6 +1,7 @@
 mod Entries
 mod Listings
 mod Collected
+mod Roomed
 mod Grown
 mod Walked
 mod ResolvedLemmas

@@ -7,6 +7,7 @@ pub mod Choosing
 pub mod AtOnce
 pub mod Choices
 pub mod EventActs
+pub mod Rooms
 pub mod LaidOut
 pub mod Fitting
 pub mod Named

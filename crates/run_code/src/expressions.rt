@@ -34,6 +34,7 @@ impl<'p> Expressions<'p> {
     ghost use Rattle.run_code.specs.InRange.{IsRange, IsChoice, IsObject, IsBlock};
     ghost use Rattle.run_code.specs.AtOnce.{chosen_of, Lists};
     ghost use Rattle.run_code.specs.EventActs.{AreGrown, AreEntries};
+    ghost use Rattle.run_code.specs.Rooms.{IsRoomedBy};
     ghost use Rattle.c_typed.specs.Tree.{tree_of, size};
     ghost use Rattle.core_ir.specs.declared.term.Core.{Core as CoreOf};
     ghost use Rattle.run_code.specs.Listings.{entries_of};
@@ -131,6 +132,7 @@ impl<'p> Expressions<'p> {
     ) -> Result<(), NoMemory>
         requires laid_out { (firsts : List ℕ) × AreNodes firsts root.now nodes.now × AreEntries firsts self.old.tables nodes.now entries.now
             × Lists self.old.tables.chosen.items chosen (chosen_of firsts root.now 0) }
+        requires roomed { IsRoomedBy nodes.now rooms }
         requires counted { length nodes.now < 2 ^ 32 }
         ensures order { OnOk result (roots_in self.new.laid.all.items ≡ roots_in self.old.laid.all.items ++ root.now ∷ []) }
         ensures listed { (terms : List CoreOf) → AreOfTerms terms self.old.laid → entries_of entries.now ≡ flat_of (size (tree_of root.now)) (slice_get terms (length self.old.laid.all.items))

@@ -20,7 +20,7 @@ ghost use Rattle.run_code.specs.EventActs.{head_at, pointed, first_type, seen, l
 use crate::choices::{chosen, chosen_at_once, is_choice, operand_number};
 use crate::draft::{Draft, count_of};
 use crate::nodes::{Counts, NodeInfo, collect, operands};
-use crate::numbers::number_of;
+use crate::numbers::{number_of, number_with};
 use crate::steps::{
     Act, CallCode, Choice, Due, Expression, Listed, Operand, Range, StoreCode, Way,
 };
@@ -70,9 +70,9 @@ impl<'p> Draft<'p> {
             olds: 0,
         };
         collect(&self.function.objects, root, None, &mut nodes, &mut counts)?;
+        let rooms = number_with(number_of(nodes.len())?, counts.olds)?;
         let entries = self.listing(terms, &nodes)?;
         let chosen = self.chosen(root, 0, &nodes)?;
-        let rooms = count_of(&nodes).saturating_add(counts.olds);
         let all = &mut self.expressions;
         all.add_expression(root, rooms, chosen, &nodes, &entries)
     }

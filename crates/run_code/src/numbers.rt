@@ -15,6 +15,16 @@ pub fn number_of(count: usize) -> Result<u32, NoMemory>
     }
 }
 
+// As many more.
+pub fn number_with(number: u32, more: u32) -> Result<u32, NoMemory>
+    ensures { IfOk result (λ n. n ≡ number + more) }
+{
+    match number.checked_add(more) {
+        Some(sum) => Ok(sum),
+        None => Err(NoMemory),
+    }
+}
+
 // The number of what comes next in a table.
 pub fn next_number<T>(items: &Vec<T>) -> Result<u32, NoMemory>
     ensures { IfOk result (λ n. n ≡ length items.now.items) }

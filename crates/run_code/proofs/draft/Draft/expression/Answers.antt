@@ -11,6 +11,8 @@ use Rattle.run_code.specs.Fitting.{RootFits, NodesFit, AreFit}
 use Rattle.run_code.proofs.Collected.{nodes_added}
 use Rattle.run_code.proofs.FittingLemmas.{always}
 use Rattle.run_code.proofs.Grown.{entries_grown}
+use Rattle.run_code.specs.Rooms.{AreRoomed, IsRoomedBy}
+use Rattle.run_code.proofs.Roomed.{roomed_by}
 use Rattle.run_code.proofs.draft.Draft.expression.Goals as goal
 
 pub add_expression-requires-clause-laid_out : goal.add_expression-requires-clause-laid_out
@@ -57,3 +59,13 @@ returns-clause-fit c = λ p h t.
     let nodes : NodesFit p c.deref.result.now = subst (NodesFit p) (sym c.deref.ensures.value) (c.in_ok-collect.ensures.fit p h none) in
     always c.add_expression.result _ (subst (AreFit p) (sym c.add_expression.ensures.tables)
     (c.in_ok-chosen.ensures.fit p (c.in_ok-entries.ensures.fit p nodes t)))
+
+pub add_expression-requires-clause-roomed : goal.add_expression-requires-clause-roomed
+add_expression-requires-clause-roomed c =
+    let nodes = c.collect.new.nodes.items in
+    let olds = c.collect.new.counts.olds in
+    let from : AreRoomed 0 nodes 0 olds =
+    subst (λ (ns : List NodeInfo). AreRoomed (length ns) nodes 0 olds) c.new-nodes.ensures.items c.in_ok-collect.ensures.rooms in
+    let rooms : c.in_ok-rooms.rooms ≡ length nodes + olds = omega (arith, c.in_ok-rooms.ensures, c.in_ok-number_of.ensures) in
+    subst (λ ns. IsRoomedBy ns c.in_ok-rooms.rooms) (sym c.deref-3.ensures.value)
+    (roomed_by nodes olds c.in_ok-rooms.rooms rooms (omega arith) from)

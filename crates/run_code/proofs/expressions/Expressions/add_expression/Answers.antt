@@ -35,7 +35,7 @@ invariant_of-self-2 c =
     pushed_longer (is_ok c.extend_from_slice.result) entries longer c.args.entries.now c.extend_from_slice.ensures.items in
     record {
       laid_out = expression_pushed (is_ok c.push.result) tables entries longer c.args.entries.now c.args.self.now.laid.all.items c.push.new.self.items
-          nodes.0 c.args.nodes.now _ c.push.ensures.items c.in_ok-extend_from_slice.ensures.items nodes.1 nodes.2 nodes.3
+          nodes.0 c.args.nodes.now _ c.push.ensures.items c.in_ok-extend_from_slice.ensures.items nodes.1 c.requires.roomed nodes.2 nodes.3
           (root_value nodes.0 c.args.root.now c.args.nodes.now c.index-nodes-0.result nodes.1) first end
           (all_grown tables tables entries longer c.args.entries.now c.args.self.now.laid.all.items (nothing_grown tables)
           c.in_ok-extend_from_slice.ensures.items c.args.self.now.laid_out);
