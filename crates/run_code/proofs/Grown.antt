@@ -93,6 +93,8 @@ nothing_grown tables = record {
   chosen = λ n x h. h;
   choices = λ n x h. h;
   objects = omega arith;
+  each_object = λ n x h. h;
+  blocks = λ n x h. h;
 }
 
 pub grown_both : (first second third : Tables) → AreGrown first second → AreGrown second third → AreGrown first third
@@ -103,6 +105,8 @@ grown_both first second third g h = record {
   chosen = λ n x k. h.chosen n x (g.chosen n x k);
   choices = λ n x k. h.choices n x (g.choices n x k);
   objects = omega (arith, g.objects, h.objects);
+  each_object = λ n x k. h.each_object n x (g.each_object n x k);
+  blocks = λ n x k. h.blocks n x (g.blocks n x k);
 }
 
 stores_grown : (old new : Tables) (how : Access) (first : _) (object : CType) (place value : Operand) (a : Act) → AreGrown old new →

@@ -12,6 +12,7 @@ mod Rooted
 mod Termed
 mod FittingLemmas
 mod Coded
+mod Blocked
 mod AtOnce
 mod ChosenLemmas
 mod Tested

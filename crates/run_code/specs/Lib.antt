@@ -13,5 +13,6 @@ pub mod Fitting
 pub mod Named
 pub mod Roots
 pub mod OfTrees
+pub mod Blocks
 pub mod Chosen
 pub mod Keeping

@@ -1,11 +1,10 @@
 // Code in the making.
-ghost use Rattle.std.specs.Prelude.{◌≡◌};
+ghost use Rattle.std.specs.Prelude.{◌≡◌, ◌-◌, ◌^◌, min, length};
 
 use crate::expressions::{Expressions, Laid};
 use crate::nodes::Objects;
 use crate::steps::FunctionCode;
 use crate::whole::Code;
-use c_typed::Program;
 use std::alloc::Global;
 
 // The function that is in the making.
@@ -19,13 +18,14 @@ pub struct FunctionDraft {
 #[derive(Drop)]
 pub struct Draft<'p> {
     pub alloc: Global,
-    pub program: &'p Program,
     pub expressions: Expressions<'p>,
     pub function: FunctionDraft,
 }
 
 // How many there are.
-pub fn count_of<T>(items: &Vec<T>) -> u32 {
+pub fn count_of<T>(items: &Vec<T>) -> u32
+    ensures { result ≡ min (length items.now.items) (2 ^ 32 - 1) }
+{
     u32::try_from(items.len()).unwrap_or(u32::MAX)
 }
 
@@ -38,7 +38,6 @@ pub fn finished<'p>(draft: Draft<'p>, functions: Vec<Option<FunctionCode>>) -> C
 {
     let Draft {
         alloc: _,
-        program: _,
         expressions,
         function: _,
     } = draft;

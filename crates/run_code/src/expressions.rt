@@ -60,6 +60,8 @@ impl<'p> Expressions<'p> {
         ensures at { IfOk result (λ n. slice_get self.new.tables.stores.items n ≡ Some store.entry) }
         ensures grown { AreGrown self.old.tables self.new.tables }
         ensures fit { (p : ProgramOf) → StoreFits store.entry → AreFit p self.old.tables → AreFit p self.new.tables }
+        ensures objects { self.new.tables.objects.items ≡ self.old.tables.objects.items }
+        ensures blocks { self.new.tables.blocks.items ≡ self.old.tables.blocks.items }
         ensures kept { self.new.laid ≡ self.old.laid }
     {
         self.tables.add_store(store)
@@ -105,6 +107,9 @@ impl<'p> Expressions<'p> {
 
     pub fn add_object(&mut self, object: ObjectCode) -> Result<(), NoMemory>
         requires { IsObject (length self.old.tables.stores.items) object }
+        ensures added { OnOk result (self.new.tables.objects.items ≡ self.old.tables.objects.items ++ object ∷ []) }
+        ensures stores { self.new.tables.stores.items ≡ self.old.tables.stores.items }
+        ensures blocks { self.new.tables.blocks.items ≡ self.old.tables.blocks.items }
         ensures grown { AreGrown self.old.tables self.new.tables }
         ensures fit { (p : ProgramOf) → AreFit p self.old.tables → AreFit p self.new.tables }
         ensures kept { self.new.laid ≡ self.old.laid }
@@ -114,6 +119,9 @@ impl<'p> Expressions<'p> {
 
     pub fn add_block(&mut self, block: BlockCode) -> Result<(), NoMemory>
         requires { IsBlock (length self.old.tables.objects.items) block }
+        ensures added { OnOk result (self.new.tables.blocks.items ≡ self.old.tables.blocks.items ++ block ∷ []) }
+        ensures few { OnOk result (length self.old.tables.blocks.items < 2 ^ 32) }
+        ensures objects { self.new.tables.objects.items ≡ self.old.tables.objects.items }
         ensures grown { AreGrown self.old.tables self.new.tables }
         ensures fit { (p : ProgramOf) → AreFit p self.old.tables → AreFit p self.new.tables }
         ensures kept { self.new.laid ≡ self.old.laid }

@@ -63,6 +63,7 @@ impl<'p> Draft<'p> {
         ensures order { OnOk result (roots_in self.new.expressions.laid.all.items ≡ roots_in self.old.expressions.laid.all.items ++ root.now ∷ []) }
         ensures listed { AreOfTerms terms.now self.old.expressions.laid → OnOk result (AreOfTerms terms.now self.new.expressions.laid) }
         ensures fit { (p : ProgramOf) → TreeFits p root.now → AreFit p self.old.expressions.tables → OnOk result (AreFit p self.new.expressions.tables) }
+        ensures grown { OnOk result (AreGrown self.old.expressions.tables self.new.expressions.tables) }
     {
         let mut nodes = Vec::new(self.alloc);
         let mut counts = Counts {
@@ -87,6 +88,7 @@ impl<'p> Draft<'p> {
         ensures objects { OnOk result (self.new.function.objects.first.items ≡ self.old.function.objects.first.items) }
         ensures kept { OnOk result (self.new.expressions.laid ≡ self.old.expressions.laid) }
         ensures fit { (p : ProgramOf) → NodesFit p nodes.now → AreFit p self.old.expressions.tables → OnOk result (AreFit p self.new.expressions.tables) }
+        ensures grown { OnOk result (AreGrown self.old.expressions.tables self.new.expressions.tables) }
         ensures due { IfOk result (λ es. AreEntries self.new.function.objects.first.items self.new.expressions.tables nodes.now es.items) }
     {
         let mut entries = Vec::new(self.alloc);
@@ -130,6 +132,7 @@ impl<'p> Draft<'p> {
         ensures objects { OnOk result (self.new.function.objects.first.items ≡ self.old.function.objects.first.items) }
         ensures kept { OnOk result (self.new.expressions.laid ≡ self.old.expressions.laid) }
         ensures fit { (p : ProgramOf) → NodesFit p nodes.now → AreFit p self.old.expressions.tables → OnOk result (AreFit p self.new.expressions.tables) }
+        ensures grown { OnOk result (AreGrown self.old.expressions.tables self.new.expressions.tables) }
         ensures due { AreEntries self.old.function.objects.first.items self.old.expressions.tables nodes.now entries.old.items → OnOk result (AreEntries self.new.function.objects.first.items self.new.expressions.tables nodes.now entries.new.items) }
     {
         match core {
@@ -169,6 +172,7 @@ impl<'p> Draft<'p> {
         ensures objects { OnOk result (self.new.function.objects.first.items ≡ self.old.function.objects.first.items) }
         ensures kept { OnOk result (self.new.expressions.laid ≡ self.old.expressions.laid) }
         ensures fit { (p : ProgramOf) → NodesFit p nodes.now → AreFit p self.old.expressions.tables → OnOk result (AreFit p self.new.expressions.tables) }
+        ensures grown { OnOk result (AreGrown self.old.expressions.tables self.new.expressions.tables) }
         ensures due { AreEntries self.old.function.objects.first.items self.old.expressions.tables nodes.now entries.old.items → OnOk result (AreEntries self.new.function.objects.first.items self.new.expressions.tables nodes.now entries.new.items) }
     {
         let at = entries.len();
@@ -245,6 +249,7 @@ impl<'p> Draft<'p> {
         ensures objects { OnOk result (self.new.function.objects.first.items ≡ self.old.function.objects.first.items) }
         ensures kept { OnOk result (self.new.expressions.laid ≡ self.old.expressions.laid) }
         ensures fit { (p : ProgramOf) → NodesFit p nodes.now → AreFit p self.old.expressions.tables → OnOk result (AreFit p self.new.expressions.tables) }
+        ensures grown { OnOk result (AreGrown self.old.expressions.tables self.new.expressions.tables) }
         ensures due { AreEntries self.old.function.objects.first.items self.old.expressions.tables nodes.now entries.old.items → OnOk result (AreEntries self.new.function.objects.first.items self.new.expressions.tables nodes.now entries.new.items) }
     {
         let Some(info) = nodes.get(number as usize) else {

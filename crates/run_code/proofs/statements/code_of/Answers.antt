@@ -8,6 +8,9 @@ use Rattle.run_code.specs.declared.draft.Draft.{Draft}
 use Rattle.run_code.specs.OfTrees.{OfTerms, AreOfTerms}
 use Rattle.run_code.specs.Roots.{roots_in, code_trees, block_in, trees_in, AreCodeOf}
 use Rattle.run_code.specs.Fitting.{TreeFits, AreFit}
+use Rattle.run_code.specs.Blocks.{HaveBlocks, taken_by}
+use Rattle.run_code.proofs.Blocked.{all_blocks, has_code, next_blocks, no_code}
+use Rattle.run_code.proofs.Grown.{nothing_grown}
 use Rattle.run_code.proofs.FittingLemmas.{part_fits}
 use Rattle.run_code.proofs.Coded.{all_coded, have_code}
 use Rattle.run_code.proofs.Rooted.{block_of, no_block, laid_block, laid_none, no_trees, all_same}
@@ -25,6 +28,7 @@ loop-function-init c = (
   ),
   none_termed c.args.terms.now c.new.result.laid.entries.items c.new.result.laid.all.items c.new.ensures.none,
   λ p h. c.new.ensures.fit p,
+  subst (HaveBlocks c.args.program.now.tags c.new.result.tables []) (sym c.new-functions.ensures.items) tt,
 )
 
 pub loop-function-preserved : goal.loop-function-preserved
@@ -81,6 +85,32 @@ loop-function-preserved c =
         | in-Some+in_default w ↦ λ p h. subst (λ d. AreFit p d.expressions.tables) (sym w.draft-is) (c.loop-function.invariant.2 p h)
         | in-None w ↦ λ p h. subst (λ d. AreFit p d.expressions.tables) (sym w.draft-is) (c.loop-function.invariant.2 p h)
       ],
+      elim c.match-function.branch [
+        | in-Some+in-Block+in_ok-function-in-Block w ↦
+            let tags = c.args.program.now.tags in
+            let told = w.in_ok-function-in-Block.ensures in
+            let now = w.function-in-Block.new.self in
+            subst (λ (d : Draft). HaveBlocks tags d.expressions.tables (take (i + 1) items) c.push.new.self.items) (sym w.draft-is)
+            (next_blocks tags c.loop-function.draft.expressions.tables now.expressions.tables (take i items) (take (i + 1) items) c.loop-function.functions.items
+            c.push.new.self.items f c.match-function.code after c.in_ok-push.ensures.items told.grown
+            (has_code tags now.expressions.tables (taken_by f) (block_in f.body) w.in-Block.block c.match-function.code w.in_ok-function-in-Block.field-0
+            (block_of f w.in-Some.body w.in-Block.block w.in-Some.is w.in-Block.is) w.code-is told.blocks)
+            c.loop-function.invariant.3)
+        | in-Some+in_default w ↦
+            let tags = c.args.program.now.tags in
+            let now = c.loop-function.draft.expressions.tables in
+            subst (λ (d : Draft). HaveBlocks tags d.expressions.tables (take (i + 1) items) c.push.new.self.items) (sym w.draft-is)
+            (next_blocks tags now now (take i items) (take (i + 1) items) c.loop-function.functions.items c.push.new.self.items f c.match-function.code after
+            c.in_ok-push.ensures.items (nothing_grown now) (no_code tags now (taken_by f) (block_in f.body) c.match-function.code w.code-is)
+            c.loop-function.invariant.3)
+        | in-None w ↦
+            let tags = c.args.program.now.tags in
+            let now = c.loop-function.draft.expressions.tables in
+            subst (λ (d : Draft). HaveBlocks tags d.expressions.tables (take (i + 1) items) c.push.new.self.items) (sym w.draft-is)
+            (next_blocks tags now now (take i items) (take (i + 1) items) c.loop-function.functions.items c.push.new.self.items f c.match-function.code after
+            c.in_ok-push.ensures.items (nothing_grown now) (no_code tags now (taken_by f) (block_in f.body) c.match-function.code w.code-is)
+            c.loop-function.invariant.3)
+      ],
     )
 
 pub returns-clause-bodies : goal.returns-clause-bodies
@@ -126,3 +156,10 @@ returns-clause-listed c = λ h given formed.
 
 pub returns-clause-fit : goal.returns-clause-fit
 returns-clause-fit c = λ p h. subst (AreFit p) (sym c.finished.ensures.tables) (c.loop-function.invariant.2 p h)
+
+pub returns-clause-blocks : goal.returns-clause-blocks
+returns-clause-blocks c =
+    all_blocks c.args.program.now.tags c.loop-function.draft.expressions.tables c.finished.result.tables c.args.program.now.functions
+    c.as_slice-function-items.result.now c.loop-function.function-index c.loop-function.functions.items c.finished.result.functions.items
+    (omega (arith, c.loop-function-test.false)) c.as_slice-function-items.ensures c.finished.ensures.functions c.finished.ensures.tables
+    c.loop-function.invariant.3

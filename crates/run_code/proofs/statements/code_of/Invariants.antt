@@ -1,6 +1,7 @@
 use Rattle.std.proofs.Common.{◌≡◌, ◌++◌, map, flat_map, take, drop}
 use Rattle.std.specs.List.{All}
 use Rattle.c_typed.specs.declared.program.Program.{Program}
+use Rattle.run_code.specs.Blocks.{HaveBlocks}
 use Rattle.run_code.specs.Fitting.{TreeFits, AreFit}
 use Rattle.run_code.specs.OfTrees.{AreOfTerms}
 use Rattle.run_code.specs.Roots.{roots_in, code_trees, AreCodeOf}
@@ -15,3 +16,4 @@ invariant-loop-function l =
     × AreCodeOf l.numbers (take l.function-index l.function-items) l.functions.items)
     × AreOfTerms l.terms l.draft.expressions.laid
     × ((p : Program) → All (TreeFits p) (flat_map code_trees l.program.functions) → AreFit p l.draft.expressions.tables)
+    × HaveBlocks l.program.tags l.draft.expressions.tables (take l.function-index l.function-items) l.functions.items

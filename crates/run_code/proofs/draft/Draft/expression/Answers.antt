@@ -1,8 +1,9 @@
 use Rattle.std.proofs.Common.{◌≡◌, [], None, length, slice_get, sym, ap, subst, ◌∙◌}
 use Rattle.c_typed.specs.Tree.{tree_of, size}
 use Rattle.std.proofs.lemmas.List.Elements.{All-nil}
-use Rattle.run_code.specs.EventActs.{AreEntries}
+use Rattle.run_code.specs.EventActs.{AreEntries, AreGrown}
 use Rattle.run_code.specs.declared.expressions.Laid.{Laid}
+use Rattle.run_code.specs.declared.tables.Tables.{Tables}
 use Rattle.run_code.specs.Listings.{entries_of}
 use Rattle.run_code.specs.OfTrees.{flat_of, AreOfTerms}
 use Rattle.run_code.specs.Numbered.{AreAdded, AreNodes}
@@ -13,6 +14,7 @@ use Rattle.run_code.proofs.FittingLemmas.{always}
 use Rattle.run_code.proofs.Grown.{entries_grown}
 use Rattle.run_code.specs.Rooms.{AreRoomed, IsRoomedBy}
 use Rattle.run_code.proofs.Roomed.{roomed_by}
+use Rattle.run_code.proofs.Grown.{entries_grown, grown_both}
 use Rattle.run_code.proofs.draft.Draft.expression.Goals as goal
 
 pub add_expression-requires-clause-laid_out : goal.add_expression-requires-clause-laid_out
@@ -69,3 +71,7 @@ add_expression-requires-clause-roomed c =
     let rooms : c.in_ok-rooms.rooms ≡ length nodes + olds = omega (arith, c.in_ok-rooms.ensures, c.in_ok-number_of.ensures) in
     subst (λ ns. IsRoomedBy ns c.in_ok-rooms.rooms) (sym c.deref-3.ensures.value)
     (roomed_by nodes olds c.in_ok-rooms.rooms rooms (omega arith) from)
+pub returns-clause-grown : goal.returns-clause-grown
+returns-clause-grown c =
+    always c.add_expression.result _ (subst (λ (t : Tables). AreGrown c.args.self.now.expressions.tables t) (sym c.add_expression.ensures.tables)
+    (grown_both _ _ _ c.in_ok-entries.ensures.grown c.in_ok-chosen.ensures.grown))

@@ -6,6 +6,7 @@ use Rattle.c_typed.specs.declared.tree.Typed.{Typed}
 use Rattle.run_code.specs.Fitting.{TreeFits}
 use Rattle.run_code.specs.Roots.{roots_in}
 use Rattle.run_code.proofs.FittingLemmas.{next_mapped_fits, mapped_drop}
+use Rattle.run_code.proofs.Grown.{grown_both}
 use Rattle.run_code.proofs.Rooted.{next_mapped}
 use Rattle.run_code.proofs.draft.Draft.expressions.Goals as goal
 
@@ -21,6 +22,7 @@ loop-root-preserved c =
       λ h. c.in_ok-expression.ensures.listed (c.loop-root.invariant.1 h),
       λ p all h. c.in_ok-expression.ensures.fit p (next_mapped_fits (TreeFits p) (λ (r : Bor Typed). r.now) items rest i root left all)
           (c.loop-root.invariant.2 p all h),
+      grown_both _ _ _ c.loop-root.invariant.3 c.in_ok-expression.ensures.grown,
     )
 
 pub returns-clause-fit : goal.returns-clause-fit

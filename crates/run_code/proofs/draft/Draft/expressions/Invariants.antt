@@ -1,6 +1,7 @@
 use Rattle.std.proofs.Common.{◌≡◌, ◌++◌, map, drop}
 use Rattle.std.specs.List.{All}
 use Rattle.c_typed.specs.declared.program.Program.{Program}
+use Rattle.run_code.specs.EventActs.{AreGrown}
 use Rattle.run_code.specs.Fitting.{TreeFits, AreFit}
 use Rattle.run_code.specs.OfTrees.{AreOfTerms}
 use Rattle.run_code.specs.Roots.{roots_in}
@@ -13,3 +14,4 @@ invariant-loop-root l =
     ≡ roots_in l.fn.self.expressions.laid.all.items ++ map (λ root. root.now) l.rest)
     × (AreOfTerms l.terms l.fn.self.expressions.laid → AreOfTerms l.terms l.self.expressions.laid)
     × ((p : Program) → All (TreeFits p) (map (λ root. root.now) l.rest) → AreFit p l.fn.self.expressions.tables → AreFit p l.self.expressions.tables)
+    × AreGrown l.fn.self.expressions.tables l.self.expressions.tables

@@ -1,0 +1,472 @@
+-- The blocks of functions, with their objects.
+use Rattle.std.proofs.Common.{rules, arith, ◌≡◌, ◌≤◌, ◌<◌, ℕ, zero, suc, ◌+◌, ◌-◌, ◌^◌, min, max, List, [], ◌∷◌, ◌++◌, length, map, take, drop, get_or}
+use Rattle.std.proofs.Common.{Option, Some, None, Result, Ok, Err, OnOk, slice_get, refl, sym, ap, subst, ◌∙◌}
+use Rattle.std.proofs.lemmas.List.{drop_more, drop_all, length-append, length-map, take_all}
+use Rattle.c_types.specs.declared.tags.Tag.{Tag}
+use Rattle.c_types.specs.declared.ty.Qual.{Qual}
+use Rattle.c_types.specs.Types.{Qualified, qualified_of}
+use Rattle.c_typed.specs.declared.tree.Typed.{Typed}
+use Rattle.c_typed.specs.declared.statement.Body.{Body, out-Body, out-roll-Body}
+use Rattle.c_typed.specs.declared.statement.Body.TheOpen as form
+use Rattle.c_typed.specs.declared.statement.Body.TheFolds as typed
+use Rattle.c_typed.specs.declared.statement.Body.TheVariants as body
+use Rattle.c_typed.specs.declared.statement.Block.{Block, out-Block, fold_out-Block}
+use Rattle.c_typed.specs.declared.statement.Entry.{Entry, fold-Entry}
+use Rattle.c_typed.specs.declared.statement.Entry.TheVariants as entry
+use Rattle.c_typed.specs.declared.statement.ForStart.{ForStart, fold-ForStart}
+use Rattle.c_typed.specs.declared.statement.ForStart.TheVariants as start
+use Rattle.c_typed.specs.declared.program.Function.{Function}
+use Rattle.c_typed.specs.Sites.{BlockRow, Summary, summary, summary_step, entry_summary, start_summary, block_summary, entries_summary, declared_in}
+use Rattle.run_objects.specs.Extents.{extent_of}
+use Rattle.run_code.specs.declared.steps.BlockCode.{BlockCode}
+use Rattle.run_code.specs.declared.steps.FunctionCode.{FunctionCode}
+use Rattle.run_code.specs.declared.steps.ObjectCode.{ObjectCode}
+use Rattle.run_code.specs.declared.steps.Range.{Range}
+use Rattle.run_code.specs.declared.steps.StoreCode.{StoreCode}
+use Rattle.run_code.specs.declared.tables.Tables.{Tables}
+use Rattle.run_code.specs.EventActs.{AreGrown}
+use Rattle.run_code.specs.Blocks.{
+  AddsBlocks,
+  AddsObject,
+  AddsObjects,
+  AreBlocksFrom,
+  AreObjectsFrom,
+  HasBlocks,
+  HasBlocksOf,
+  HaveBlocks,
+  IsBlockAt,
+  IsBlockOf,
+  IsObjectAt,
+  IsObjectOf,
+  counted_by,
+  entry_rows,
+  objects_in,
+  rows_of,
+  rows_of_block,
+  start_rows,
+  taken_by,
+}
+use Rattle.run_code.specs.Roots.{as_block, block_in}
+use Rattle.run_code.proofs.Grown.{grown_both, nothing_grown}
+
+-- ---- what stands in the tables stands there as more is added
+object_later : (tags : List Tag) (old new : Tables) (q : Qualified) (o : ObjectCode) → AreGrown old new → IsObjectOf tags old.stores.items q o →
+    IsObjectOf tags new.stores.items q o
+object_later tags old new q o g h = record {
+  size = h.size;
+  align = h.align;
+  constant = h.constant;
+  form = h.form;
+  by = h.by;
+  at = g.stores o.store h.by h.at;
+  access = h.access;
+  initializing = h.initializing;
+  ty = h.ty;
+}
+
+pub objects_later : (tags : List Tag) (old new : Tables) (at : ℕ) (qs : List Qualified) → AreGrown old new → AreObjectsFrom tags old at qs →
+    AreObjectsFrom tags new at qs
+objects_later tags old new at [] g h = tt
+objects_later tags old new at (q ∷ qs) g h =
+    ((h.0.0, g.each_object at h.0.0 h.0.1, object_later tags old new q h.0.0 g h.0.2), objects_later tags old new (suc at) qs g h.1)
+
+block_later : (tags : List Tag) (old new : Tables) (at before taken : ℕ) (qs : List Qualified) → AreGrown old new →
+    IsBlockAt tags old at before taken qs → IsBlockAt tags new at before taken qs
+block_later tags old new at before taken qs g h = (
+  h.0,
+  g.blocks at h.0 h.1,
+  record {
+    objects = objects_later tags old new h.0.objects.first qs g h.2.objects;
+    count = h.2.count;
+    first = h.2.first;
+    few = h.2.few;
+    arguments = h.2.arguments;
+    created = h.2.created;
+  },
+  h.3,
+)
+
+pub blocks_later : (tags : List Tag) (old new : Tables) (at before taken : ℕ) (rows : List BlockRow) → AreGrown old new →
+    AreBlocksFrom tags old at before taken rows → AreBlocksFrom tags new at before taken rows
+blocks_later tags old new at before taken [] g h = tt
+blocks_later tags old new at before taken (r ∷ rs) g h = (
+  block_later tags old new at before taken r.objects g h.0,
+  blocks_later tags old new (suc at) (before + length r.objects) 0 rs g h.1,
+)
+
+has_later : (tags : List Tag) (old new : Tables) (taken : ℕ) (o : Option Block) (c : Option FunctionCode) → AreGrown old new →
+    HasBlocksOf tags taken old o c → HasBlocksOf tags taken new o c
+has_later tags old new taken None c g h = tt
+has_later tags old new taken (Some b) None g h = tt
+has_later tags old new taken (Some b) (Some c) g h =
+    record { blocks = blocks_later tags old new c.blocks 0 taken (rows_of_block b) g h.blocks; objects = h.objects; few = h.few }
+
+pub have_later : (tags : List Tag) (old new : Tables) (fs : List Function) (cs : List (Option FunctionCode)) → AreGrown old new →
+    HaveBlocks tags old fs cs → HaveBlocks tags new fs cs
+have_later tags old new [] [] g h = tt
+have_later tags old new [] (c ∷ cs) g h = absurd h
+have_later tags old new (f ∷ fs) [] g h = absurd h
+have_later tags old new (f ∷ fs) (c ∷ cs) g h =
+    (has_later tags old new (taken_by f) (block_in f.body) c g h.0, have_later tags old new fs cs g h.1)
+
+have_more : (tags : List Tag) (t : Tables) (fs : List Function) (cs : List (Option FunctionCode)) (f : Function) (c : Option FunctionCode) →
+    HaveBlocks tags t fs cs → HasBlocksOf tags (taken_by f) t (block_in f.body) c → HaveBlocks tags t (fs ++ f ∷ []) (cs ++ c ∷ [])
+have_more tags t [] [] f c h k = (k, tt)
+have_more tags t [] (d ∷ ds) f c h k = absurd h
+have_more tags t (g ∷ gs) [] f c h k = absurd h
+have_more tags t (g ∷ gs) (d ∷ ds) f c h k = (h.0, have_more tags t gs ds f c h.1 k)
+
+-- one function more, and the tables that it leaves
+pub next_blocks : (tags : List Tag) (old new : Tables) (before after : List Function) (cs more : List (Option FunctionCode)) (f : Function)
+    (c : Option FunctionCode) → after ≡ before ++ f ∷ [] → more ≡ cs ++ c ∷ [] → AreGrown old new → HasBlocksOf tags (taken_by f) new (block_in f.body) c →
+    HaveBlocks tags old before cs → HaveBlocks tags new after more
+next_blocks tags old new before after cs more f c is pushed g one h =
+    subst (λ fs. HaveBlocks tags new fs more) (sym is) (subst (λ ds. HaveBlocks tags new (before ++ f ∷ []) ds) (sym pushed)
+    (have_more tags new before cs f c (have_later tags old new before cs g h) one))
+
+pub no_code : (tags : List Tag) (t : Tables) (taken : ℕ) (o : Option Block) (c : Option FunctionCode) → c ≡ None → HasBlocksOf tags taken t o c
+no_code tags t taken None c e = tt
+no_code tags t taken (Some b) None e = tt
+no_code tags t taken (Some b) (Some c) e = absurd (cc)
+
+pub has_code : (tags : List Tag) (t : Tables) (taken : ℕ) (o : Option Block) (b : Block) (oc : Option FunctionCode) (c : FunctionCode) → o ≡ Some b →
+    oc ≡ Some c → HasBlocks tags taken (rows_of_block b) t c → HasBlocksOf tags taken t o oc
+has_code tags t taken o b oc c is code h =
+    subst (λ z. HasBlocksOf tags taken t z oc) (sym is) (subst (HasBlocksOf tags taken t (Some b)) (sym code) h)
+
+-- where all functions were gone through
+pub all_blocks : (tags : List Tag) (t u : Tables) (fs items : List Function) (i : ℕ) (cs ds : List (Option FunctionCode)) → length items ≤ i → items ≡ fs →
+    ds ≡ cs → u ≡ t → HaveBlocks tags t (take i items) cs → HaveBlocks tags u fs ds
+all_blocks tags t u fs items i cs ds end is same e h =
+    subst (λ z. HaveBlocks tags z fs ds) (sym e) (subst (HaveBlocks tags t fs) (sym same)
+    (subst (λ (z : List Function). HaveBlocks tags t z cs) (take_all i items end ∙ is) h))
+
+-- ---- blocks in turn
+moved : (tags : List Tag) (t : Tables) (rows : List BlockRow) (at at2 before before2 : ℕ) → at ≡ at2 → before ≡ before2 →
+    AreBlocksFrom tags t at before 0 rows → AreBlocksFrom tags t at2 before2 0 rows
+moved tags t rows at at2 before before2 e f h =
+    subst (λ n. AreBlocksFrom tags t n before2 0 rows) e (subst (λ n. AreBlocksFrom tags t at n 0 rows) f h)
+
+blocks_both : (tags : List Tag) (t : Tables) (at before : ℕ) (xs ys : List BlockRow) → AreBlocksFrom tags t at before 0 xs →
+    AreBlocksFrom tags t (at + length xs) (before + objects_in xs) 0 ys → AreBlocksFrom tags t at before 0 (xs ++ ys)
+blocks_both tags t at before [] ys h k = moved tags t ys (at + 0) at (before + 0) before (omega arith) (omega arith) k
+blocks_both tags t at before (x ∷ xs) ys h k = (
+  h.0,
+  blocks_both tags t (suc at) (before + length x.objects) xs ys h.1
+      (moved tags t ys (at + length (x ∷ xs)) (suc at + length xs) (before + (length x.objects + objects_in xs))
+      (before + length x.objects + objects_in xs) (omega arith) (omega arith) k),
+)
+
+objects_both : (xs ys : List BlockRow) → objects_in (xs ++ ys) ≡ objects_in xs + objects_in ys
+objects_both [] ys = omega arith
+objects_both (x ∷ xs) ys = omega (arith, objects_both xs ys)
+
+module _ (tags : List Tag) where
+  pub adds_none : (t : Tables) (n : ℕ) → AddsBlocks tags 0 [] t n t n
+  adds_none t n = record {
+    grown = nothing_grown t;
+    blocks = tt;
+    many = omega arith;
+    objects = omega arith;
+    count = omega arith;
+  }
+
+  pub adds_both : (xs ys : List BlockRow) (a b c : Tables) (l m n : ℕ) → AddsBlocks tags 0 xs a l b m → AddsBlocks tags 0 ys b m c n →
+      AddsBlocks tags 0 (xs ++ ys) a l c n
+  adds_both xs ys a b c l m n p q =
+      let sum = objects_both xs ys in record {
+        grown = grown_both a b c p.grown q.grown;
+        blocks = blocks_both tags c (length a.blocks.items) l xs ys (blocks_later tags b c (length a.blocks.items) l 0 xs q.grown p.blocks)
+            (moved tags c ys (length b.blocks.items) (length a.blocks.items + length xs) m (l + objects_in xs) p.many p.count q.blocks);
+        many = omega (arith, p.many, q.many, length-append xs ys);
+        objects = omega (arith, p.objects, q.objects, sum);
+        count = omega (arith, p.count, q.count, sum);
+      }
+
+  pub adds_head : (taken : ℕ) (r : BlockRow) (rs : List BlockRow) (a b c : Tables) (l m n : ℕ) → AddsBlocks tags taken (r ∷ []) a l b m →
+      AddsBlocks tags 0 rs b m c n → AddsBlocks tags taken (r ∷ rs) a l c n
+  adds_head taken r rs a b c l m n p q = record {
+    grown = grown_both a b c p.grown q.grown;
+    blocks = (
+      block_later tags b c (length a.blocks.items) l taken r.objects q.grown p.blocks.0,
+      moved tags c rs (length b.blocks.items) (suc (length a.blocks.items)) m (l + length r.objects) (omega (arith, p.many)) (omega (arith, p.count)) q.blocks,
+    );
+    many = omega (arith, p.many, q.many);
+    objects = omega (arith, p.objects, q.objects);
+    count = omega (arith, p.count, q.count);
+  }
+
+  -- what the objects of the functions before are
+  pub adds_base : (taken : ℕ) (rows : List BlockRow) (a b : Tables) (l m base : ℕ) → AddsBlocks tags taken rows a l b m →
+      l + base ≡ length a.objects.items → m + base ≡ length b.objects.items
+  adds_base taken rows a b l m base h e = omega (arith, h.count, h.objects, e)
+
+  pub adds_same : (taken : ℕ) (rows all : List BlockRow) (a b : Tables) (l m : ℕ) → all ≡ rows → AddsBlocks tags taken rows a l b m →
+      AddsBlocks tags taken all a l b m
+  adds_same taken rows all a b l m e h = subst (λ rs. AddsBlocks tags taken rs a l b m) (sym e) h
+
+-- ---- the blocks of each form of statement
+blocks_as : (s t : Summary) → s ≡ t → s.blocks ≡ t.blocks
+blocks_as s t e = ap (λ (z : Summary). z.blocks) e
+
+pub of_block : (x : Body) (b : Block) → x ≡ body.Block b → rows_of x ≡ rows_of_block b
+of_block x b e =
+    let whole : rows_of (body.Block b) ≡ rows_of_block b = search (rules, typed.the_lemmas) in
+    ap rows_of e ∙ whole
+
+pub of_if : (x : Body) (t : Typed) (y z : Body) (o : Option Body) → x ≡ body.If t y o → o ≡ Some z → rows_of x ≡ rows_of y ++ rows_of z
+of_if x t y z o e f =
+    let whole : rows_of (body.If t y (Some z)) ≡ rows_of y ++ rows_of z = search (rules, typed.the_lemmas) in
+    ap rows_of (e ∙ ap (body.If t y) f) ∙ whole
+
+pub of_if_only : (x : Body) (t : Typed) (y : Body) (o : Option Body) → x ≡ body.If t y o → o ≡ None → rows_of x ≡ rows_of y
+of_if_only x t y o e f =
+    let whole : rows_of (body.If t y None) ≡ rows_of y = search (rules, typed.the_lemmas) in
+    ap rows_of (e ∙ ap (body.If t y) f) ∙ whole
+
+pub of_switch : (x : Body) (t : Typed) (y : Body) → x ≡ body.Switch t y → rows_of x ≡ rows_of y
+of_switch x t y e =
+    let whole : rows_of (body.Switch t y) ≡ rows_of y = search (rules, typed.the_lemmas) in
+    ap rows_of e ∙ whole
+
+pub of_while : (x : Body) (t : Typed) (y : Body) → x ≡ body.While t y → rows_of x ≡ rows_of y
+of_while x t y e =
+    let whole : rows_of (body.While t y) ≡ rows_of y = search (rules, typed.the_lemmas) in
+    ap rows_of e ∙ whole
+
+pub of_do : (x y : Body) (t : Typed) → x ≡ body.Do y t → rows_of x ≡ rows_of y
+of_do x y t e =
+    let whole : rows_of (body.Do y t) ≡ rows_of y = search (rules, typed.the_lemmas) in
+    ap rows_of e ∙ whole
+
+pub of_for : (x : Body) (s : ForStart) (test step : Option Typed) (y : Body) → x ≡ body.For s test step y → rows_of x ≡ start_rows s ++ rows_of y
+of_for x s test step y e =
+    let whole : rows_of (body.For s test step y) ≡ start_rows s ++ rows_of y = search (rules, typed.the_lemmas) in
+    ap rows_of e ∙ whole
+
+pub of_label : (x : Body) (k : ℕ) (y : Body) → x ≡ body.Label k y → rows_of x ≡ rows_of y
+of_label x k y e =
+    let whole : rows_of (body.Label k y) ≡ rows_of y = search (rules, typed.the_lemmas) in
+    ap rows_of e ∙ whole
+
+pub of_case : (x : Body) (k : _) (y : Body) → x ≡ body.Case k y → rows_of x ≡ rows_of y
+of_case x k y e =
+    let whole : rows_of (body.Case k y) ≡ rows_of y = search (rules, typed.the_lemmas) in
+    ap rows_of e ∙ whole
+
+pub of_default : (x y : Body) → x ≡ body.Default y → rows_of x ≡ rows_of y
+of_default x y e =
+    let whole : rows_of (body.Default y) ≡ rows_of y = search (rules, typed.the_lemmas) in
+    ap rows_of e ∙ whole
+
+pub of_simple : (x : Body) (o : Option Typed) → x ≡ body.Simple o → rows_of x ≡ []
+of_simple x o e =
+    let whole : rows_of (body.Simple o) ≡ [] = search (rules, typed.the_lemmas) in
+    ap rows_of e ∙ whole
+
+pub of_return : (x : Body) (o : Option Typed) → x ≡ body.Return o → rows_of x ≡ []
+of_return x o e =
+    let whole : rows_of (body.Return o) ≡ [] = search (rules, typed.the_lemmas) in
+    ap rows_of e ∙ whole
+
+pub of_goto : (x : Body) (k : ℕ) → x ≡ body.Goto k → rows_of x ≡ []
+of_goto x k e =
+    let whole : rows_of (body.Goto k) ≡ [] = search (rules, typed.the_lemmas) in
+    ap rows_of e ∙ whole
+
+pub of_continue : (x : Body) → x ≡ body.Continue → rows_of x ≡ []
+of_continue x e =
+    let whole : rows_of body.Continue ≡ [] = search (rules, typed.the_lemmas) in
+    ap rows_of e ∙ whole
+
+pub of_break : (x : Body) → x ≡ body.Break → rows_of x ≡ []
+of_break x e =
+    let whole : rows_of body.Break ≡ [] = search (rules, typed.the_lemmas) in
+    ap rows_of e ∙ whole
+
+pub of_declared : (s : ForStart) (b : Block) → s ≡ start.Declared b → start_rows s ≡ rows_of_block b
+of_declared s b e =
+    let whole : start_rows (start.Declared b) ≡ rows_of_block b = search (rules, typed.the_lemmas) in
+    ap start_rows e ∙ whole
+
+pub of_empty : (s : ForStart) → s ≡ start.Empty → start_rows s ≡ []
+of_empty s e =
+    let whole : start_rows start.Empty ≡ [] = search (rules, typed.the_lemmas) in
+    ap start_rows e ∙ whole
+
+pub of_value : (s : ForStart) (t : Typed) → s ≡ start.Value t → start_rows s ≡ []
+of_value s t e =
+    let whole : start_rows (start.Value t) ≡ [] = search (rules, typed.the_lemmas) in
+    ap start_rows e ∙ whole
+
+pub of_statement : (e : Entry) (x : Body) → e ≡ entry.Statement x → entry_rows e ≡ rows_of x
+of_statement e x is =
+    let whole : entry_rows (entry.Statement x) ≡ rows_of x = search (rules, typed.the_lemmas) in
+    ap entry_rows is ∙ whole
+
+pub of_initializer : (e : Entry) (t : Typed) → e ≡ entry.Initializer t → entry_rows e ≡ []
+of_initializer e t is =
+    let whole : entry_rows (entry.Initializer t) ≡ [] = search (rules, typed.the_lemmas) in
+    ap entry_rows is ∙ whole
+
+pub of_declare : (e : Entry) (d : ℕ) → e ≡ entry.Declare d → entry_rows e ≡ []
+of_declare e d is =
+    let whole : entry_rows (entry.Declare d) ≡ [] = search (rules, typed.the_lemmas) in
+    ap entry_rows is ∙ whole
+
+-- those of a block, and of its entries from one on
+abbrev entry_seen : Entry → Summary × List ℕ
+entry_seen = fold-Entry Summary (Summary × List ℕ) Summary Summary summary_step entry_summary start_summary block_summary
+
+abbrev pub rows_in : List Entry → List BlockRow
+rows_in es = (entries_summary (map entry_seen es)).blocks
+
+abbrev pub row_of : Block → BlockRow
+row_of b = record {
+  number = (out-Block b).number;
+  objects = map qualified_of (out-Block b).objects;
+  declares = declared_in (map entry_seen (out-Block b).entries);
+}
+
+pub whole_block : (b : Block) (entries : List Entry) → entries ≡ (out-Block b).entries → rows_of_block b ≡ row_of b ∷ rows_in entries
+whole_block b entries e =
+    blocks_as _ _ (fold_out-Block Summary (Summary × List ℕ) Summary Summary summary_step entry_summary start_summary block_summary b)
+    ∙ ap (λ es. row_of b ∷ rows_in es) (sym e)
+
+pub next_entry : (items : List Entry) (i : ℕ) (x : Entry) → i < length items → x ≡ get_or items i x →
+    rows_in (drop i items) ≡ entry_rows x ++ rows_in (drop (i + 1) items)
+next_entry items i x l e = ap rows_in (drop_more items i x l ∙ ap (λ (z : Entry). z ∷ drop (i + 1) items) (sym e))
+
+pub no_entry : (items : List Entry) (i : ℕ) → length items ≤ i → rows_in (drop i items) ≡ []
+no_entry items i end = ap rows_in (drop_all i items end)
+
+-- ---- a function
+few_blocks : (tags : List Tag) (taken : ℕ) (t : Tables) (at : ℕ) (rows : List BlockRow) (r : BlockRow) (rs : List BlockRow) → rows ≡ r ∷ rs →
+    AreBlocksFrom tags t at 0 taken rows → at < 2 ^ 32
+few_blocks tags taken t at rows r rs e h =
+    let there : AreBlocksFrom tags t at 0 taken (r ∷ rs) = subst (AreBlocksFrom tags t at 0 taken) e h in
+    there.0.3
+
+pub function_blocks : (tags : List Tag) (taken arguments first n : ℕ) (b : Block) (a t u : Tables) (c : FunctionCode) → first ≡ 0 → arguments ≡ taken →
+    c.blocks ≡ min (length a.blocks.items) (2 ^ 32 - 1) → c.objects ≡ n → n < 2 ^ 32 → AreGrown t u →
+    AddsBlocks tags arguments (rows_of_block b) a first t n → HasBlocks tags taken (rows_of_block b) u c
+function_blocks tags taken arguments first n b a t u c none is at objects few g h =
+    let rows = rows_of_block b in
+    let from : AreBlocksFrom tags t (length a.blocks.items) 0 taken rows =
+    subst (λ k. AreBlocksFrom tags t (length a.blocks.items) 0 k rows) is
+    (subst (λ k. AreBlocksFrom tags t (length a.blocks.items) k arguments rows) none h.blocks) in
+    let less = few_blocks tags taken t (length a.blocks.items) rows (row_of b) (rows_in (out-Block b).entries) (whole_block b (out-Block b).entries refl) from in
+    let same : c.blocks ≡ length a.blocks.items = omega (arith, at, less) in
+    let count : n ≡ objects_in rows = omega (arith, none, h.count) in record {
+      blocks = subst (λ k. AreBlocksFrom tags u k 0 taken rows) (sym same) (blocks_later tags t u (length a.blocks.items) 0 taken rows g from);
+      objects = objects ∙ count;
+      few = omega (arith, few, count);
+    }
+
+-- the block of a body that is one
+pub block_here : (b : Block) → block_in (Some (body.Block b)) ≡ Some b
+block_here b = ap (λ z. as_block (out-Body z)) (sym (body.rolls-Block b)) ∙ ap as_block (out-roll-Body (form.Block b))
+
+-- ---- one object more
+last_there : {A : Type 0} (xs : List A) (x : A) → slice_get (xs ++ x ∷ []) (length xs) ≡ Some x
+last_there [] x = refl
+last_there (y ∷ ys) x = last_there ys x
+
+pub next_object : (tags : List Tag) (old now new : Tables) (first i : ℕ) (q : Qualified) (qs : List Qualified) → AddsObject tags q old now →
+    length old.objects.items ≡ first + i → AreGrown now new → AreObjectsFrom tags new (first + (i + 1)) qs → AreObjectsFrom tags new (first + i) (q ∷ qs)
+next_object tags old now new first i q qs a at g rest =
+    let there : slice_get now.objects.items (first + i) ≡ Some a.object =
+    ap (λ xs. slice_get xs (first + i)) a.all ∙ (ap (slice_get (old.objects.items ++ a.object ∷ [])) (sym at) ∙ last_there old.objects.items a.object) in
+    let next : first + (i + 1) ≡ suc (first + i) = omega arith in (
+      (a.object, g.each_object (first + i) a.object there, object_later tags now new q a.object g a.is),
+      subst (λ n. AreObjectsFrom tags new n qs) next rest,
+    )
+
+pub longer_by_one : (tags : List Tag) (q : Qualified) (old now : Tables) (first i : ℕ) → AddsObject tags q old now → length old.objects.items ≡ first + i →
+    length now.objects.items ≡ first + (i + 1)
+longer_by_one tags q old now first i a at = omega (arith, at, ap length a.all ∙ length-append old.objects.items (a.object ∷ []))
+
+pub next_qual : (items : List Qual) (i : ℕ) (x : Qual) → i < length items → x ≡ get_or items i x →
+    map qualified_of (drop i items) ≡ qualified_of x ∷ map qualified_of (drop (i + 1) items)
+next_qual items i x l e = ap (map qualified_of) (drop_more items i x l ∙ ap (λ (z : Qual). z ∷ drop (i + 1) items) (sym e))
+
+pub next_counted : (tags : List Tag) (items : List Qual) (i n one more all : ℕ) (x : Qual) → i < length items → x ≡ get_or items i x →
+    one ≡ max (extent_of tags (qualified_of x).ty).size 16 → more ≡ min (n + one) (2 ^ 62) → counted_by tags n (map qualified_of (drop i items)) ≡ all →
+    counted_by tags more (map qualified_of (drop (i + 1) items)) ≡ all
+next_counted tags items i n one more all x l e is sum h =
+    ap (λ k. counted_by tags k (map qualified_of (drop (i + 1) items))) (sum ∙ ap (λ k. min (n + k) (2 ^ 62)) is)
+    ∙ (sym (ap (counted_by tags n) (next_qual items i x l e)) ∙ h)
+
+-- all of them
+pub all_objects : (tags : List Tag) (old now : Tables) (b : Block) (items : List Qual) (first i bytes : ℕ) (range : Range) → items ≡ (out-Block b).objects →
+    i ≤ length items → length items ≤ i → first ≡ length old.objects.items → AreGrown old now → length now.objects.items ≡ first + i →
+    counted_by tags bytes (map qualified_of (drop i items)) ≡ counted_by tags 0 (map qualified_of items) →
+    ((new : Tables) → AreGrown now new → AreObjectsFrom tags new (first + i) (map qualified_of (drop i items)) →
+    AreObjectsFrom tags new first (map qualified_of items)) →
+    range.first ≡ first → range.first + range.count ≡ length now.objects.items → length now.objects.items < 2 ^ 32 →
+    AddsObjects tags (map qualified_of (out-Block b).objects) old now range bytes
+all_objects tags old now b items first i bytes range is low high start g many counted objects at whole few =
+    let none : drop i items ≡ [] = drop_all i items high in
+    let count : length (map qualified_of items) ≡ length items = length-map items qualified_of in
+    let from : AreObjectsFrom tags now first (map qualified_of items) =
+    objects now (nothing_grown now) (subst (λ qs. AreObjectsFrom tags now (first + i) (map qualified_of qs)) (sym none) tt) in
+    let all : AddsObjects tags (map qualified_of items) old now range bytes = record {
+      grown = g;
+      objects = subst (λ n. AreObjectsFrom tags now n (map qualified_of items)) (sym at) from;
+      many = omega (arith, many, start, low, high, count);
+      few = few;
+      count = omega (arith, many, at, whole, low, high, count);
+      counted = ap (λ qs. counted_by tags bytes (map qualified_of qs)) (sym none) ∙ counted;
+    } in
+    subst (λ qs. AddsObjects tags (map qualified_of qs) old now range bytes) is all
+
+-- ---- one block more
+on_both : {A B : Type 0} (r : Result A B) (P Q R : Type 0) → (P → Q → R) → OnOk r P → OnOk r Q → OnOk r R
+on_both (Ok x) P Q R f p q = f p q
+on_both (Err e) P Q R f p q = tt
+
+one_block : (tags : List Tag) (taken : ℕ) (row : BlockRow) (old mid new : Tables) (range : Range) (bytes number after base : ℕ) →
+    AddsObjects tags row.objects old mid range bytes → mid.blocks.items ≡ old.blocks.items → AreGrown mid new → new.objects.items ≡ mid.objects.items →
+    number + base ≡ length old.objects.items → after ≡ min (number + range.count) (2 ^ 32 - 1) →
+    new.blocks.items ≡ mid.blocks.items ++ (record { objects = range; first = number; arguments = taken; created = bytes }) ∷ [] →
+    length mid.blocks.items < 2 ^ 32 → AddsBlocks tags taken (row ∷ []) old number new after
+one_block tags taken row old mid new range bytes number after base a blocks g objects numbered sum added few =
+    let block : BlockCode = record { objects = range; first = number; arguments = taken; created = bytes } in
+    let many : length new.objects.items ≡ length old.objects.items + length row.objects = ap length objects ∙ a.many in
+    let there : slice_get new.blocks.items (length old.blocks.items) ≡ Some block =
+    ap (λ bs. slice_get new.blocks.items (length bs)) (sym blocks)
+    ∙ (ap (λ bs. slice_get bs (length mid.blocks.items)) added ∙ last_there mid.blocks.items block) in
+    let same : length mid.blocks.items ≡ length old.blocks.items = ap length blocks in
+    let longer : length new.blocks.items ≡ length mid.blocks.items + 1 = ap length added ∙ length-append mid.blocks.items (block ∷ []) in
+    let bound : number + length row.objects < 2 ^ 32 = omega (arith, a.many, a.few, numbered) in record {
+      grown = grown_both old mid new a.grown g;
+      blocks = (
+        (
+          block,
+          there,
+          record {
+            objects = objects_later tags mid new range.first row.objects g a.objects;
+            count = a.count;
+            first = refl;
+            few = bound;
+            arguments = refl;
+            created = a.counted;
+          },
+          omega (arith, few, same),
+        ),
+        tt,
+      );
+      many = omega (arith, same, longer);
+      objects = omega (arith, many);
+      count = omega (arith, sum, a.count, bound);
+    }
+
+pub block_added : {E : Type 0} (r : Result (Unit {0}) E) (tags : List Tag) (taken : ℕ) (row : BlockRow) (qs : List Qualified) (old mid new : Tables)
+    (range : Range) (bytes number after base : ℕ) → row.objects ≡ qs → AddsObjects tags qs old mid range bytes → mid.blocks.items ≡ old.blocks.items →
+    AreGrown mid new → new.objects.items ≡ mid.objects.items → number + base ≡ length old.objects.items → after ≡ min (number + range.count) (2 ^ 32 - 1) →
+    OnOk r (new.blocks.items ≡ mid.blocks.items ++ (record { objects = range; first = number; arguments = taken; created = bytes }) ∷ []) →
+    OnOk r (length mid.blocks.items < 2 ^ 32) → OnOk r (AddsBlocks tags taken (row ∷ []) old number new after)
+block_added r tags taken row qs old mid new range bytes number after base is a blocks g objects numbered sum added few =
+    on_both r _ _ _
+    (one_block tags taken row old mid new range bytes number after base (subst (λ z. AddsObjects tags z old mid range bytes) (sym is) a) blocks g objects
+    numbered sum) added few
