@@ -1,10 +1,12 @@
 -- The blocks of functions, with their objects.
-use Rattle.std.proofs.Common.{rules, arith, ◌≡◌, ◌≤◌, ◌<◌, ℕ, zero, suc, ◌+◌, ◌-◌, ◌^◌, min, max, List, [], ◌∷◌, ◌++◌, length, map, take, drop, get_or}
+use Rattle.std.proofs.Common.{rules, arith, ◌≡◌, ◌≤◌, ◌<◌, ℕ, zero, suc, ◌+◌, ◌-◌, ◌^◌, min, max, true, option_map, List, [], ◌∷◌, ◌++◌, length, map, take, drop, get_or}
 use Rattle.std.proofs.Common.{Option, Some, None, Result, Ok, Err, OnOk, slice_get, refl, sym, ap, subst, ◌∙◌}
-use Rattle.std.proofs.lemmas.List.{drop_more, drop_all, length-append, length-map, take_all}
+use Rattle.std.proofs.lemmas.List.{append-nil, append_assoc, drop_more, drop_all, length-append, length-map}
 use Rattle.c_types.specs.declared.tags.Tag.{Tag}
 use Rattle.c_types.specs.declared.ty.Qual.{Qual}
-use Rattle.c_types.specs.Types.{Qualified, qualified_of}
+use Rattle.c_types.specs.declared.ty.Ty.TheFolds as types
+use Rattle.c_types.specs.Shapes.{Form, form_of}
+use Rattle.c_types.specs.Types.{Qualified, qualified_of, type_of}
 use Rattle.c_typed.specs.declared.tree.Typed.{Typed}
 use Rattle.c_typed.specs.declared.statement.Body.{Body, out-Body, out-roll-Body}
 use Rattle.c_typed.specs.declared.statement.Body.TheOpen as form
@@ -15,9 +17,9 @@ use Rattle.c_typed.specs.declared.statement.Entry.{Entry, fold-Entry}
 use Rattle.c_typed.specs.declared.statement.Entry.TheVariants as entry
 use Rattle.c_typed.specs.declared.statement.ForStart.{ForStart, fold-ForStart}
 use Rattle.c_typed.specs.declared.statement.ForStart.TheVariants as start
-use Rattle.c_typed.specs.declared.program.Function.{Function}
 use Rattle.c_typed.specs.Sites.{BlockRow, Summary, summary, summary_step, entry_summary, start_summary, block_summary, entries_summary, declared_in}
-use Rattle.run_objects.specs.Extents.{extent_of}
+use Rattle.run_objects.specs.Extents.{extent_of, is_constant, HasForm}
+use Rattle.run_code.specs.declared.draft.FunctionDraft.{FunctionDraft}
 use Rattle.run_code.specs.declared.steps.BlockCode.{BlockCode}
 use Rattle.run_code.specs.declared.steps.FunctionCode.{FunctionCode}
 use Rattle.run_code.specs.declared.steps.ObjectCode.{ObjectCode}
@@ -31,21 +33,18 @@ use Rattle.run_code.specs.Blocks.{
   AddsObjects,
   AreBlocksFrom,
   AreObjectsFrom,
-  HasBlocks,
-  HasBlocksOf,
-  HaveBlocks,
   IsBlockAt,
-  IsBlockOf,
-  IsObjectAt,
   IsObjectOf,
+  access_by,
   counted_by,
   entry_rows,
+  firsts_from,
   objects_in,
   rows_of,
   rows_of_block,
   start_rows,
-  taken_by,
 }
+use Rattle.run_code.specs.Functions.{HasBlocks}
 use Rattle.run_code.specs.Roots.{as_block, block_in}
 use Rattle.run_code.proofs.Grown.{grown_both, nothing_grown}
 
@@ -94,52 +93,10 @@ blocks_later tags old new at before taken (r ∷ rs) g h = (
   blocks_later tags old new (suc at) (before + length r.objects) 0 rs g h.1,
 )
 
-has_later : (tags : List Tag) (old new : Tables) (taken : ℕ) (o : Option Block) (c : Option FunctionCode) → AreGrown old new →
-    HasBlocksOf tags taken old o c → HasBlocksOf tags taken new o c
-has_later tags old new taken None c g h = tt
-has_later tags old new taken (Some b) None g h = tt
-has_later tags old new taken (Some b) (Some c) g h =
-    record { blocks = blocks_later tags old new c.blocks 0 taken (rows_of_block b) g h.blocks; objects = h.objects; few = h.few }
-
-pub have_later : (tags : List Tag) (old new : Tables) (fs : List Function) (cs : List (Option FunctionCode)) → AreGrown old new →
-    HaveBlocks tags old fs cs → HaveBlocks tags new fs cs
-have_later tags old new [] [] g h = tt
-have_later tags old new [] (c ∷ cs) g h = absurd h
-have_later tags old new (f ∷ fs) [] g h = absurd h
-have_later tags old new (f ∷ fs) (c ∷ cs) g h =
-    (has_later tags old new (taken_by f) (block_in f.body) c g h.0, have_later tags old new fs cs g h.1)
-
-have_more : (tags : List Tag) (t : Tables) (fs : List Function) (cs : List (Option FunctionCode)) (f : Function) (c : Option FunctionCode) →
-    HaveBlocks tags t fs cs → HasBlocksOf tags (taken_by f) t (block_in f.body) c → HaveBlocks tags t (fs ++ f ∷ []) (cs ++ c ∷ [])
-have_more tags t [] [] f c h k = (k, tt)
-have_more tags t [] (d ∷ ds) f c h k = absurd h
-have_more tags t (g ∷ gs) [] f c h k = absurd h
-have_more tags t (g ∷ gs) (d ∷ ds) f c h k = (h.0, have_more tags t gs ds f c h.1 k)
-
--- one function more, and the tables that it leaves
-pub next_blocks : (tags : List Tag) (old new : Tables) (before after : List Function) (cs more : List (Option FunctionCode)) (f : Function)
-    (c : Option FunctionCode) → after ≡ before ++ f ∷ [] → more ≡ cs ++ c ∷ [] → AreGrown old new → HasBlocksOf tags (taken_by f) new (block_in f.body) c →
-    HaveBlocks tags old before cs → HaveBlocks tags new after more
-next_blocks tags old new before after cs more f c is pushed g one h =
-    subst (λ fs. HaveBlocks tags new fs more) (sym is) (subst (λ ds. HaveBlocks tags new (before ++ f ∷ []) ds) (sym pushed)
-    (have_more tags new before cs f c (have_later tags old new before cs g h) one))
-
-pub no_code : (tags : List Tag) (t : Tables) (taken : ℕ) (o : Option Block) (c : Option FunctionCode) → c ≡ None → HasBlocksOf tags taken t o c
-no_code tags t taken None c e = tt
-no_code tags t taken (Some b) None e = tt
-no_code tags t taken (Some b) (Some c) e = absurd (cc)
-
-pub has_code : (tags : List Tag) (t : Tables) (taken : ℕ) (o : Option Block) (b : Block) (oc : Option FunctionCode) (c : FunctionCode) → o ≡ Some b →
-    oc ≡ Some c → HasBlocks tags taken (rows_of_block b) t c → HasBlocksOf tags taken t o oc
-has_code tags t taken o b oc c is code h =
-    subst (λ z. HasBlocksOf tags taken t z oc) (sym is) (subst (HasBlocksOf tags taken t (Some b)) (sym code) h)
-
--- where all functions were gone through
-pub all_blocks : (tags : List Tag) (t u : Tables) (fs items : List Function) (i : ℕ) (cs ds : List (Option FunctionCode)) → length items ≤ i → items ≡ fs →
-    ds ≡ cs → u ≡ t → HaveBlocks tags t (take i items) cs → HaveBlocks tags u fs ds
-all_blocks tags t u fs items i cs ds end is same e h =
-    subst (λ z. HaveBlocks tags z fs ds) (sym e) (subst (HaveBlocks tags t fs) (sym same)
-    (subst (λ (z : List Function). HaveBlocks tags t z cs) (take_all i items end ∙ is) h))
+pub has_later : (tags : List Tag) (old new : Tables) (taken : ℕ) (rows : List BlockRow) (c : FunctionCode) → AreGrown old new →
+    HasBlocks tags taken rows old c → HasBlocks tags taken rows new c
+has_later tags old new taken rows c g h =
+    record { blocks = blocks_later tags old new c.blocks 0 taken rows g h.blocks; objects = h.objects; few = h.few }
 
 -- ---- blocks in turn
 moved : (tags : List Tag) (t : Tables) (rows : List BlockRow) (at at2 before before2 : ℕ) → at ≡ at2 → before ≡ before2 →
@@ -161,47 +118,56 @@ objects_both : (xs ys : List BlockRow) → objects_in (xs ++ ys) ≡ objects_in 
 objects_both [] ys = omega arith
 objects_both (x ∷ xs) ys = omega (arith, objects_both xs ys)
 
+firsts_both : (n : ℕ) (xs ys : List BlockRow) → firsts_from n (xs ++ ys) ≡ firsts_from n xs ++ firsts_from (n + objects_in xs) ys
+firsts_both n [] ys = ap (λ m. firsts_from m ys) (omega arith)
+firsts_both n (x ∷ xs) ys =
+    ap (λ ns. n ∷ ns) (firsts_both (n + length x.objects) xs ys
+    ∙ ap (λ m. firsts_from (n + length x.objects) xs ++ firsts_from m ys) (omega arith))
+
+joined : (xs ys zs before mid after : List ℕ) → mid ≡ before ++ xs → after ≡ mid ++ ys → zs ≡ xs ++ ys → after ≡ before ++ zs
+joined xs ys zs before mid after e f g =
+    f ∙ (ap (λ ns. ns ++ ys) e ∙ (append_assoc before xs ys ∙ ap (λ ns. before ++ ns) (sym g)))
+
 module _ (tags : List Tag) where
-  pub adds_none : (t : Tables) (n : ℕ) → AddsBlocks tags 0 [] t n t n
-  adds_none t n = record {
+  pub adds_none : (t : Tables) (d : FunctionDraft) → AddsBlocks tags 0 [] t d t d
+  adds_none t d = record {
     grown = nothing_grown t;
     blocks = tt;
     many = omega arith;
-    objects = omega arith;
     count = omega arith;
+    firsts = sym (append-nil d.objects.first.items);
   }
 
-  pub adds_both : (xs ys : List BlockRow) (a b c : Tables) (l m n : ℕ) → AddsBlocks tags 0 xs a l b m → AddsBlocks tags 0 ys b m c n →
+  pub adds_both : (xs ys : List BlockRow) (a b c : Tables) (l m n : FunctionDraft) → AddsBlocks tags 0 xs a l b m → AddsBlocks tags 0 ys b m c n →
       AddsBlocks tags 0 (xs ++ ys) a l c n
   adds_both xs ys a b c l m n p q =
-      let sum = objects_both xs ys in record {
+      let sum = objects_both xs ys in
+      let next : firsts_from m.count ys ≡ firsts_from (l.count + objects_in xs) ys = ap (λ k. firsts_from k ys) p.count in record {
         grown = grown_both a b c p.grown q.grown;
-        blocks = blocks_both tags c (length a.blocks.items) l xs ys (blocks_later tags b c (length a.blocks.items) l 0 xs q.grown p.blocks)
-            (moved tags c ys (length b.blocks.items) (length a.blocks.items + length xs) m (l + objects_in xs) p.many p.count q.blocks);
+        blocks = blocks_both tags c (length a.blocks.items) l.count xs ys (blocks_later tags b c (length a.blocks.items) l.count 0 xs q.grown p.blocks)
+            (moved tags c ys (length b.blocks.items) (length a.blocks.items + length xs) m.count (l.count + objects_in xs) p.many p.count q.blocks);
         many = omega (arith, p.many, q.many, length-append xs ys);
-        objects = omega (arith, p.objects, q.objects, sum);
         count = omega (arith, p.count, q.count, sum);
+        firsts = joined (firsts_from l.count xs) (firsts_from m.count ys) (firsts_from l.count (xs ++ ys)) l.objects.first.items m.objects.first.items
+            n.objects.first.items p.firsts q.firsts (firsts_both l.count xs ys ∙ ap (λ ns. firsts_from l.count xs ++ ns) (sym next));
       }
 
-  pub adds_head : (taken : ℕ) (r : BlockRow) (rs : List BlockRow) (a b c : Tables) (l m n : ℕ) → AddsBlocks tags taken (r ∷ []) a l b m →
+  pub adds_head : (taken : ℕ) (r : BlockRow) (rs : List BlockRow) (a b c : Tables) (l m n : FunctionDraft) → AddsBlocks tags taken (r ∷ []) a l b m →
       AddsBlocks tags 0 rs b m c n → AddsBlocks tags taken (r ∷ rs) a l c n
-  adds_head taken r rs a b c l m n p q = record {
-    grown = grown_both a b c p.grown q.grown;
-    blocks = (
-      block_later tags b c (length a.blocks.items) l taken r.objects q.grown p.blocks.0,
-      moved tags c rs (length b.blocks.items) (suc (length a.blocks.items)) m (l + length r.objects) (omega (arith, p.many)) (omega (arith, p.count)) q.blocks,
-    );
-    many = omega (arith, p.many, q.many);
-    objects = omega (arith, p.objects, q.objects);
-    count = omega (arith, p.count, q.count);
-  }
+  adds_head taken r rs a b c l m n p q =
+      let next : m.count ≡ l.count + length r.objects = omega (arith, p.count) in record {
+        grown = grown_both a b c p.grown q.grown;
+        blocks = (
+          block_later tags b c (length a.blocks.items) l.count taken r.objects q.grown p.blocks.0,
+          moved tags c rs (length b.blocks.items) (suc (length a.blocks.items)) m.count (l.count + length r.objects) (omega (arith, p.many)) next q.blocks,
+        );
+        many = omega (arith, p.many, q.many);
+        count = omega (arith, p.count, q.count);
+        firsts = joined (l.count ∷ []) (firsts_from m.count rs) (firsts_from l.count (r ∷ rs)) l.objects.first.items m.objects.first.items
+            n.objects.first.items p.firsts q.firsts (ap (λ k. l.count ∷ firsts_from k rs) (sym next));
+      }
 
-  -- what the objects of the functions before are
-  pub adds_base : (taken : ℕ) (rows : List BlockRow) (a b : Tables) (l m base : ℕ) → AddsBlocks tags taken rows a l b m →
-      l + base ≡ length a.objects.items → m + base ≡ length b.objects.items
-  adds_base taken rows a b l m base h e = omega (arith, h.count, h.objects, e)
-
-  pub adds_same : (taken : ℕ) (rows all : List BlockRow) (a b : Tables) (l m : ℕ) → all ≡ rows → AddsBlocks tags taken rows a l b m →
+  pub adds_same : (taken : ℕ) (rows all : List BlockRow) (a b : Tables) (l m : FunctionDraft) → all ≡ rows → AddsBlocks tags taken rows a l b m →
       AddsBlocks tags taken all a l b m
   adds_same taken rows all a b l m e h = subst (λ rs. AddsBlocks tags taken rs a l b m) (sym e) h
 
@@ -341,33 +307,56 @@ pub no_entry : (items : List Entry) (i : ℕ) → length items ≤ i → rows_in
 no_entry items i end = ap rows_in (drop_all i items end)
 
 -- ---- a function
-few_blocks : (tags : List Tag) (taken : ℕ) (t : Tables) (at : ℕ) (rows : List BlockRow) (r : BlockRow) (rs : List BlockRow) → rows ≡ r ∷ rs →
-    AreBlocksFrom tags t at 0 taken rows → at < 2 ^ 32
-few_blocks tags taken t at rows r rs e h =
-    let there : AreBlocksFrom tags t at 0 taken (r ∷ rs) = subst (AreBlocksFrom tags t at 0 taken) e h in
-    there.0.3
-
-pub function_blocks : (tags : List Tag) (taken arguments first n : ℕ) (b : Block) (a t u : Tables) (c : FunctionCode) → first ≡ 0 → arguments ≡ taken →
-    c.blocks ≡ min (length a.blocks.items) (2 ^ 32 - 1) → c.objects ≡ n → n < 2 ^ 32 → AreGrown t u →
-    AddsBlocks tags arguments (rows_of_block b) a first t n → HasBlocks tags taken (rows_of_block b) u c
-function_blocks tags taken arguments first n b a t u c none is at objects few g h =
+pub function_blocks : (tags : List Tag) (taken : ℕ) (b : Block) (a t u : Tables) (f g : FunctionDraft) (c : FunctionCode) → f.count ≡ 0
+    → c.blocks ≡ length a.blocks.items → c.objects ≡ g.count → g.count < 2 ^ 32 → AreGrown t u → AddsBlocks tags taken (rows_of_block b) a f t g
+    → HasBlocks tags taken (rows_of_block b) u c
+function_blocks tags taken b a t u f g c none at objects few grown h =
     let rows = rows_of_block b in
     let from : AreBlocksFrom tags t (length a.blocks.items) 0 taken rows =
-    subst (λ k. AreBlocksFrom tags t (length a.blocks.items) 0 k rows) is
-    (subst (λ k. AreBlocksFrom tags t (length a.blocks.items) k arguments rows) none h.blocks) in
-    let less = few_blocks tags taken t (length a.blocks.items) rows (row_of b) (rows_in (out-Block b).entries) (whole_block b (out-Block b).entries refl) from in
-    let same : c.blocks ≡ length a.blocks.items = omega (arith, at, less) in
-    let count : n ≡ objects_in rows = omega (arith, none, h.count) in record {
-      blocks = subst (λ k. AreBlocksFrom tags u k 0 taken rows) (sym same) (blocks_later tags t u (length a.blocks.items) 0 taken rows g from);
+    subst (λ k. AreBlocksFrom tags t (length a.blocks.items) k taken rows) none h.blocks in
+    let count : g.count ≡ objects_in rows = omega (arith, none, h.count) in record {
+      blocks = subst (λ k. AreBlocksFrom tags u k 0 taken rows) (sym at) (blocks_later tags t u (length a.blocks.items) 0 taken rows grown from);
       objects = objects ∙ count;
       few = omega (arith, few, count);
     }
+
+-- so the objects of its blocks have numbers from these on
+pub function_firsts : (tags : List Tag) (taken : ℕ) (rows : List BlockRow) (a t : Tables) (f g : FunctionDraft) → f.count ≡ 0 → f.objects.first.items ≡ []
+    → AddsBlocks tags taken rows a f t g → g.objects.first.items ≡ firsts_from 0 rows
+function_firsts tags taken rows a t f g none start h = h.firsts ∙ (ap (λ ns. ns ++ firsts_from f.count rows) start ∙ ap (λ n. firsts_from n rows) none)
 
 -- the block of a body that is one
 pub block_here : (b : Block) → block_in (Some (body.Block b)) ≡ Some b
 block_here b = ap (λ z. as_block (out-Body z)) (sym (body.rolls-Block b)) ∙ ap as_block (out-roll-Body (form.Block b))
 
 -- ---- one object more
+pub qual_type : (q : Qual) → type_of q.ty ≡ (qualified_of q).ty
+qual_type q = search (rules, types.the_lemmas)
+
+pub qual_form : (tags : List Tag) (q : Qual) (form : Option Form) → HasForm tags (type_of q.ty) form → HasForm tags (qualified_of q).ty form
+qual_form tags q form h = subst (λ ty. HasForm tags ty form) (qual_type q) h
+
+pub object_added : (tags : List Tag) (q : Qualified) (old mid new : Tables) (o : ObjectCode) (by : StoreCode) →
+    new.objects.items ≡ mid.objects.items ++ o ∷ [] → mid.objects.items ≡ old.objects.items → new.stores.items ≡ mid.stores.items →
+    slice_get mid.stores.items o.store ≡ Some by → o.size ≡ (extent_of tags q.ty).size → o.align ≡ (extent_of tags q.ty).align →
+    o.constant ≡ is_constant q → HasForm tags q.ty (option_map (λ s. form_of s.value) o.shape) → by.access ≡ access_by tags q.ty →
+    by.initializing ≡ true → type_of by.ty.now ≡ q.ty → AddsObject tags q old new
+object_added tags q old mid new o by all before stores at size align constant form access initializing ty = record {
+  object = o;
+  all = all ∙ ap (λ os. os ++ o ∷ []) before;
+  is = record {
+    size = size;
+    align = align;
+    constant = constant;
+    form = form;
+    by = by;
+    at = ap (λ (xs : List StoreCode). slice_get xs o.store) stores ∙ at;
+    access = access;
+    initializing = initializing;
+    ty = ty;
+  };
+}
+
 last_there : {A : Type 0} (xs : List A) (x : A) → slice_get (xs ++ x ∷ []) (length xs) ≡ Some x
 last_there [] x = refl
 last_there (y ∷ ys) x = last_there ys x
@@ -421,24 +410,18 @@ all_objects tags old now b items first i bytes range is low high start g many co
     subst (λ qs. AddsObjects tags (map qualified_of qs) old now range bytes) is all
 
 -- ---- one block more
-on_both : {A B : Type 0} (r : Result A B) (P Q R : Type 0) → (P → Q → R) → OnOk r P → OnOk r Q → OnOk r R
-on_both (Ok x) P Q R f p q = f p q
-on_both (Err e) P Q R f p q = tt
-
-one_block : (tags : List Tag) (taken : ℕ) (row : BlockRow) (old mid new : Tables) (range : Range) (bytes number after base : ℕ) →
-    AddsObjects tags row.objects old mid range bytes → mid.blocks.items ≡ old.blocks.items → AreGrown mid new → new.objects.items ≡ mid.objects.items →
-    number + base ≡ length old.objects.items → after ≡ min (number + range.count) (2 ^ 32 - 1) →
-    new.blocks.items ≡ mid.blocks.items ++ (record { objects = range; first = number; arguments = taken; created = bytes }) ∷ [] →
-    length mid.blocks.items < 2 ^ 32 → AddsBlocks tags taken (row ∷ []) old number new after
-one_block tags taken row old mid new range bytes number after base a blocks g objects numbered sum added few =
-    let block : BlockCode = record { objects = range; first = number; arguments = taken; created = bytes } in
-    let many : length new.objects.items ≡ length old.objects.items + length row.objects = ap length objects ∙ a.many in
+one_block : (tags : List Tag) (taken : ℕ) (row : BlockRow) (old mid new : Tables) (range : Range) (bytes : ℕ) (before after : FunctionDraft) →
+    AddsObjects tags row.objects old mid range bytes → mid.blocks.items ≡ old.blocks.items → AreGrown mid new →
+    after.count ≡ before.count + range.count → after.count < 2 ^ 32 → after.objects.first.items ≡ before.objects.first.items ++ before.count ∷ [] →
+    new.blocks.items ≡ mid.blocks.items ++ (record { objects = range; first = before.count; arguments = taken; created = bytes }) ∷ [] →
+    length mid.blocks.items < 2 ^ 32 → AddsBlocks tags taken (row ∷ []) old before new after
+one_block tags taken row old mid new range bytes before after a blocks g sum small firsts added few =
+    let block : BlockCode = record { objects = range; first = before.count; arguments = taken; created = bytes } in
     let there : slice_get new.blocks.items (length old.blocks.items) ≡ Some block =
     ap (λ bs. slice_get new.blocks.items (length bs)) (sym blocks)
     ∙ (ap (λ bs. slice_get bs (length mid.blocks.items)) added ∙ last_there mid.blocks.items block) in
     let same : length mid.blocks.items ≡ length old.blocks.items = ap length blocks in
-    let longer : length new.blocks.items ≡ length mid.blocks.items + 1 = ap length added ∙ length-append mid.blocks.items (block ∷ []) in
-    let bound : number + length row.objects < 2 ^ 32 = omega (arith, a.many, a.few, numbered) in record {
+    let longer : length new.blocks.items ≡ length mid.blocks.items + 1 = ap length added ∙ length-append mid.blocks.items (block ∷ []) in record {
       grown = grown_both old mid new a.grown g;
       blocks = (
         (
@@ -448,7 +431,7 @@ one_block tags taken row old mid new range bytes number after base a blocks g ob
             objects = objects_later tags mid new range.first row.objects g a.objects;
             count = a.count;
             first = refl;
-            few = bound;
+            few = omega (arith, sum, a.count, small);
             arguments = refl;
             created = a.counted;
           },
@@ -457,16 +440,21 @@ one_block tags taken row old mid new range bytes number after base a blocks g ob
         tt,
       );
       many = omega (arith, same, longer);
-      objects = omega (arith, many);
-      count = omega (arith, sum, a.count, bound);
+      count = omega (arith, sum, a.count);
+      firsts = firsts;
     }
 
 pub block_added : {E : Type 0} (r : Result (Unit {0}) E) (tags : List Tag) (taken : ℕ) (row : BlockRow) (qs : List Qualified) (old mid new : Tables)
-    (range : Range) (bytes number after base : ℕ) → row.objects ≡ qs → AddsObjects tags qs old mid range bytes → mid.blocks.items ≡ old.blocks.items →
-    AreGrown mid new → new.objects.items ≡ mid.objects.items → number + base ≡ length old.objects.items → after ≡ min (number + range.count) (2 ^ 32 - 1) →
-    OnOk r (new.blocks.items ≡ mid.blocks.items ++ (record { objects = range; first = number; arguments = taken; created = bytes }) ∷ []) →
-    OnOk r (length mid.blocks.items < 2 ^ 32) → OnOk r (AddsBlocks tags taken (row ∷ []) old number new after)
-block_added r tags taken row qs old mid new range bytes number after base is a blocks g objects numbered sum added few =
+    (range : Range) (bytes : ℕ) (before after : FunctionDraft) → row.objects ≡ qs → AddsObjects tags qs old mid range bytes →
+    mid.blocks.items ≡ old.blocks.items → AreGrown mid new → after.count ≡ before.count + range.count → after.count < 2 ^ 32 →
+    after.objects.first.items ≡ before.objects.first.items ++ before.count ∷ [] →
+    OnOk r (new.blocks.items ≡ mid.blocks.items ++ (record { objects = range; first = before.count; arguments = taken; created = bytes }) ∷ []) →
+    OnOk r (length mid.blocks.items < 2 ^ 32) → OnOk r (AddsBlocks tags taken (row ∷ []) old before new after)
+block_added r tags taken row qs old mid new range bytes before after is a blocks g sum small firsts added few =
     on_both r _ _ _
-    (one_block tags taken row old mid new range bytes number after base (subst (λ z. AddsObjects tags z old mid range bytes) (sym is) a) blocks g objects
-    numbered sum) added few
+    (one_block tags taken row old mid new range bytes before after (subst (λ z. AddsObjects tags z old mid range bytes) (sym is) a) blocks g sum small firsts)
+    added few
+  where
+    on_both : {A B : Type 0} (r : Result A B) (P Q R : Type 0) → (P → Q → R) → OnOk r P → OnOk r Q → OnOk r R
+    on_both (Ok x) P Q R f p q = f p q
+    on_both (Err e) P Q R f p q = tt

@@ -13,6 +13,7 @@ mod Termed
 mod FittingLemmas
 mod Coded
 mod Blocked
+mod InTurn
 mod AtOnce
 mod ChosenLemmas
 mod Tested

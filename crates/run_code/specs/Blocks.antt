@@ -1,8 +1,7 @@
 -- The blocks of functions as they are laid out, with their objects by the types of these (6.2.4, 6.7.3, 6.9.1p9).
-use Rattle.std.specs.Prelude.{◌≡◌, ℕ, suc, ◌+◌, ◌-◌, ◌^◌, ◌<◌, min, max, true, List, [], ◌∷◌, ◌++◌, length, Option, Some, None, option_map, slice_get}
+use Rattle.std.specs.Prelude.{◌≡◌, ℕ, suc, ◌+◌, ◌^◌, ◌<◌, min, max, true, List, [], ◌∷◌, ◌++◌, length, Some, option_map, slice_get}
 use Rattle.c_types.specs.declared.kind.IntKind.TheVariants.{Int}
 use Rattle.c_types.specs.declared.tags.Tag.{Tag}
-use Rattle.c_types.specs.declared.ty.FuncTy.{out-FuncTy}
 use Rattle.c_types.specs.Shapes.{form_of}
 use Rattle.c_types.specs.Types.{CType, int, enumeration, pointer, function, Qualified, type_of}
 use Rattle.c_typed.specs.declared.tree.Access.{Access}
@@ -11,17 +10,15 @@ use Rattle.c_typed.specs.declared.statement.Block.{Block, fold-Block}
 use Rattle.c_typed.specs.declared.statement.Body.{Body}
 use Rattle.c_typed.specs.declared.statement.Entry.{Entry, fold-Entry}
 use Rattle.c_typed.specs.declared.statement.ForStart.{ForStart, fold-ForStart}
-use Rattle.c_typed.specs.declared.program.Function.{Function}
 use Rattle.c_typed.specs.Sites.{BlockRow, Summary, summary, summary_step, entry_summary, start_summary, block_summary}
 use Rattle.run_objects.specs.Extents.{extent_of, is_constant, HasForm}
+use Rattle.run_code.specs.declared.draft.FunctionDraft.{FunctionDraft}
 use Rattle.run_code.specs.declared.steps.BlockCode.{BlockCode}
-use Rattle.run_code.specs.declared.steps.FunctionCode.{FunctionCode}
 use Rattle.run_code.specs.declared.steps.ObjectCode.{ObjectCode}
 use Rattle.run_code.specs.declared.steps.Range.{Range}
 use Rattle.run_code.specs.declared.steps.StoreCode.{StoreCode}
 use Rattle.run_code.specs.declared.tables.Tables.{Tables}
 use Rattle.run_code.specs.EventActs.{AreGrown}
-use Rattle.run_code.specs.Roots.{block_in}
 
 -- 1. Objects.
 
@@ -83,6 +80,11 @@ AreBlocksFrom tags tables at before taken [] = Unit {0}
 AreBlocksFrom tags tables at before taken (r ∷ rs) =
     IsBlockAt tags tables at before taken r.objects × AreBlocksFrom tags tables (suc at) (before + length r.objects) 0 rs
 
+-- the number of the first object of each, where there are so many objects before
+abbrev pub firsts_from : ℕ → List BlockRow → List ℕ
+firsts_from before [] = []
+firsts_from before (r ∷ rs) = before ∷ firsts_from (before + length r.objects) rs
+
 -- how many objects there are in these blocks
 abbrev pub objects_in : List BlockRow → ℕ
 objects_in [] = 0
@@ -101,29 +103,7 @@ start_rows s = (fold-ForStart Summary (Summary × List ℕ) Summary Summary summ
 abbrev pub entry_rows : Entry → List BlockRow
 entry_rows e = (fold-Entry Summary (Summary × List ℕ) Summary Summary summary_step entry_summary start_summary block_summary e).0.blocks
 
--- 3. Functions.
-
--- The blocks of a function are those of its body, numbered from its first one on; their objects are numbered in turn, from 0 on.
-pub record HasBlocks (tags : List Tag) (taken : ℕ) (rows : List BlockRow) (tables : Tables) (c : FunctionCode) : Type 0 where
-  pub blocks : AreBlocksFrom tags tables c.blocks 0 taken rows
-  pub objects : c.objects ≡ objects_in rows
-  pub few : objects_in rows < 2 ^ 32
-
--- how many objects of a function's body take arguments (6.9.1p10)
-abbrev pub taken_by : Function → ℕ
-taken_by f = min (length (out-FuncTy f.ty).params) (2 ^ 32 - 1)
-
-abbrev pub HasBlocksOf : List Tag → ℕ → Tables → Option Block → Option FunctionCode → Type 0
-HasBlocksOf tags taken tables (Some b) (Some c) = HasBlocks tags taken (rows_of_block b) tables c
-HasBlocksOf tags taken tables _ _ = Unit {0}
-
--- of each function in turn that has code
-abbrev pub HaveBlocks : List Tag → Tables → List Function → List (Option FunctionCode) → Type 0
-HaveBlocks tags tables [] [] = Unit {0}
-HaveBlocks tags tables (f ∷ fs) (c ∷ cs) = HasBlocksOf tags (taken_by f) tables (block_in f.body) c × HaveBlocks tags tables fs cs
-HaveBlocks tags tables _ _ = ⊥
-
--- 4. What the passes over blocks add to the tables.
+-- 3. What the passes over blocks add to the tables.
 
 -- an object of this type
 pub record AddsObject (tags : List Tag) (q : Qualified) (old new : Tables) : Type 0 where
@@ -140,10 +120,11 @@ pub record AddsObjects (tags : List Tag) (qs : List Qualified) (old new : Tables
   pub count : range.count ≡ length qs
   pub counted : bytes ≡ counted_by tags 0 qs
 
--- These blocks; before them the function has so many objects, and behind them so many.
-pub record AddsBlocks (tags : List Tag) (taken : ℕ) (rows : List BlockRow) (old : Tables) (before : ℕ) (new : Tables) (after : ℕ) : Type 0 where
+-- These blocks: the function has their objects behind those that it had.
+pub record AddsBlocks (tags : List Tag) (taken : ℕ) (rows : List BlockRow) (old : Tables) (before : FunctionDraft) (new : Tables) (after : FunctionDraft)
+    : Type 0 where
   pub grown : AreGrown old new
-  pub blocks : AreBlocksFrom tags new (length old.blocks.items) before taken rows
+  pub blocks : AreBlocksFrom tags new (length old.blocks.items) before.count taken rows
   pub many : length new.blocks.items ≡ length old.blocks.items + length rows
-  pub objects : length new.objects.items ≡ length old.objects.items + objects_in rows
-  pub count : after ≡ before + objects_in rows
+  pub count : after.count ≡ before.count + objects_in rows
+  pub firsts : after.objects.first.items ≡ before.objects.first.items ++ firsts_from before.count rows

@@ -14,5 +14,6 @@ pub mod Named
 pub mod Roots
 pub mod OfTrees
 pub mod Blocks
+pub mod Functions
 pub mod Chosen
 pub mod Keeping

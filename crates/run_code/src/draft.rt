@@ -1,5 +1,5 @@
 // Code in the making.
-ghost use Rattle.std.specs.Prelude.{◌≡◌, ◌-◌, ◌^◌, min, length};
+ghost use Rattle.std.specs.Prelude.{◌≡◌};
 
 use crate::expressions::{Expressions, Laid};
 use crate::nodes::Objects;
@@ -23,9 +23,7 @@ pub struct Draft<'p> {
 }
 
 // How many there are.
-pub fn count_of<T>(items: &Vec<T>) -> u32
-    ensures { result ≡ min (length items.now.items) (2 ^ 32 - 1) }
-{
+pub fn count_of<T>(items: &Vec<T>) -> u32 {
     u32::try_from(items.len()).unwrap_or(u32::MAX)
 }
 

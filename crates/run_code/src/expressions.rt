@@ -35,6 +35,7 @@ impl<'p> Expressions<'p> {
     ghost use Rattle.run_code.specs.AtOnce.{chosen_of, Lists};
     ghost use Rattle.run_code.specs.EventActs.{AreGrown, AreEntries};
     ghost use Rattle.run_code.specs.Rooms.{IsRoomedBy};
+    ghost use Rattle.run_code.specs.Functions.{AddsExpression};
     ghost use Rattle.c_typed.specs.Tree.{tree_of, size};
     ghost use Rattle.core_ir.specs.declared.term.Core.{Core as CoreOf};
     ghost use Rattle.run_code.specs.Listings.{entries_of};
@@ -146,6 +147,9 @@ impl<'p> Expressions<'p> {
         ensures listed { (terms : List CoreOf) → AreOfTerms terms self.old.laid → entries_of entries.now ≡ flat_of (size (tree_of root.now)) (slice_get terms (length self.old.laid.all.items))
             → OnOk result (AreOfTerms terms self.new.laid) }
         ensures tables { self.new.tables ≡ self.old.tables }
+        ensures added { (firsts : List ℕ) → AreNodes firsts root.now nodes.now → AreEntries firsts self.old.tables nodes.now entries.now
+            → Lists self.old.tables.chosen.items chosen (chosen_of firsts root.now 0)
+            → OnOk result (AddsExpression firsts root.now self.old.tables self.old.laid self.new.laid) }
     {
         let first = self.laid.entries.len();
         self.laid.entries.extend_from_slice(entries)?;

@@ -7,6 +7,7 @@ ghost use Rattle.c_typed.specs.declared.program.Program.{Program as ProgramOf};
 ghost use Rattle.core_ir.specs.Term.{term_of};
 ghost use Rattle.run_code.specs.Roots.{roots_in};
 ghost use Rattle.run_code.specs.Listings.{entries_of, one, continuation, flat};
+ghost use Rattle.run_code.specs.Functions.{AddsExpression};
 ghost use Rattle.run_code.specs.OfTrees.{flat_of, AreOfTerms};
 ghost use Rattle.run_code.specs.declared.steps.Operand.{Operand as OperandOf};
 ghost use Rattle.run_code.specs.Resolved.{value_at};
@@ -64,6 +65,8 @@ impl<'p> Draft<'p> {
         ensures listed { AreOfTerms terms.now self.old.expressions.laid → OnOk result (AreOfTerms terms.now self.new.expressions.laid) }
         ensures fit { (p : ProgramOf) → TreeFits p root.now → AreFit p self.old.expressions.tables → OnOk result (AreFit p self.new.expressions.tables) }
         ensures grown { OnOk result (AreGrown self.old.expressions.tables self.new.expressions.tables) }
+        ensures objects { OnOk result (self.new.function.objects.first.items ≡ self.old.function.objects.first.items) }
+        ensures added { OnOk result (AddsExpression self.old.function.objects.first.items root.now self.new.expressions.tables self.old.expressions.laid self.new.expressions.laid) }
     {
         let mut nodes = Vec::new(self.alloc);
         let mut counts = Counts {

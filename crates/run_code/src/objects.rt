@@ -11,7 +11,7 @@ ghost use Rattle.c_typed.specs.declared.statement.Block.{out-Block};
 ghost use Rattle.c_typed.specs.declared.program.Program.{Program as ProgramOf};
 
 use crate::draft::Draft;
-use crate::numbers::{next_number, range_from};
+use crate::numbers::{next_number, number_with, range_from};
 use crate::steps::{BlockCode, ObjectCode, Range, StoreCode};
 use c_typed::{Access, Block, Body, Entry, ForStart};
 use c_types::{IntKind, Qual, Tags, Ty};
@@ -87,21 +87,15 @@ impl<'p> Draft<'p> {
     }
 
     // A block of the function; `arguments` of its objects take arguments.
-    fn add_block(
-        &mut self,
-        tags: &Tags,
-        block: &'p Block,
-        arguments: u32,
-    ) -> Result<(), NoMemory>
+    fn add_block(&mut self, tags: &Tags, block: &'p Block, arguments: u32) -> Result<(), NoMemory>
         ensures kept { OnOk result (self.new.expressions.laid ≡ self.old.expressions.laid) }
         ensures fit { (p : ProgramOf) → AreFit p self.old.expressions.tables → OnOk result (AreFit p self.new.expressions.tables) }
-        ensures block { (base : ℕ) (row : BlockRow) → row.objects ≡ map qualified_of (out-Block block.now).objects
-            → self.old.function.count + base ≡ length self.old.expressions.tables.objects.items
-            → OnOk result (AddsBlocks tags.now arguments (row ∷ []) self.old.expressions.tables self.old.function.count self.new.expressions.tables self.new.function.count) }
+        ensures block { (row : BlockRow) → row.objects ≡ map qualified_of (out-Block block.now).objects
+            → OnOk result (AddsBlocks tags.now arguments (row ∷ []) self.old.expressions.tables self.old.function self.new.expressions.tables self.new.function) }
     {
         let (objects, created) = self.objects_of(tags, block)?;
         let number = self.function.count;
-        self.function.count = number.saturating_add(objects.count);
+        self.function.count = number_with(number, objects.count)?;
         self.function.objects.first.push(number)?;
         self.expressions.add_block(BlockCode {
             objects,
@@ -116,8 +110,7 @@ impl<'p> Draft<'p> {
     pub fn survey(&mut self, tags: &Tags, body: &'p Body) -> Result<(), NoMemory>
         ensures kept { OnOk result (self.new.expressions.laid ≡ self.old.expressions.laid) }
         ensures fit { (p : ProgramOf) → AreFit p self.old.expressions.tables → OnOk result (AreFit p self.new.expressions.tables) }
-        ensures blocks { (base : ℕ) → self.old.function.count + base ≡ length self.old.expressions.tables.objects.items
-            → OnOk result (AddsBlocks tags.now 0 (rows_of body.now) self.old.expressions.tables self.old.function.count self.new.expressions.tables self.new.function.count) }
+        ensures blocks { OnOk result (AddsBlocks tags.now 0 (rows_of body.now) self.old.expressions.tables self.old.function self.new.expressions.tables self.new.function) }
     {
         match body {
             Body::Block(inner) => self.survey_block(tags, inner, 0),
@@ -143,11 +136,9 @@ impl<'p> Draft<'p> {
                 self.survey_start(tags, start)?;
                 self.survey(tags, body.get())
             }
-            Body::Simple(_)
-            | Body::Goto(_)
-            | Body::Continue
-            | Body::Break
-            | Body::Return(_) => Ok(()),
+            Body::Simple(_) | Body::Goto(_) | Body::Continue | Body::Break | Body::Return(_) => Ok(
+                (),
+            ),
         }
     }
 
@@ -156,8 +147,7 @@ impl<'p> Draft<'p> {
     fn survey_start(&mut self, tags: &Tags, start: &'p ForStart) -> Result<(), NoMemory>
         ensures kept { OnOk result (self.new.expressions.laid ≡ self.old.expressions.laid) }
         ensures fit { (p : ProgramOf) → AreFit p self.old.expressions.tables → OnOk result (AreFit p self.new.expressions.tables) }
-        ensures blocks { (base : ℕ) → self.old.function.count + base ≡ length self.old.expressions.tables.objects.items
-            → OnOk result (AddsBlocks tags.now 0 (start_rows start.now) self.old.expressions.tables self.old.function.count self.new.expressions.tables self.new.function.count) }
+        ensures blocks { OnOk result (AddsBlocks tags.now 0 (start_rows start.now) self.old.expressions.tables self.old.function self.new.expressions.tables self.new.function) }
     {
         match start {
             ForStart::Declared(block) => self.survey_block(tags, block, 0),
@@ -170,8 +160,7 @@ impl<'p> Draft<'p> {
     fn survey_entry(&mut self, tags: &Tags, entry: &'p Entry) -> Result<(), NoMemory>
         ensures kept { OnOk result (self.new.expressions.laid ≡ self.old.expressions.laid) }
         ensures fit { (p : ProgramOf) → AreFit p self.old.expressions.tables → OnOk result (AreFit p self.new.expressions.tables) }
-        ensures blocks { (base : ℕ) → self.old.function.count + base ≡ length self.old.expressions.tables.objects.items
-            → OnOk result (AddsBlocks tags.now 0 (entry_rows entry.now) self.old.expressions.tables self.old.function.count self.new.expressions.tables self.new.function.count) }
+        ensures blocks { OnOk result (AddsBlocks tags.now 0 (entry_rows entry.now) self.old.expressions.tables self.old.function self.new.expressions.tables self.new.function) }
     {
         match entry {
             Entry::Statement(body) => self.survey(tags, body),
@@ -188,8 +177,7 @@ impl<'p> Draft<'p> {
     ) -> Result<(), NoMemory>
         ensures kept { OnOk result (self.new.expressions.laid ≡ self.old.expressions.laid) }
         ensures fit { (p : ProgramOf) → AreFit p self.old.expressions.tables → OnOk result (AreFit p self.new.expressions.tables) }
-        ensures blocks { (base : ℕ) → self.old.function.count + base ≡ length self.old.expressions.tables.objects.items
-            → OnOk result (AddsBlocks tags.now arguments (rows_of_block block.now) self.old.expressions.tables self.old.function.count self.new.expressions.tables self.new.function.count) }
+        ensures blocks { OnOk result (AddsBlocks tags.now arguments (rows_of_block block.now) self.old.expressions.tables self.old.function self.new.expressions.tables self.new.function) }
     {
         self.add_block(tags, block, arguments)?;
         for entry in block.entries.as_slice() {

@@ -1,5 +1,6 @@
-use Rattle.std.proofs.Common.{◌≡◌, ℕ, ◌+◌, length, drop}
+use Rattle.std.proofs.Common.{◌≡◌, drop}
 use Rattle.c_typed.specs.declared.program.Program.{Program}
+use Rattle.run_code.specs.declared.draft.FunctionDraft.{FunctionDraft}
 use Rattle.run_code.specs.declared.tables.Tables.{Tables}
 use Rattle.run_code.specs.Blocks.{AddsBlocks}
 use Rattle.run_code.specs.Fitting.{AreFit}
@@ -11,7 +12,6 @@ abbrev pub invariant-survey_block-loop-entry : goal.invariant-survey_block-loop-
 invariant-survey_block-loop-entry l =
     (l.self.expressions.laid ≡ l.fn.self.expressions.laid)
     × ((p : Program) → AreFit p l.fn.self.expressions.tables → AreFit p l.self.expressions.tables)
-    × ((base : ℕ) → l.initial.self.function.count + base ≡ length l.initial.self.expressions.tables.objects.items
-    → (l.self.function.count + base ≡ length l.self.expressions.tables.objects.items)
-    × ((new : Tables) (n : ℕ) → AddsBlocks l.tags 0 (rows_in (drop l.entry-index l.entry-items)) l.self.expressions.tables l.self.function.count new n
-    → AddsBlocks l.tags 0 (rows_in l.entry-items) l.initial.self.expressions.tables l.initial.self.function.count new n))
+    × ((new : Tables) (d : FunctionDraft)
+    → AddsBlocks l.tags 0 (rows_in (drop l.entry-index l.entry-items)) l.self.expressions.tables l.self.function new d
+    → AddsBlocks l.tags 0 (rows_in l.entry-items) l.initial.self.expressions.tables l.initial.self.function new d)

@@ -11,7 +11,8 @@ use Rattle.run_code.specs.declared.nodes.NodeInfo.{NodeInfo}
 use Rattle.run_code.specs.Fitting.{RootFits, NodesFit, AreFit}
 use Rattle.run_code.proofs.Collected.{nodes_added}
 use Rattle.run_code.proofs.FittingLemmas.{always}
-use Rattle.run_code.proofs.Grown.{entries_grown}
+use Rattle.run_code.specs.Functions.{AddsExpression}
+use Rattle.run_code.proofs.Entries.{on_ok}
 use Rattle.run_code.specs.Rooms.{AreRoomed, IsRoomedBy}
 use Rattle.run_code.proofs.Roomed.{roomed_by}
 use Rattle.run_code.proofs.Grown.{entries_grown, grown_both}
@@ -38,6 +39,17 @@ add_expression-requires-clause-laid_out c =
           (subst (λ ns. AreEntries firsts tables ns c.in_ok-entries.entries.items) same grown),
       c.in_ok-chosen.ensures.chosen firsts None whole.each whole.top,
     )
+
+pub returns-clause-added : goal.returns-clause-added
+returns-clause-added c =
+    let firsts = c.args.self.now.function.objects.first.items in
+    let before = c.in_ok-chosen.ensures.kept ∙ c.in_ok-entries.ensures.kept in
+    let given = c.add_expression.requires.laid_out in
+    on_ok c.add_expression.result _ _
+    (λ a. subst (λ (l : Laid). AddsExpression firsts c.args.root.now c.add_expression.new.self.tables l c.add_expression.new.self.laid) before
+    (subst (λ (t : Tables). AddsExpression firsts c.args.root.now t c.chosen.new.self.expressions.laid c.add_expression.new.self.laid)
+    (sym c.add_expression.ensures.tables) a))
+    (c.add_expression.ensures.added firsts ? ? ?)
 
 pub returns-clause-listed : goal.returns-clause-listed
 returns-clause-listed c = λ h.
@@ -71,7 +83,11 @@ add_expression-requires-clause-roomed c =
     let rooms : c.in_ok-rooms.rooms ≡ length nodes + olds = omega (arith, c.in_ok-rooms.ensures, c.in_ok-number_of.ensures) in
     subst (λ ns. IsRoomedBy ns c.in_ok-rooms.rooms) (sym c.deref-3.ensures.value)
     (roomed_by nodes olds c.in_ok-rooms.rooms rooms (omega arith) from)
+
 pub returns-clause-grown : goal.returns-clause-grown
 returns-clause-grown c =
     always c.add_expression.result _ (subst (λ (t : Tables). AreGrown c.args.self.now.expressions.tables t) (sym c.add_expression.ensures.tables)
     (grown_both _ _ _ c.in_ok-entries.ensures.grown c.in_ok-chosen.ensures.grown))
+
+pub returns-clause-objects : goal.returns-clause-objects
+returns-clause-objects c = always c.add_expression.result _ (c.in_ok-chosen.ensures.objects ∙ c.in_ok-entries.ensures.objects)

@@ -6,10 +6,14 @@ use Rattle.c_typed.specs.declared.statement.Body.TheVariants as body
 use Rattle.c_typed.specs.declared.tree.Typed.{Typed}
 use Rattle.elaborate.specs.Expressions.{block_trees}
 use Rattle.run_statements.proofs.Loops.{at_block}
-use Rattle.run_code.specs.Blocks.{taken_by}
+use Rattle.c_types.specs.declared.ty.FuncTy.{out-FuncTy}
+use Rattle.run_code.specs.declared.expressions.Laid.{Laid}
+use Rattle.run_code.specs.Blocks.{rows_of_block, AddsBlocks}
+use Rattle.run_code.specs.Functions.{IsMore}
 use Rattle.run_code.specs.Fitting.{TreeFits}
 use Rattle.run_code.proofs.FittingLemmas.{dropped}
-use Rattle.run_code.proofs.Blocked.{function_blocks}
+use Rattle.run_code.proofs.Blocked.{function_blocks, function_firsts}
+use Rattle.run_code.proofs.InTurn.{function_laid}
 use Rattle.run_code.proofs.Grown.{grown_both}
 use Rattle.run_code.proofs.draft.Draft.function.Goals as goal
 
@@ -27,16 +31,25 @@ returns-clause-fit c = λ p trees h.
     c.in_ok-expressions.ensures.fit p (subst (All (TreeFits p)) (sym left) trees) (c.in_ok-survey_block.ensures.fit p h)
 
 pub returns-clause-grown : goal.returns-clause-grown
-returns-clause-grown c =
-    let base = length c.args.self.now.expressions.tables.objects.items in
-    let start : c.start_function.result.count + base ≡ base = omega (arith, c.start_function.ensures) in
-    grown_both _ _ _ (c.in_ok-survey_block.ensures.blocks base start).grown c.in_ok-expressions.ensures.grown
+returns-clause-grown c = grown_both _ _ _ c.in_ok-survey_block.ensures.blocks.grown c.in_ok-expressions.ensures.grown
 
 pub returns-clause-blocks : goal.returns-clause-blocks
 returns-clause-blocks c =
-    let base = length c.args.self.now.expressions.tables.objects.items in
-    let start : c.start_function.result.count + base ≡ base = omega (arith, c.start_function.ensures) in
-    function_blocks c.args.tags.now (taken_by c.args.function.now) c.count_of_items.result c.start_function.result.count
-    c.survey_block.new.self.function.count c.args.body.now c.args.self.now.expressions.tables c.survey_block.new.self.expressions.tables
-    c.expressions.new.self.expressions.tables _ c.start_function.ensures c.count_of_items.ensures c.count_of-blocks.ensures refl (omega arith)
-    c.in_ok-expressions.ensures.grown (c.in_ok-survey_block.ensures.blocks base start)
+    function_blocks c.args.tags.now (length (out-FuncTy c.args.function.now.ty).params) c.args.body.now c.args.self.now.expressions.tables
+    c.survey_block.new.self.expressions.tables c.expressions.new.self.expressions.tables c.start_function.result c.survey_block.new.self.function _
+    c.start_function.ensures.count c.in_ok-blocks.ensures refl (omega arith) c.in_ok-expressions.ensures.grown
+    (subst (λ n. AddsBlocks c.args.tags.now n (rows_of_block c.args.body.now) c.args.self.now.expressions.tables c.start_function.result
+    c.survey_block.new.self.expressions.tables c.survey_block.new.self.function) c.in_ok-arguments.ensures c.in_ok-survey_block.ensures.blocks)
+
+pub returns-clause-more : goal.returns-clause-more
+returns-clause-more c =
+    subst (λ (l : Laid). IsMore l c.expressions.new.self.expressions.laid) c.in_ok-survey_block.ensures.kept c.in_ok-expressions.ensures.added.more
+
+pub returns-clause-expressions : goal.returns-clause-expressions
+returns-clause-expressions c =
+    function_laid c.args.body.now c.survey_block.new.self.function.objects.first.items _ c.expressions.new.self.expressions.tables
+    c.survey_block.new.self.expressions.laid c.expressions.new.self.expressions.laid c.in_ok-expressions.expressions
+    (function_firsts c.args.tags.now c.args.arguments (rows_of_block c.args.body.now) c.args.self.now.expressions.tables
+    c.survey_block.new.self.expressions.tables c.start_function.result c.survey_block.new.self.function c.start_function.ensures.count
+    c.start_function.ensures.objects c.in_ok-survey_block.ensures.blocks) ? c.in_ok-expressions.ensures.range.0 c.in_ok-expressions.ensures.range.1
+    c.in_ok-expressions.ensures.added
