@@ -204,92 +204,91 @@ old_room (shape.Update c true) count n room h = refl
 old_room (shape.Update c false) count n room h = absurd (cc)
 old_room _ count n room h = absurd (cc)
 
-module _ (code : Code) (firsts : List ℕ) (nodes : List NodeInfo) (laid : Laid) (lays : LaidOutBy firsts nodes code.tables code.listing.items laid)
-  where
-    abbrev roomed : IsRoomedBy nodes laid.rooms
-    roomed = lays.rooms
+module _ (code : Code) (firsts : List ℕ) (nodes : List NodeInfo) (laid : Laid) (lays : LaidOutBy firsts nodes code.tables code.listing.items laid) where
+  abbrev roomed : IsRoomedBy nodes laid.rooms
+  roomed = lays.rooms
 
-    abbrev count : ℕ
-    count = length nodes
+  abbrev count : ℕ
+  count = length nodes
 
-    abbrev part : List Listed
-    part = listing_in code.listing.items laid
+  abbrev part : List Listed
+  part = listing_in code.listing.items laid
 
-    abbrev root : Expr
-    root = expr_of laid.root.now
+  abbrev root : Expr
+  root = expr_of laid.root.now
 
-    -- of one that gives the old value
-    behind : (n : ℕ) (x : NodeInfo) → IsOld nodes n x
-        → room_of (head_at (out-Typed x.tree.now).node) (min count (2 ^ 32 - 1)) n x.room ≡ count + x.room
-    behind n x is =
-        let few = roomed.few in
-        let less_room = roomed.behind n x is in
-        old_room (head_at (out-Typed x.tree.now).node) (min count (2 ^ 32 - 1)) n x.room is.1 ∙ omega (arith, few, less_room)
+  -- of one that gives the old value
+  behind : (n : ℕ) (x : NodeInfo) → IsOld nodes n x
+      → room_of (head_at (out-Typed x.tree.now).node) (min count (2 ^ 32 - 1)) n x.room ≡ count + x.room
+  behind n x is =
+      let few = roomed.few in
+      let less_room = roomed.behind n x is in
+      old_room (head_at (out-Typed x.tree.now).node) (min count (2 ^ 32 - 1)) n x.room is.1 ∙ omega (arith, few, less_room)
 
-    -- an update's room: its own, or the one behind
-    abbrev IsRoom : ℕ → NodeInfo → (old : Bool) → ℕ → Type 0
-    IsRoom n x true room = IsOld nodes n x × (count + x.room ≡ room)
-    IsRoom n x false room = (n < count) × (n ≡ room)
+  -- an update's room: its own, or the one behind
+  abbrev IsRoom : ℕ → NodeInfo → (old : Bool) → ℕ → Type 0
+  IsRoom n x true room = IsOld nodes n x × (count + x.room ≡ room)
+  IsRoom n x false room = (n < count) × (n ≡ room)
 
-    room_is : (n : ℕ) (x : NodeInfo) (c : Change) (old : Bool) (room : ℕ) → slice_get nodes n ≡ Some x
-        → head_at (out-Typed x.tree.now).node ≡ shape.Update c old
-        → room_of (head_at (out-Typed x.tree.now).node) (min count (2 ^ 32 - 1)) n x.room ≡ room → IsRoom n x old room
-    room_is n x c true room at h e =
-        let is : IsOld nodes n x = (at, ap gives_old h) in
-        (is, sym (behind n x is) ∙ e)
-    room_is n x c false room at h e =
-        let own : room_of (head_at (out-Typed x.tree.now).node) (min count (2 ^ 32 - 1)) n x.room ≡ n =
-        ap (λ z. room_of z (min count (2 ^ 32 - 1)) n x.room) h in
-        (slice_get_within nodes n x at, sym own ∙ e)
+  room_is : (n : ℕ) (x : NodeInfo) (c : Change) (old : Bool) (room : ℕ) → slice_get nodes n ≡ Some x
+      → head_at (out-Typed x.tree.now).node ≡ shape.Update c old
+      → room_of (head_at (out-Typed x.tree.now).node) (min count (2 ^ 32 - 1)) n x.room ≡ room → IsRoom n x old room
+  room_is n x c true room at h e =
+      let is : IsOld nodes n x = (at, ap gives_old h) in
+      (is, sym (behind n x is) ∙ e)
+  room_is n x c false room at h e =
+      let own : room_of (head_at (out-Typed x.tree.now).node) (min count (2 ^ 32 - 1)) n x.room ≡ n =
+      ap (λ z. room_of z (min count (2 ^ 32 - 1)) n x.room) h in
+      (slice_get_within nodes n x at, sym own ∙ e)
 
-    room_within : (n : ℕ) (x : NodeInfo) (old : Bool) (room : ℕ) → IsRoom n x old room → room < laid.rooms
-    room_within n x true room h = let l = roomed.behind n x h.0 in let e = h.1 in omega (arith, l, e)
-    room_within n x false room h = let l = roomed.own in let e = h.1 in let w = h.0 in omega (arith, l, e, w)
+  room_within : (n : ℕ) (x : NodeInfo) (old : Bool) (room : ℕ) → IsRoom n x old room → room < laid.rooms
+  room_within n x true room h = let l = roomed.behind n x h.0 in let e = h.1 in omega (arith, l, e)
+  room_within n x false room h = let l = roomed.own in let e = h.1 in let w = h.0 in omega (arith, l, e, w)
 
-    room_apart : (n k : ℕ) (x y : NodeInfo) (old : Bool) (room : ℕ) → IsRoom n x old room → IsOld nodes k y → count + y.room ≡ room → k ≡ n
-    room_apart n k x y true room h is e = roomed.apart k n y x is h.0 (let f = h.1 in omega (arith, e, f))
-    room_apart n k x y false room h is e = absurd (let f = h.1 in let w = h.0 in omega (arith, e, f, w))
+  room_apart : (n k : ℕ) (x y : NodeInfo) (old : Bool) (room : ℕ) → IsRoom n x old room → IsOld nodes k y → count + y.room ≡ room → k ≡ n
+  room_apart n k x y true room h is e = roomed.apart k n y x is h.0 (let f = h.1 in omega (arith, e, f))
+  room_apart n k x y false room h is e = absurd (let f = h.1 in let w = h.0 in omega (arith, e, f, w))
 
-    -- the node of a listed event, with what is noted of the event
-    abbrev Found : Due → Type 0
-    Found d = (x : NodeInfo) × (slice_get nodes d.place.node ≡ Some x) × IsDue firsts code.tables count d x
+  -- the node of a listed event, with what is noted of the event
+  abbrev Found : Due → Type 0
+  Found d = (x : NodeInfo) × (slice_get nodes d.place.node ≡ Some x) × IsDue firsts code.tables count d x
 
-    found : (d : Due) → IsListedAt code.listing.items laid d → Found d
-    found d is =
-        let e = lays.each is.at (listed.Event d) is.first is.end is.entry in
-        (e.0, e.1, e.2)
+  found : (d : Due) → IsListedAt code.listing.items laid d → Found d
+  found d is =
+      let e = lays.each is.at (listed.Event d) is.first is.end is.entry in
+      (e.0, e.1, e.2)
 
-    abbrev UpdateFound : (room : ℕ) → (r : IsUpdateRoomOf part root room) → Type 0
-    UpdateFound room r = (x : NodeInfo) × IsRoom r.due.place.node x r.old room
+  abbrev UpdateFound : (room : ℕ) → (r : IsUpdateRoomOf part root room) → Type 0
+  UpdateFound room r = (x : NodeInfo) × IsRoom r.due.place.node x r.old room
 
-    update_found : (room : ℕ) (r : IsUpdateRoomOf part root room) → UpdateFound room r
-    update_found room r =
-        let d = r.due in
-        let it = found d (listed_at code.listing.items laid d r.is_listed) in
-        let x = it.0 in
-        let h = head_at (out-Typed x.tree.now).node in
-        let s = sight_of firsts count d.place.node x in
-        let there = node_at firsts nodes laid.root.now lays.numbered d.place.node x it.1 in
-        let is = tree_update x.tree.now r.operands r.change r.old (subst (λ o. IsUpdate o r.change r.old r.operands) there r.update) in
-        let does : IsEffect firsts code.tables h s d.act = subst (λ z. IsAct firsts code.tables x.initializer h s z d.act) r.effect it.2.does in (
-          x,
-          room_is d.place.node x r.change r.old room it.1 is
-              (update_room firsts code.tables h r.change r.old s d.act r.store room r.target is does r.act),
-        )
+  update_found : (room : ℕ) (r : IsUpdateRoomOf part root room) → UpdateFound room r
+  update_found room r =
+      let d = r.due in
+      let it = found d (listed_at code.listing.items laid d r.is_listed) in
+      let x = it.0 in
+      let h = head_at (out-Typed x.tree.now).node in
+      let s = sight_of firsts count d.place.node x in
+      let there = node_at firsts nodes laid.root.now lays.numbered d.place.node x it.1 in
+      let is = tree_update x.tree.now r.operands r.change r.old (subst (λ o. IsUpdate o r.change r.old r.operands) there r.update) in
+      let does : IsEffect firsts code.tables h s d.act = subst (λ z. IsAct firsts code.tables x.initializer h s z d.act) r.effect it.2.does in (
+        x,
+        room_is d.place.node x r.change r.old room it.1 is
+            (update_room firsts code.tables h r.change r.old s d.act r.store room r.target is does r.act),
+      )
 
-    rooms_within : (room : ℕ) → IsUpdateRoomOf part root room → room < laid.rooms
-    rooms_within room r = let u = update_found room r in room_within r.due.place.node u.0 r.old room u.1
+  rooms_within : (room : ℕ) → IsUpdateRoomOf part root room → room < laid.rooms
+  rooms_within room r = let u = update_found room r in room_within r.due.place.node u.0 r.old room u.1
 
-    rooms_apart : (room : ℕ) (r : IsUpdateRoomOf part root room) (d : Due) → IsListedIn part d → kept_at d.act ≡ Some room
-        → d.place.node ≡ r.due.place.node
-    rooms_apart room r d is k =
-        let u = update_found room r in
-        let it = found d (listed_at code.listing.items laid d is) in
-        let y = it.0 in
-        let kept = kept_act firsts code.tables y.initializer (head_at (out-Typed y.tree.now).node) (sight_of firsts count d.place.node y) d.place.kind d.act room
-        it.2.does k in
-        let old : IsOld nodes d.place.node y = (it.1, kept.0) in
-        room_apart r.due.place.node d.place.node u.0 y r.old room u.1 old (sym (behind d.place.node y old) ∙ kept.1)
+  rooms_apart : (room : ℕ) (r : IsUpdateRoomOf part root room) (d : Due) → IsListedIn part d → kept_at d.act ≡ Some room
+      → d.place.node ≡ r.due.place.node
+  rooms_apart room r d is k =
+      let u = update_found room r in
+      let it = found d (listed_at code.listing.items laid d is) in
+      let y = it.0 in
+      let kept = kept_act firsts code.tables y.initializer (head_at (out-Typed y.tree.now).node) (sight_of firsts count d.place.node y) d.place.kind d.act room
+      it.2.does k in
+      let old : IsOld nodes d.place.node y = (it.1, kept.0) in
+      room_apart r.due.place.node d.place.node u.0 y r.old room u.1 old (sym (behind d.place.node y old) ∙ kept.1)
 
 pub rooms_there : RoomsAreThere
 rooms_there code firsts nodes n laid lists at lays = record {
