@@ -307,17 +307,27 @@ pub no_entry : (items : List Entry) (i : ℕ) → length items ≤ i → rows_in
 no_entry items i end = ap rows_in (drop_all i items end)
 
 -- ---- a function
+few_objects : (tags : List Tag) (t : Tables) (at before taken : ℕ) (r : BlockRow) (rs : List BlockRow) → AreBlocksFrom tags t at before taken (r ∷ rs)
+    → before + objects_in (r ∷ rs) < 2 ^ 32
+few_objects tags t at before taken r [] h = omega (arith, h.0.2.few)
+few_objects tags t at before taken r (s ∷ rs) h = omega (arith, few_objects tags t (suc at) (before + length r.objects) 0 s rs h.1)
+
 pub function_blocks : (tags : List Tag) (taken : ℕ) (b : Block) (a t u : Tables) (f g : FunctionDraft) (c : FunctionCode) → f.count ≡ 0
-    → c.blocks ≡ length a.blocks.items → c.objects ≡ g.count → g.count < 2 ^ 32 → AreGrown t u → AddsBlocks tags taken (rows_of_block b) a f t g
+    → c.blocks ≡ length a.blocks.items → c.objects ≡ g.count → AreGrown t u → AddsBlocks tags taken (rows_of_block b) a f t g
     → HasBlocks tags taken (rows_of_block b) u c
-function_blocks tags taken b a t u f g c none at objects few grown h =
+function_blocks tags taken b a t u f g c none at objects grown h =
     let rows = rows_of_block b in
     let from : AreBlocksFrom tags t (length a.blocks.items) 0 taken rows =
     subst (λ k. AreBlocksFrom tags t (length a.blocks.items) k taken rows) none h.blocks in
-    let count : g.count ≡ objects_in rows = omega (arith, none, h.count) in record {
+    let count : g.count ≡ objects_in rows = omega (arith, none, h.count) in
+    let whole : rows ≡ row_of b ∷ rows_in (out-Block b).entries = whole_block b (out-Block b).entries refl in
+    let few : 0 + objects_in rows < 2 ^ 32 =
+    subst (λ rs. 0 + objects_in rs < 2 ^ 32) (sym whole)
+    (few_objects tags t (length a.blocks.items) 0 taken (row_of b) (rows_in (out-Block b).entries)
+    (subst (AreBlocksFrom tags t (length a.blocks.items) 0 taken) whole from)) in record {
       blocks = subst (λ k. AreBlocksFrom tags u k 0 taken rows) (sym at) (blocks_later tags t u (length a.blocks.items) 0 taken rows grown from);
       objects = objects ∙ count;
-      few = omega (arith, few, count);
+      few = omega (arith, few);
     }
 
 -- so the objects of its blocks have numbers from these on
@@ -445,15 +455,16 @@ one_block tags taken row old mid new range bytes before after a blocks g sum sma
     }
 
 pub block_added : {E : Type 0} (r : Result (Unit {0}) E) (tags : List Tag) (taken : ℕ) (row : BlockRow) (qs : List Qualified) (old mid new : Tables)
-    (range : Range) (bytes : ℕ) (before after : FunctionDraft) → row.objects ≡ qs → AddsObjects tags qs old mid range bytes →
-    mid.blocks.items ≡ old.blocks.items → AreGrown mid new → after.count ≡ before.count + range.count → after.count < 2 ^ 32 →
-    after.objects.first.items ≡ before.objects.first.items ++ before.count ∷ [] →
-    OnOk r (new.blocks.items ≡ mid.blocks.items ++ (record { objects = range; first = before.count; arguments = taken; created = bytes }) ∷ []) →
+    (range : Range) (bytes : ℕ) (now before after : FunctionDraft) → now ≡ before → row.objects ≡ qs → AddsObjects tags qs old mid range bytes →
+    mid.blocks.items ≡ old.blocks.items → AreGrown mid new → after.count ≡ now.count + range.count → after.count < 2 ^ 32 →
+    after.objects.first.items ≡ now.objects.first.items ++ now.count ∷ [] →
+    OnOk r (new.blocks.items ≡ mid.blocks.items ++ (record { objects = range; first = now.count; arguments = taken; created = bytes }) ∷ []) →
     OnOk r (length mid.blocks.items < 2 ^ 32) → OnOk r (AddsBlocks tags taken (row ∷ []) old before new after)
-block_added r tags taken row qs old mid new range bytes before after is a blocks g sum small firsts added few =
-    on_both r _ _ _
-    (one_block tags taken row old mid new range bytes before after (subst (λ z. AddsObjects tags z old mid range bytes) (sym is) a) blocks g sum small firsts)
-    added few
+block_added r tags taken row qs old mid new range bytes now before after same is a blocks g sum small firsts added few =
+    subst (λ d. OnOk r (AddsBlocks tags taken (row ∷ []) old d new after)) same
+    (on_both r _ _ _
+    (one_block tags taken row old mid new range bytes now after (subst (λ z. AddsObjects tags z old mid range bytes) (sym is) a) blocks g sum small firsts)
+    added few)
   where
     on_both : {A B : Type 0} (r : Result A B) (P Q R : Type 0) → (P → Q → R) → OnOk r P → OnOk r Q → OnOk r R
     on_both (Ok x) P Q R f p q = f p q

@@ -79,7 +79,7 @@ are_laid_later : (firsts : List ℕ) (old new : Tables) (a b : Laid) (at : ℕ) 
 are_laid_later firsts old new a b at [] g m h = tt
 are_laid_later firsts old new a b at (t ∷ ts) g m h =
     let e = h.0 in (
-      (e.0, m.all at e.0 e.1, e.2, e.3.0, laid_later firsts e.3.0 old new a.entries.items b.entries.items e.0 g m.entries e.3.1),
+      (e.0, m.all at e.0 e.1, e.2, (e.3.0, laid_later firsts e.3.0 old new a.entries.items b.entries.items e.0 g m.entries e.3.1)),
       are_laid_later firsts old new a b (suc at) ts g m h.1,
     )
 

@@ -17,7 +17,8 @@ pub fn number_of(count: usize) -> Result<u32, NoMemory>
 
 // As many more.
 pub fn number_with(number: u32, more: u32) -> Result<u32, NoMemory>
-    ensures { IfOk result (λ n. n ≡ number + more) }
+    ensures sum { IfOk result (λ n. n ≡ number + more) }
+    ensures few { IfOk result (λ n. n < 2 ^ 32) }
 {
     match number.checked_add(more) {
         Some(sum) => Ok(sum),

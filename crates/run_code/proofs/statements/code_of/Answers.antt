@@ -15,7 +15,8 @@ use Rattle.run_code.specs.OfTrees.{OfTerms, AreOfTerms}
 use Rattle.run_code.specs.Roots.{roots_in, code_trees, block_in, trees_in, AreCodeOf}
 use Rattle.run_code.specs.Fitting.{TreeFits, AreFit}
 use Rattle.run_code.specs.Blocks.{rows_of_block}
-use Rattle.run_code.specs.Functions.{HasBlocks, HaveBlocks, HasExpressions, HaveExpressions, laid_in}
+use Rattle.run_code.specs.EventActs.{AreGrown}
+use Rattle.run_code.specs.Functions.{HasBlocks, HaveBlocks, HasExpressions, HaveExpressions, IsMore, laid_in}
 use Rattle.run_code.proofs.Blocked.{has_later}
 use Rattle.run_code.proofs.InTurn.{each_absent, each_given, each_later, each_none, each_pushed, expressions_later, no_more}
 use Rattle.run_code.proofs.Grown.{nothing_grown}
@@ -109,15 +110,18 @@ loop-function-preserved c =
         | in-Some+in-Block+in_ok-function-in-Block w ↦
             let told = w.in_ok-function-in-Block.ensures in
             let old = c.loop-function.draft.expressions in
-            let now = w.function-in-Block.new.self.expressions in
+            let now = c.match-function.draft.expressions in
+            let grown : AreGrown old.tables now.tables =
+            subst (λ (d : Draft). AreGrown old.tables d.expressions.tables) (sym w.draft-is) told.grown in
             let Holds : Function → Block → FunctionCode → Type 0 = λ g b k. HasBlocks tags (length (out-FuncTy g.ty).params) (rows_of_block b) now.tables k in
-            subst (λ (d : Draft). HaveBlocks tags d.expressions.tables fs c.push.new.self.items) (sym w.draft-is)
-            (each_pushed Holds fs c.loop-function.functions.items c.push.new.self.items c.match-function.code i f c.in_ok-push.ensures.items
+            each_pushed Holds fs c.loop-function.functions.items c.push.new.self.items c.match-function.code i f c.in_ok-push.ensures.items
             c.loop-function.invariant.3 here
             (each_later (λ g b k. HasBlocks tags (length (out-FuncTy g.ty).params) (rows_of_block b) old.tables k) Holds fs c.loop-function.functions.items
-            (λ g b k. has_later tags old.tables now.tables (length (out-FuncTy g.ty).params) (rows_of_block b) k told.grown) c.loop-function.invariant.4)
+            (λ g b k. has_later tags old.tables now.tables (length (out-FuncTy g.ty).params) (rows_of_block b) k grown) c.loop-function.invariant.4)
             (each_given Holds f c.match-function.code w.in-Block.block w.in_ok-function-in-Block.field-0
-            (block_of f w.in-Some.body w.in-Block.block w.in-Some.is w.in-Block.is) w.code-is told.blocks))
+            (block_of f w.in-Some.body w.in-Block.block w.in-Some.is w.in-Block.is) w.code-is
+            (subst (λ (d : Draft). HasBlocks tags (length (out-FuncTy f.ty).params) (rows_of_block w.in-Block.block) d.expressions.tables
+            w.in_ok-function-in-Block.field-0) (sym w.draft-is) told.blocks))
         | in-Some+in_default w ↦
             subst (λ (d : Draft). HaveBlocks tags d.expressions.tables fs c.push.new.self.items) (sym w.draft-is)
             (each_pushed _ fs c.loop-function.functions.items c.push.new.self.items c.match-function.code i f c.in_ok-push.ensures.items
@@ -131,15 +135,19 @@ loop-function-preserved c =
         | in-Some+in-Block+in_ok-function-in-Block w ↦
             let told = w.in_ok-function-in-Block.ensures in
             let old = c.loop-function.draft.expressions in
-            let now = w.function-in-Block.new.self.expressions in
+            let now = c.match-function.draft.expressions in
+            let grown : AreGrown old.tables now.tables =
+            subst (λ (d : Draft). AreGrown old.tables d.expressions.tables) (sym w.draft-is) told.grown in
             let Holds : Function → Block → FunctionCode → Type 0 = λ g b k. HasExpressions b now.tables now.laid k.expressions in
-            subst (λ (d : Draft). HaveExpressions d.expressions.tables d.expressions.laid fs c.push.new.self.items) (sym w.draft-is)
-            (each_pushed Holds fs c.loop-function.functions.items c.push.new.self.items c.match-function.code i f c.in_ok-push.ensures.items
+            let more : IsMore old.laid now.laid = subst (λ (d : Draft). IsMore old.laid d.expressions.laid) (sym w.draft-is) told.more in
+            each_pushed Holds fs c.loop-function.functions.items c.push.new.self.items c.match-function.code i f c.in_ok-push.ensures.items
             c.loop-function.invariant.3 here
             (each_later (λ g b k. HasExpressions b old.tables old.laid k.expressions) Holds fs c.loop-function.functions.items
-            (λ g b k. expressions_later b old.tables now.tables old.laid now.laid k.expressions told.grown told.more) c.loop-function.invariant.5)
+            (λ g b k. expressions_later b old.tables now.tables old.laid now.laid k.expressions grown more) c.loop-function.invariant.5)
             (each_given Holds f c.match-function.code w.in-Block.block w.in_ok-function-in-Block.field-0
-            (block_of f w.in-Some.body w.in-Block.block w.in-Some.is w.in-Block.is) w.code-is told.expressions))
+            (block_of f w.in-Some.body w.in-Block.block w.in-Some.is w.in-Block.is) w.code-is
+            (subst (λ (d : Draft). HasExpressions w.in-Block.block d.expressions.tables d.expressions.laid w.in_ok-function-in-Block.field-0.expressions)
+            (sym w.draft-is) told.expressions))
         | in-Some+in_default w ↦
             subst (λ (d : Draft). HaveExpressions d.expressions.tables d.expressions.laid fs c.push.new.self.items) (sym w.draft-is)
             (each_pushed _ fs c.loop-function.functions.items c.push.new.self.items c.match-function.code i f c.in_ok-push.ensures.items

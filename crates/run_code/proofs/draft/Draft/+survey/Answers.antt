@@ -1,6 +1,7 @@
 use Rattle.std.proofs.Common.{arith, refl, sym, ap, subst, ◌+◌, ◌∙◌, ◌∷◌, [], drop}
 use Rattle.run_code.proofs.Blocked.{adds_none, adds_both, adds_head, adds_same, next_entry, no_entry, row_of, rows_in, whole_block}
 use Rattle.run_code.specs.Blocks.{entry_rows}
+use Rattle.run_code.proofs.Entries.{on_ok}
 use Rattle.run_code.proofs.draft.Draft.+survey.Goals as goal
 
 pub survey_block-loop-entry-init : goal.survey_block-loop-entry-init
@@ -38,3 +39,28 @@ survey_block-returns-clause-blocks t c =
     (whole_block b items c.as_slice-entry-items.ensures)
     (adds_head tags c.args.arguments (row_of b) (rows_in items) old.expressions.tables first.expressions.tables now.expressions.tables old.function
     first.function now.function head rest)
+
+pub survey-returns-in-Some-clause-fit : goal.survey-returns-in-Some-clause-fit
+survey-returns-in-Some-clause-fit t c = λ p h. c.survey-in-Some.ensures.fit p (c.in_ok-survey-in-If.ensures.fit p h)
+
+pub survey-returns-in-Some-clause-blocks : goal.survey-returns-in-Some-clause-blocks
+survey-returns-in-Some-clause-blocks t c =
+    on_ok c.survey-in-Some.result _ _
+    (λ h. adds_same c.args.tags.now 0 _ _ c.args.self.now.expressions.tables c.survey-in-Some.new.self.expressions.tables c.args.self.now.function
+    c.survey-in-Some.new.self.function ?
+    (adds_both c.args.tags.now _ _ c.args.self.now.expressions.tables c.survey-in-If.new.self.expressions.tables c.survey-in-Some.new.self.expressions.tables
+    c.args.self.now.function c.survey-in-If.new.self.function c.survey-in-Some.new.self.function c.in_ok-survey-in-If.ensures.blocks h))
+    c.survey-in-Some.ensures.blocks
+
+pub survey-returns-in_ok-survey_start-in-For-clause-fit : goal.survey-returns-in_ok-survey_start-in-For-clause-fit
+survey-returns-in_ok-survey_start-in-For-clause-fit t c = λ p h. c.survey-in-For.ensures.fit p (c.in_ok-survey_start-in-For.ensures.fit p h)
+
+pub survey-returns-in_ok-survey_start-in-For-clause-blocks : goal.survey-returns-in_ok-survey_start-in-For-clause-blocks
+survey-returns-in_ok-survey_start-in-For-clause-blocks t c =
+    on_ok c.survey-in-For.result _ _
+    (λ h. adds_same c.args.tags.now 0 _ _ c.args.self.now.expressions.tables c.survey-in-For.new.self.expressions.tables c.args.self.now.function
+    c.survey-in-For.new.self.function ?
+    (adds_both c.args.tags.now _ _ c.args.self.now.expressions.tables c.survey_start-in-For.new.self.expressions.tables
+    c.survey-in-For.new.self.expressions.tables c.args.self.now.function c.survey_start-in-For.new.self.function c.survey-in-For.new.self.function
+    c.in_ok-survey_start-in-For.ensures.blocks h))
+    c.survey-in-For.ensures.blocks

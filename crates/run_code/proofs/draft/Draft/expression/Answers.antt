@@ -1,4 +1,4 @@
-use Rattle.std.proofs.Common.{◌≡◌, [], None, length, slice_get, sym, ap, subst, ◌∙◌}
+use Rattle.std.proofs.Common.{arith, ◌≡◌, ◌+◌, List, [], None, length, slice_get, sym, ap, subst, ◌∙◌}
 use Rattle.c_typed.specs.Tree.{tree_of, size}
 use Rattle.std.proofs.lemmas.List.Elements.{All-nil}
 use Rattle.run_code.specs.EventActs.{AreEntries, AreGrown}
@@ -43,13 +43,26 @@ add_expression-requires-clause-laid_out c =
 pub returns-clause-added : goal.returns-clause-added
 returns-clause-added c =
     let firsts = c.args.self.now.function.objects.first.items in
-    let before = c.in_ok-chosen.ensures.kept ∙ c.in_ok-entries.ensures.kept in
-    let given = c.add_expression.requires.laid_out in
+    let old = c.listing.new.self.expressions.tables in
+    let tables = c.chosen.new.self.expressions.tables in
+    let root = c.args.root.now in
+    let added : AreAdded firsts None root [] c.collect.new.nodes.items =
+    subst (λ old. AreAdded firsts None root old c.collect.new.nodes.items) c.new-nodes.ensures.items c.in_ok-collect.ensures.added in
+    let same : c.deref.result.now ≡ c.deref-3.result.now = c.deref.ensures.value ∙ sym c.deref-3.ensures.value in
+    let laid : AreEntries firsts old c.deref.result.now c.in_ok-entries.entries.items =
+    subst (λ fs. AreEntries fs old c.deref.result.now c.in_ok-entries.entries.items) c.in_ok-entries.ensures.objects c.in_ok-entries.ensures.due in
+    let grown : AreEntries firsts tables c.deref.result.now c.in_ok-entries.entries.items =
+    entries_grown firsts old tables c.deref.result.now c.in_ok-entries.entries.items c.in_ok-chosen.ensures.grown laid in
+    let nodes : AreNodes firsts root c.collect.new.nodes.items = nodes_added firsts root c.collect.new.nodes.items added in
+    let whole : AreNodes firsts root c.deref-2.result.now = subst (AreNodes firsts root) (sym c.deref-2.ensures.value) nodes in
+    let before : c.chosen.new.self.expressions.laid ≡ c.args.self.now.expressions.laid = c.in_ok-chosen.ensures.kept ∙ c.in_ok-entries.ensures.kept in
     on_ok c.add_expression.result _ _
-    (λ a. subst (λ (l : Laid). AddsExpression firsts c.args.root.now c.add_expression.new.self.tables l c.add_expression.new.self.laid) before
-    (subst (λ (t : Tables). AddsExpression firsts c.args.root.now t c.chosen.new.self.expressions.laid c.add_expression.new.self.laid)
+    (λ a. subst (λ (l : Laid). AddsExpression firsts root c.add_expression.new.self.tables l c.add_expression.new.self.laid) before
+    (subst (λ (t : Tables). AddsExpression firsts root t c.chosen.new.self.expressions.laid c.add_expression.new.self.laid)
     (sym c.add_expression.ensures.tables) a))
-    (c.add_expression.ensures.added firsts ? ? ?)
+    (c.add_expression.ensures.added firsts (subst (AreNodes firsts root) (sym c.deref-3.ensures.value) nodes)
+    (subst (AreEntries firsts tables c.deref-3.result.now) (sym c.deref-4.ensures.value)
+    (subst (λ ns. AreEntries firsts tables ns c.in_ok-entries.entries.items) same grown)) (c.in_ok-chosen.ensures.chosen firsts None whole.each whole.top))
 
 pub returns-clause-listed : goal.returns-clause-listed
 returns-clause-listed c = λ h.
@@ -80,9 +93,9 @@ add_expression-requires-clause-roomed c =
     let olds = c.collect.new.counts.olds in
     let from : AreRoomed 0 nodes 0 olds =
     subst (λ (ns : List NodeInfo). AreRoomed (length ns) nodes 0 olds) c.new-nodes.ensures.items c.in_ok-collect.ensures.rooms in
-    let rooms : c.in_ok-rooms.rooms ≡ length nodes + olds = omega (arith, c.in_ok-rooms.ensures, c.in_ok-number_of.ensures) in
+    let rooms : c.in_ok-rooms.rooms ≡ length nodes + olds = omega (arith, c.in_ok-rooms.ensures.sum, c.in_ok-number_of.ensures) in
     subst (λ ns. IsRoomedBy ns c.in_ok-rooms.rooms) (sym c.deref-3.ensures.value)
-    (roomed_by nodes olds c.in_ok-rooms.rooms rooms (omega arith) from)
+    (roomed_by nodes olds c.in_ok-rooms.rooms rooms c.in_ok-rooms.ensures.few from)
 
 pub returns-clause-grown : goal.returns-clause-grown
 returns-clause-grown c =

@@ -5,7 +5,7 @@ use Rattle.std.proofs.lemmas.List.{drop_more, take_more}
 use Rattle.c_typed.specs.declared.tree.Typed.{Typed}
 use Rattle.run_code.specs.Fitting.{TreeFits}
 use Rattle.run_code.specs.Roots.{roots_in}
-use Rattle.run_code.proofs.Entries.{on_ok}
+use Rattle.std.proofs.lemmas.Result.{IfOk-weaker}
 use Rattle.run_code.proofs.FittingLemmas.{always, next_mapped_fits, mapped_drop}
 use Rattle.run_code.proofs.Grown.{grown_both, nothing_grown}
 use Rattle.run_code.proofs.InTurn.{all_added, next_added, next_taken, none_added}
@@ -50,17 +50,24 @@ range_from-requires c = omega (arith, c.in_ok-first.ensures, c.loop-root.invaria
 
 pub returns-clause-added : goal.returns-clause-added
 returns-clause-added c =
-    on_ok c.range_from.result _ _ (λ h. h) (always c.range_from.result _
+    always c.range_from.result _
     (all_added (λ (r : Bor Typed). r.now) c.args.self.now.function.objects.first.items c.split_at.result.1.now c.loop-root.root-index _
     c.loop-root.self.expressions.tables c.args.self.now.expressions.laid c.loop-root.self.expressions.laid (omega (arith, c.loop-root-test.false))
     (ap (map (λ (r : Bor Typed). r.now)) c.split_at.ensures.back ∙ mapped_drop (λ (r : Bor Typed). r.now) c.args.passed c.args.roots.now)
-    c.loop-root.invariant.5))
+    c.loop-root.invariant.5)
 
 pub returns-clause-range : goal.returns-clause-range
-returns-clause-range c = ?
+returns-clause-range c =
+    let added = all_added (λ (r : Bor Typed). r.now) c.args.self.now.function.objects.first.items c.split_at.result.1.now c.loop-root.root-index
+    (drop c.args.passed (map (λ (r : Bor Typed). r.now) c.args.roots.now)) c.loop-root.self.expressions.tables c.args.self.now.expressions.laid
+    c.loop-root.self.expressions.laid (omega (arith, c.loop-root-test.false))
+    (ap (map (λ (r : Bor Typed). r.now)) c.split_at.ensures.back ∙ mapped_drop (λ (r : Bor Typed). r.now) c.args.passed c.args.roots.now)
+    c.loop-root.invariant.5 in
+    IfOk-weaker c.range_from.result _ _
+    (λ r k. (k.0 ∙ c.in_ok-first.ensures, omega (arith, k.0, k.1, c.in_ok-first.ensures, added.count))) c.range_from.ensures.whole
 
 pub returns-clause-fit : goal.returns-clause-fit
 returns-clause-fit c = λ p all h.
-    c.loop-root.invariant.2 p
+    always c.range_from.result _ (c.loop-root.invariant.2 p
     (subst (All (TreeFits p))
-    (sym (ap (map (λ (r : Bor Typed). r.now)) c.split_at.ensures.back ∙ mapped_drop (λ (r : Bor Typed). r.now) c.args.passed c.args.roots.now)) all) h
+    (sym (ap (map (λ (r : Bor Typed). r.now)) c.split_at.ensures.back ∙ mapped_drop (λ (r : Bor Typed). r.now) c.args.passed c.args.roots.now)) all) h)

@@ -1,4 +1,4 @@
-use Rattle.std.proofs.Common.{rules, arith, ◌≡◌, map, length, ◌+◌, refl, sym, ap, subst, ◌∙◌}
+use Rattle.std.proofs.Common.{rules, arith, ◌≡◌, map, length, refl, sym, ap, subst, ◌∙◌}
 use Rattle.std.specs.Borrow.{Bor}
 use Rattle.std.specs.List.{All}
 use Rattle.std.proofs.lemmas.List.{length-map}
@@ -35,11 +35,12 @@ returns-clause-grown c = grown_both _ _ _ c.in_ok-survey_block.ensures.blocks.gr
 
 pub returns-clause-blocks : goal.returns-clause-blocks
 returns-clause-blocks c =
+    let count : c.in_ok-arguments.arguments ≡ length (out-FuncTy c.args.function.now.ty).params = search rules in
     function_blocks c.args.tags.now (length (out-FuncTy c.args.function.now.ty).params) c.args.body.now c.args.self.now.expressions.tables
     c.survey_block.new.self.expressions.tables c.expressions.new.self.expressions.tables c.start_function.result c.survey_block.new.self.function _
-    c.start_function.ensures.count c.in_ok-blocks.ensures refl (omega arith) c.in_ok-expressions.ensures.grown
+    c.start_function.ensures.count c.in_ok-blocks.ensures refl c.in_ok-expressions.ensures.grown
     (subst (λ n. AddsBlocks c.args.tags.now n (rows_of_block c.args.body.now) c.args.self.now.expressions.tables c.start_function.result
-    c.survey_block.new.self.expressions.tables c.survey_block.new.self.function) c.in_ok-arguments.ensures c.in_ok-survey_block.ensures.blocks)
+    c.survey_block.new.self.expressions.tables c.survey_block.new.self.function) count c.in_ok-survey_block.ensures.blocks)
 
 pub returns-clause-more : goal.returns-clause-more
 returns-clause-more c =
@@ -47,9 +48,14 @@ returns-clause-more c =
 
 pub returns-clause-expressions : goal.returns-clause-expressions
 returns-clause-expressions c =
+    let old = map (λ (r : Bor Typed). r.now) c.args.numbers.now.roots.items in
+    let first : c.len-first.result ≡ length c.args.numbers.now.roots.items = search rules in
+    let left = dropped old (block_trees c.args.body.now) (map (λ (r : Bor Typed). r.now) c.deref.result.now) c.len-first.result
+    (ap (map (λ (r : Bor Typed). r.now)) c.deref.ensures.value ∙ c.in_ok-block.ensures.order)
+    (first ∙ sym (length-map c.args.numbers.now.roots.items (λ (r : Bor Typed). r.now))) in
     function_laid c.args.body.now c.survey_block.new.self.function.objects.first.items _ c.expressions.new.self.expressions.tables
     c.survey_block.new.self.expressions.laid c.expressions.new.self.expressions.laid c.in_ok-expressions.expressions
-    (function_firsts c.args.tags.now c.args.arguments (rows_of_block c.args.body.now) c.args.self.now.expressions.tables
+    (function_firsts c.args.tags.now c.in_ok-arguments.arguments (rows_of_block c.args.body.now) c.args.self.now.expressions.tables
     c.survey_block.new.self.expressions.tables c.start_function.result c.survey_block.new.self.function c.start_function.ensures.count
-    c.start_function.ensures.objects c.in_ok-survey_block.ensures.blocks) ? c.in_ok-expressions.ensures.range.0 c.in_ok-expressions.ensures.range.1
+    c.start_function.ensures.objects c.in_ok-survey_block.ensures.blocks) left c.in_ok-expressions.ensures.range.0 c.in_ok-expressions.ensures.range.1
     c.in_ok-expressions.ensures.added
