@@ -123,13 +123,17 @@ loop-function-preserved c =
             (subst (λ (d : Draft). HasBlocks tags (length (out-FuncTy f.ty).params) (rows_of_block w.in-Block.block) d.expressions.tables
             w.in_ok-function-in-Block.field-0) (sym w.draft-is) told.blocks))
         | in-Some+in_default w ↦
+            let Holds : Function → Block → FunctionCode → Type 0 =
+            λ g b k. HasBlocks tags (length (out-FuncTy g.ty).params) (rows_of_block b) c.loop-function.draft.expressions.tables k in
             subst (λ (d : Draft). HaveBlocks tags d.expressions.tables fs c.push.new.self.items) (sym w.draft-is)
-            (each_pushed _ fs c.loop-function.functions.items c.push.new.self.items c.match-function.code i f c.in_ok-push.ensures.items
-            c.loop-function.invariant.3 here c.loop-function.invariant.4 (each_absent _ f c.match-function.code w.code-is))
+            (each_pushed Holds fs c.loop-function.functions.items c.push.new.self.items c.match-function.code i f c.in_ok-push.ensures.items
+            c.loop-function.invariant.3 here c.loop-function.invariant.4 (each_absent Holds f c.match-function.code w.code-is))
         | in-None w ↦
+            let Holds : Function → Block → FunctionCode → Type 0 =
+            λ g b k. HasBlocks tags (length (out-FuncTy g.ty).params) (rows_of_block b) c.loop-function.draft.expressions.tables k in
             subst (λ (d : Draft). HaveBlocks tags d.expressions.tables fs c.push.new.self.items) (sym w.draft-is)
-            (each_pushed _ fs c.loop-function.functions.items c.push.new.self.items c.match-function.code i f c.in_ok-push.ensures.items
-            c.loop-function.invariant.3 here c.loop-function.invariant.4 (each_absent _ f c.match-function.code w.code-is))
+            (each_pushed Holds fs c.loop-function.functions.items c.push.new.self.items c.match-function.code i f c.in_ok-push.ensures.items
+            c.loop-function.invariant.3 here c.loop-function.invariant.4 (each_absent Holds f c.match-function.code w.code-is))
       ],
       elim c.match-function.branch [
         | in-Some+in-Block+in_ok-function-in-Block w ↦
@@ -149,13 +153,17 @@ loop-function-preserved c =
             (subst (λ (d : Draft). HasExpressions w.in-Block.block d.expressions.tables d.expressions.laid w.in_ok-function-in-Block.field-0.expressions)
             (sym w.draft-is) told.expressions))
         | in-Some+in_default w ↦
+            let Holds : Function → Block → FunctionCode → Type 0 =
+            λ g b k. HasExpressions b c.loop-function.draft.expressions.tables c.loop-function.draft.expressions.laid k.expressions in
             subst (λ (d : Draft). HaveExpressions d.expressions.tables d.expressions.laid fs c.push.new.self.items) (sym w.draft-is)
-            (each_pushed _ fs c.loop-function.functions.items c.push.new.self.items c.match-function.code i f c.in_ok-push.ensures.items
-            c.loop-function.invariant.3 here c.loop-function.invariant.5 (each_absent _ f c.match-function.code w.code-is))
+            (each_pushed Holds fs c.loop-function.functions.items c.push.new.self.items c.match-function.code i f c.in_ok-push.ensures.items
+            c.loop-function.invariant.3 here c.loop-function.invariant.5 (each_absent Holds f c.match-function.code w.code-is))
         | in-None w ↦
+            let Holds : Function → Block → FunctionCode → Type 0 =
+            λ g b k. HasExpressions b c.loop-function.draft.expressions.tables c.loop-function.draft.expressions.laid k.expressions in
             subst (λ (d : Draft). HaveExpressions d.expressions.tables d.expressions.laid fs c.push.new.self.items) (sym w.draft-is)
-            (each_pushed _ fs c.loop-function.functions.items c.push.new.self.items c.match-function.code i f c.in_ok-push.ensures.items
-            c.loop-function.invariant.3 here c.loop-function.invariant.5 (each_absent _ f c.match-function.code w.code-is))
+            (each_pushed Holds fs c.loop-function.functions.items c.push.new.self.items c.match-function.code i f c.in_ok-push.ensures.items
+            c.loop-function.invariant.3 here c.loop-function.invariant.5 (each_absent Holds f c.match-function.code w.code-is))
       ],
     )
 

@@ -1,6 +1,6 @@
-use Rattle.std.proofs.Common.{arith, refl, sym, ap, subst, ◌+◌, ◌∙◌, ◌∷◌, [], drop}
-use Rattle.run_code.proofs.Blocked.{adds_none, adds_both, adds_head, adds_same, next_entry, no_entry, row_of, rows_in, whole_block}
-use Rattle.run_code.specs.Blocks.{entry_rows}
+use Rattle.std.proofs.Common.{arith, ◌≡◌, refl, sym, ap, ap₂, ◌+◌, ◌++◌, ◌∙◌, drop}
+use Rattle.run_code.proofs.Blocked.{adds_none, adds_both, adds_head, adds_same, next_entry, no_entry, of_for, of_if, row_of, rows_in, whole_block}
+use Rattle.run_code.specs.Blocks.{entry_rows, rows_of, start_rows}
 use Rattle.run_code.proofs.Entries.{on_ok}
 use Rattle.run_code.proofs.draft.Draft.+survey.Goals as goal
 
@@ -45,11 +45,17 @@ survey-returns-in-Some-clause-fit t c = λ p h. c.survey-in-Some.ensures.fit p (
 
 pub survey-returns-in-Some-clause-blocks : goal.survey-returns-in-Some-clause-blocks
 survey-returns-in-Some-clause-blocks t c =
+    let old = c.args.self.now in
+    let mid = c.survey.new.self in
+    let new = c.survey-in-Some.new.self in
+    let rows : rows_of c.args.body.now ≡ rows_of c.get.result.now ++ rows_of c.get-in-Some.result.now =
+    of_if c.args.body.now c.in-If.field-0 c.in-If.yes c.in-Some.no c.in-If.no c.in-If.is c.in-Some.is
+    ∙ ap₂ (λ y z. rows_of y ++ rows_of z) (sym c.get.ensures) (sym c.get-in-Some.ensures) in
     on_ok c.survey-in-Some.result _ _
-    (λ h. adds_same c.args.tags.now 0 _ _ c.args.self.now.expressions.tables c.survey-in-Some.new.self.expressions.tables c.args.self.now.function
-    c.survey-in-Some.new.self.function ?
-    (adds_both c.args.tags.now _ _ c.args.self.now.expressions.tables c.survey-in-If.new.self.expressions.tables c.survey-in-Some.new.self.expressions.tables
-    c.args.self.now.function c.survey-in-If.new.self.function c.survey-in-Some.new.self.function c.in_ok-survey-in-If.ensures.blocks h))
+    (λ h. adds_same c.args.tags.now 0 (rows_of c.get.result.now ++ rows_of c.get-in-Some.result.now) (rows_of c.args.body.now) old.expressions.tables
+    new.expressions.tables old.function new.function rows
+    (adds_both c.args.tags.now (rows_of c.get.result.now) (rows_of c.get-in-Some.result.now) old.expressions.tables mid.expressions.tables
+    new.expressions.tables old.function mid.function new.function c.in_ok-survey-in-If.ensures.blocks h))
     c.survey-in-Some.ensures.blocks
 
 pub survey-returns-in_ok-survey_start-in-For-clause-fit : goal.survey-returns-in_ok-survey_start-in-For-clause-fit
@@ -57,10 +63,15 @@ survey-returns-in_ok-survey_start-in-For-clause-fit t c = λ p h. c.survey-in-Fo
 
 pub survey-returns-in_ok-survey_start-in-For-clause-blocks : goal.survey-returns-in_ok-survey_start-in-For-clause-blocks
 survey-returns-in_ok-survey_start-in-For-clause-blocks t c =
+    let old = c.args.self.now in
+    let mid = c.survey_start.new.self in
+    let new = c.survey-in-For.new.self in
+    let rows : rows_of c.args.body.now ≡ start_rows c.in-For.start ++ rows_of c.get-in-For.result.now =
+    of_for c.args.body.now c.in-For.start c.in-For.test c.in-For.step c.in-For.body c.in-For.is
+    ∙ ap (λ z. start_rows c.in-For.start ++ rows_of z) (sym c.get-in-For.ensures) in
     on_ok c.survey-in-For.result _ _
-    (λ h. adds_same c.args.tags.now 0 _ _ c.args.self.now.expressions.tables c.survey-in-For.new.self.expressions.tables c.args.self.now.function
-    c.survey-in-For.new.self.function ?
-    (adds_both c.args.tags.now _ _ c.args.self.now.expressions.tables c.survey_start-in-For.new.self.expressions.tables
-    c.survey-in-For.new.self.expressions.tables c.args.self.now.function c.survey_start-in-For.new.self.function c.survey-in-For.new.self.function
-    c.in_ok-survey_start-in-For.ensures.blocks h))
+    (λ h. adds_same c.args.tags.now 0 (start_rows c.in-For.start ++ rows_of c.get-in-For.result.now) (rows_of c.args.body.now) old.expressions.tables
+    new.expressions.tables old.function new.function rows
+    (adds_both c.args.tags.now (start_rows c.in-For.start) (rows_of c.get-in-For.result.now) old.expressions.tables mid.expressions.tables
+    new.expressions.tables old.function mid.function new.function c.in_ok-survey_start-in-For.ensures.blocks h))
     c.survey-in-For.ensures.blocks
