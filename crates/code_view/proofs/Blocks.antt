@@ -126,15 +126,19 @@ counted_same tags n (q ∷ qs) =
     ap (λ (e : Extent). counted_by tags (min (n + max e.size 16) (2 ^ 62)) qs) (extent_same tags q.ty)
     ∙ counted_same tags (min (n + max (view.object_extent tags q.ty).size 16) (2 ^ 62)) qs
 
+none_there : {A : Type 0} (k : ℕ) → slice_get {X = A} [] k ≡ None
+none_there zero = refl
+none_there (suc k) = refl
+
 get_take : {A : Type 0} (xs : List A) (n k : ℕ) → k < n → slice_get (take n xs) k ≡ slice_get xs k
-get_take [] n k l = refl
-get_take (x ∷ xs) zero k l = absurd (omega (arith, l))
+get_take xs zero k l = absurd (omega (arith, l))
+get_take [] (suc n) k l = refl
 get_take (x ∷ xs) (suc n) zero l = refl
 get_take (x ∷ xs) (suc n) (suc k) l = get_take xs n k (omega (arith, l))
 
 get_drop : {A : Type 0} (xs : List A) (n k : ℕ) → slice_get (drop n xs) k ≡ slice_get xs (n + k)
-get_drop [] n k = refl
-get_drop (x ∷ xs) zero k = ap (slice_get (x ∷ xs)) (omega arith)
+get_drop xs zero k = let same : k ≡ 0 + k = omega arith in ap (slice_get xs) same
+get_drop [] (suc n) k = none_there k ∙ sym (none_there (suc n + k))
 get_drop (x ∷ xs) (suc n) k =
     let next : suc (n + k) ≡ suc n + k = omega arith in
     get_drop xs n k ∙ ap (slice_get (x ∷ xs)) next
