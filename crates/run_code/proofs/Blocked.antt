@@ -1,6 +1,7 @@
 -- The blocks of functions, with their objects.
-use Rattle.std.proofs.Common.{rules, arith, ◌≡◌, ◌≤◌, ◌<◌, ℕ, zero, suc, ◌+◌, ◌-◌, ◌^◌, min, max, true, option_map, List, [], ◌∷◌, ◌++◌, length, map, take, drop, get_or}
-use Rattle.std.proofs.Common.{Option, Some, None, Result, Ok, Err, OnOk, slice_get, refl, sym, ap, subst, ◌∙◌}
+use Rattle.std.proofs.Common.{rules, arith, ◌≡◌, ◌≤◌, ◌<◌, ℕ, suc, ◌+◌, ◌^◌, min, max, true, option_map, List, [], ◌∷◌, ◌++◌, length}
+use Rattle.std.proofs.Common.{map, drop, get_or}
+use Rattle.std.proofs.Common.{Option, Some, Result, Ok, Err, OnOk, slice_get, refl, sym, ap, subst, ◌∙◌}
 use Rattle.std.proofs.lemmas.List.{append-nil, append_assoc, drop_more, drop_all, length-append, length-map}
 use Rattle.c_types.specs.declared.tags.Tag.{Tag}
 use Rattle.c_types.specs.declared.ty.Qual.{Qual}
@@ -8,16 +9,13 @@ use Rattle.c_types.specs.declared.ty.Ty.TheFolds as types
 use Rattle.c_types.specs.Shapes.{Form, form_of}
 use Rattle.c_types.specs.Types.{Qualified, qualified_of, type_of}
 use Rattle.c_typed.specs.declared.tree.Typed.{Typed}
-use Rattle.c_typed.specs.declared.statement.Body.{Body, out-Body, out-roll-Body}
-use Rattle.c_typed.specs.declared.statement.Body.TheOpen as form
+use Rattle.c_typed.specs.declared.statement.Body.{Body}
 use Rattle.c_typed.specs.declared.statement.Body.TheFolds as typed
 use Rattle.c_typed.specs.declared.statement.Body.TheVariants as body
 use Rattle.c_typed.specs.declared.statement.Block.{Block, out-Block, fold_out-Block}
 use Rattle.c_typed.specs.declared.statement.Entry.{Entry, fold-Entry}
-use Rattle.c_typed.specs.declared.statement.Entry.TheVariants as entry
-use Rattle.c_typed.specs.declared.statement.ForStart.{ForStart, fold-ForStart}
-use Rattle.c_typed.specs.declared.statement.ForStart.TheVariants as start
-use Rattle.c_typed.specs.Sites.{BlockRow, Summary, summary, summary_step, entry_summary, start_summary, block_summary, entries_summary, declared_in}
+use Rattle.c_typed.specs.declared.statement.ForStart.{ForStart}
+use Rattle.c_typed.specs.Sites.{BlockRow, Summary, summary_step, entry_summary, start_summary, block_summary, entries_summary, declared_in}
 use Rattle.run_objects.specs.Extents.{extent_of, is_constant, HasForm}
 use Rattle.run_code.specs.declared.draft.FunctionDraft.{FunctionDraft}
 use Rattle.run_code.specs.declared.steps.BlockCode.{BlockCode}
@@ -45,7 +43,6 @@ use Rattle.run_code.specs.Blocks.{
   start_rows,
 }
 use Rattle.run_code.specs.Functions.{HasBlocks}
-use Rattle.run_code.specs.Roots.{as_block, block_in}
 use Rattle.run_code.proofs.Grown.{grown_both, nothing_grown}
 
 -- ---- what stands in the tables stands there as more is added
@@ -185,100 +182,10 @@ of_if x t y z o e f =
     let whole : rows_of (body.If t y (Some z)) ≡ rows_of y ++ rows_of z = search (rules, typed.the_lemmas) in
     ap rows_of (e ∙ ap (body.If t y) f) ∙ whole
 
-pub of_if_only : (x : Body) (t : Typed) (y : Body) (o : Option Body) → x ≡ body.If t y o → o ≡ None → rows_of x ≡ rows_of y
-of_if_only x t y o e f =
-    let whole : rows_of (body.If t y None) ≡ rows_of y = search (rules, typed.the_lemmas) in
-    ap rows_of (e ∙ ap (body.If t y) f) ∙ whole
-
-pub of_switch : (x : Body) (t : Typed) (y : Body) → x ≡ body.Switch t y → rows_of x ≡ rows_of y
-of_switch x t y e =
-    let whole : rows_of (body.Switch t y) ≡ rows_of y = search (rules, typed.the_lemmas) in
-    ap rows_of e ∙ whole
-
-pub of_while : (x : Body) (t : Typed) (y : Body) → x ≡ body.While t y → rows_of x ≡ rows_of y
-of_while x t y e =
-    let whole : rows_of (body.While t y) ≡ rows_of y = search (rules, typed.the_lemmas) in
-    ap rows_of e ∙ whole
-
-pub of_do : (x y : Body) (t : Typed) → x ≡ body.Do y t → rows_of x ≡ rows_of y
-of_do x y t e =
-    let whole : rows_of (body.Do y t) ≡ rows_of y = search (rules, typed.the_lemmas) in
-    ap rows_of e ∙ whole
-
 pub of_for : (x : Body) (s : ForStart) (test step : Option Typed) (y : Body) → x ≡ body.For s test step y → rows_of x ≡ start_rows s ++ rows_of y
 of_for x s test step y e =
     let whole : rows_of (body.For s test step y) ≡ start_rows s ++ rows_of y = search (rules, typed.the_lemmas) in
     ap rows_of e ∙ whole
-
-pub of_label : (x : Body) (k : ℕ) (y : Body) → x ≡ body.Label k y → rows_of x ≡ rows_of y
-of_label x k y e =
-    let whole : rows_of (body.Label k y) ≡ rows_of y = search (rules, typed.the_lemmas) in
-    ap rows_of e ∙ whole
-
-pub of_case : (x : Body) (k : _) (y : Body) → x ≡ body.Case k y → rows_of x ≡ rows_of y
-of_case x k y e =
-    let whole : rows_of (body.Case k y) ≡ rows_of y = search (rules, typed.the_lemmas) in
-    ap rows_of e ∙ whole
-
-pub of_default : (x y : Body) → x ≡ body.Default y → rows_of x ≡ rows_of y
-of_default x y e =
-    let whole : rows_of (body.Default y) ≡ rows_of y = search (rules, typed.the_lemmas) in
-    ap rows_of e ∙ whole
-
-pub of_simple : (x : Body) (o : Option Typed) → x ≡ body.Simple o → rows_of x ≡ []
-of_simple x o e =
-    let whole : rows_of (body.Simple o) ≡ [] = search (rules, typed.the_lemmas) in
-    ap rows_of e ∙ whole
-
-pub of_return : (x : Body) (o : Option Typed) → x ≡ body.Return o → rows_of x ≡ []
-of_return x o e =
-    let whole : rows_of (body.Return o) ≡ [] = search (rules, typed.the_lemmas) in
-    ap rows_of e ∙ whole
-
-pub of_goto : (x : Body) (k : ℕ) → x ≡ body.Goto k → rows_of x ≡ []
-of_goto x k e =
-    let whole : rows_of (body.Goto k) ≡ [] = search (rules, typed.the_lemmas) in
-    ap rows_of e ∙ whole
-
-pub of_continue : (x : Body) → x ≡ body.Continue → rows_of x ≡ []
-of_continue x e =
-    let whole : rows_of body.Continue ≡ [] = search (rules, typed.the_lemmas) in
-    ap rows_of e ∙ whole
-
-pub of_break : (x : Body) → x ≡ body.Break → rows_of x ≡ []
-of_break x e =
-    let whole : rows_of body.Break ≡ [] = search (rules, typed.the_lemmas) in
-    ap rows_of e ∙ whole
-
-pub of_declared : (s : ForStart) (b : Block) → s ≡ start.Declared b → start_rows s ≡ rows_of_block b
-of_declared s b e =
-    let whole : start_rows (start.Declared b) ≡ rows_of_block b = search (rules, typed.the_lemmas) in
-    ap start_rows e ∙ whole
-
-pub of_empty : (s : ForStart) → s ≡ start.Empty → start_rows s ≡ []
-of_empty s e =
-    let whole : start_rows start.Empty ≡ [] = search (rules, typed.the_lemmas) in
-    ap start_rows e ∙ whole
-
-pub of_value : (s : ForStart) (t : Typed) → s ≡ start.Value t → start_rows s ≡ []
-of_value s t e =
-    let whole : start_rows (start.Value t) ≡ [] = search (rules, typed.the_lemmas) in
-    ap start_rows e ∙ whole
-
-pub of_statement : (e : Entry) (x : Body) → e ≡ entry.Statement x → entry_rows e ≡ rows_of x
-of_statement e x is =
-    let whole : entry_rows (entry.Statement x) ≡ rows_of x = search (rules, typed.the_lemmas) in
-    ap entry_rows is ∙ whole
-
-pub of_initializer : (e : Entry) (t : Typed) → e ≡ entry.Initializer t → entry_rows e ≡ []
-of_initializer e t is =
-    let whole : entry_rows (entry.Initializer t) ≡ [] = search (rules, typed.the_lemmas) in
-    ap entry_rows is ∙ whole
-
-pub of_declare : (e : Entry) (d : ℕ) → e ≡ entry.Declare d → entry_rows e ≡ []
-of_declare e d is =
-    let whole : entry_rows (entry.Declare d) ≡ [] = search (rules, typed.the_lemmas) in
-    ap entry_rows is ∙ whole
 
 -- those of a block, and of its entries from one on
 abbrev entry_seen : Entry → Summary × List ℕ
@@ -334,10 +241,6 @@ function_blocks tags taken b a t u f g c none at objects grown h =
 pub function_firsts : (tags : List Tag) (taken : ℕ) (rows : List BlockRow) (a t : Tables) (f g : FunctionDraft) → f.count ≡ 0 → f.objects.first.items ≡ []
     → AddsBlocks tags taken rows a f t g → g.objects.first.items ≡ firsts_from 0 rows
 function_firsts tags taken rows a t f g none start h = h.firsts ∙ (ap (λ ns. ns ++ firsts_from f.count rows) start ∙ ap (λ n. firsts_from n rows) none)
-
--- the block of a body that is one
-pub block_here : (b : Block) → block_in (Some (body.Block b)) ≡ Some b
-block_here b = ap (λ z. as_block (out-Body z)) (sym (body.rolls-Block b)) ∙ ap as_block (out-roll-Body (form.Block b))
 
 -- ---- one object more
 pub qual_type : (q : Qual) → type_of q.ty ≡ (qualified_of q).ty

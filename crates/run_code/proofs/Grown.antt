@@ -350,7 +350,8 @@ tables_grown old new entries es g h = all_grown old new entries entries [] es g 
 pub expression_pushed : (b : Bool) (tables : Tables) (entries longer more : List Listed) (es fs : List Expression) (firsts : List ℕ) (nodes : List NodeInfo)
     (e : Expression) → fs ≡ (if b then es ++ e ∷ [] else es) → longer ≡ entries ++ more
     → AreNodes firsts e.root.now nodes → IsRoomedBy nodes e.rooms → AreEntries firsts tables nodes more
-    → Lists tables.chosen.items e.chosen (chosen_of firsts e.root.now 0) → e.value ≡ resolved firsts e.root.now 0 → e.first ≡ length entries → e.end ≡ length longer
+    → Lists tables.chosen.items e.chosen (chosen_of firsts e.root.now 0)
+    → e.value ≡ resolved firsts e.root.now 0 → e.first ≡ length entries → e.end ≡ length longer
     → ∥ All (IsLaidOut tables longer) es ∥₁ → ∥ All (IsLaidOut tables longer) fs ∥₁
 expression_pushed true tables entries longer more es fs firsts nodes e p l n w a k v f t h =
     subst (λ z. ∥ All (IsLaidOut tables longer) z ∥₁) (sym p) (one_more tables entries longer more es firsts nodes e l n w a k v f t h)

@@ -11,8 +11,8 @@ loop-child-init t c =
     let at : c.in_ok-number.number ≡ length c.args.nodes.now.items = search rules in (
       subst (Between c.args.objects.now.first.items c.args.parent c.args.root.now c.in_ok-number.number c.args.nodes.now.items c.push.new.self.items)
           (sym c.as_slice-child-items.ensures)
-          (begun c.args.objects.now.first.items c.args.parent c.args.root.now c.in_ok-number.number c.args.nodes.now.items c.push.new.self.items c.in_ok-noted.noted at
-          c.in_ok-push.ensures.items c.in_ok-noted.ensures.tree c.in_ok-noted.ensures.parent c.in_ok-noted.ensures.operand),
+          (begun c.args.objects.now.first.items c.args.parent c.args.root.now c.in_ok-number.number c.args.nodes.now.items c.push.new.self.items
+          c.in_ok-noted.noted at c.in_ok-push.ensures.items c.in_ok-noted.ensures.tree c.in_ok-noted.ensures.parent c.in_ok-noted.ensures.operand),
       λ p h. node_pushed p c.args.nodes.now.items c.push.new.self.items c.in_ok-noted.noted c.args.root.now c.in_ok-push.ensures.items
           c.in_ok-noted.ensures.tree (root_fits p c.args.root.now h),
       one_roomed c.in_ok-number.number c.args.nodes.now.items c.push.new.self.items c.in_ok-noted.noted c.args.root.now c.args.counts.now.olds
@@ -29,7 +29,8 @@ loop-child-preserved t c =
           (drop c.loop-child.child-index c.as_slice-child-items.result.now) (drop (c.loop-child.child-index + 1) c.as_slice-child-items.result.now)
           left c.loop-child.invariant.0 c.in_ok-collect.ensures.added,
       λ p h old. c.in_ok-collect.ensures.fit p
-          (child_fits p c.args.root.now c.child-item.result c.as_slice-child-items.result.now rest c.loop-child.child-index c.as_slice-child-items.ensures left h)
+          (child_fits p c.args.root.now c.child-item.result c.as_slice-child-items.result.now rest c.loop-child.child-index
+          c.as_slice-child-items.ensures left h)
           (c.loop-child.invariant.1 p h old),
       more_roomed c.in_ok-number.number c.loop-child.nodes.items c.collect.new.nodes.items c.args.counts.now.olds c.loop-child.counts.olds
           c.collect.new.counts.olds c.in_ok-collect.ensures.added.kept c.loop-child.invariant.2 c.in_ok-collect.ensures.rooms,

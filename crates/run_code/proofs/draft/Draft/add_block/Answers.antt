@@ -1,4 +1,3 @@
-use Rattle.std.proofs.Common.{arith, ap}
 use Rattle.run_code.proofs.Blocked.{block_added}
 use Rattle.run_code.proofs.FittingLemmas.{always}
 use Rattle.run_code.proofs.draft.Draft.add_block.Goals as goal

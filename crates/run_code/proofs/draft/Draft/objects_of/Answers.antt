@@ -1,4 +1,4 @@
-use Rattle.std.proofs.Common.{arith, ◌+◌, ◌≡◌, ◌∙◌, length, map, drop, refl, subst, sym}
+use Rattle.std.proofs.Common.{arith, ◌+◌, ◌≡◌, ◌∙◌, map, drop, refl, subst, sym}
 use Rattle.c_types.specs.Types.{qualified_of}
 use Rattle.run_code.specs.Blocks.{AreObjectsFrom}
 use Rattle.run_code.proofs.Blocked.{all_objects, longer_by_one, next_counted, next_object, next_qual}
