@@ -14,3 +14,4 @@ mod Labels
 mod Parts
 mod Named
 mod Rooms
+mod Blocks

@@ -35,9 +35,10 @@ use Rattle.run_code.specs.declared.whole.Code.{Code}
 use Rattle.run_code.specs.EventActs.{head_at, room_of, sight_of, Sight, IsValue, IsEffect, IsBody, IsAct, IsDue}
 use Rattle.run_code.specs.LaidOut.{LaidOutBy}
 use Rattle.run_code.specs.Numbered.{IsAt, AreBelow, AreNoted, AreNodes}
+use Rattle.run_code.specs.Rooms.{gives_old, IsOld, IsRoomedBy}
 use Rattle.run_state.specs.Stands.{IsUpdate}
 use Rattle.code_view.specs.Events.{IsListedAt}
-use Rattle.code_view.specs.Rooms.{gives_old, IsOld, IsRoomedBy, IsListedIn, IsUpdateRoomOf, kept_at, RoomsAreThere}
+use Rattle.code_view.specs.Rooms.{IsListedIn, IsUpdateRoomOf, kept_at, RoomsAreThere}
 use Rattle.run_code.specs.OfTrees.{listing_in}
 use Rattle.code_view.proofs.Events.{effects_store, head_root, in_part, behind as from_there}
 use Rattle.code_view.proofs.Listed.{seen_root}
@@ -203,8 +204,10 @@ old_room (shape.Update c true) count n room h = refl
 old_room (shape.Update c false) count n room h = absurd (cc)
 old_room _ count n room h = absurd (cc)
 
-module _ (code : Code) (firsts : List ℕ) (nodes : List NodeInfo) (laid : Laid) (lays : LaidOutBy firsts nodes code.tables code.listing.items laid)
-    (roomed : IsRoomedBy nodes laid) where
+module _ (code : Code) (firsts : List ℕ) (nodes : List NodeInfo) (laid : Laid) (lays : LaidOutBy firsts nodes code.tables code.listing.items laid) where
+  abbrev roomed : IsRoomedBy nodes laid.rooms
+  roomed = lays.rooms
+
   abbrev count : ℕ
   count = length nodes
 
@@ -288,9 +291,9 @@ module _ (code : Code) (firsts : List ℕ) (nodes : List NodeInfo) (laid : Laid)
       room_apart r.due.place.node d.place.node u.0 y r.old room u.1 old (sym (behind d.place.node y old) ∙ kept.1)
 
 pub rooms_there : RoomsAreThere
-rooms_there code firsts nodes n laid lists at lays roomed = record {
-  nodes = let own = roomed.own in let count = lays.numbered.count in let same = ap size (same_tree laid.root.now) in omega (arith, own, count, same);
-  within = rooms_within code firsts nodes laid lays roomed;
-  apart = rooms_apart code firsts nodes laid lays roomed;
+rooms_there code firsts nodes n laid lists at lays = record {
+  nodes = let own = lays.rooms.own in let count = lays.numbered.count in let same = ap size (same_tree laid.root.now) in omega (arith, own, count, same);
+  within = rooms_within code firsts nodes laid lays;
+  apart = rooms_apart code firsts nodes laid lays;
   effects = λ d is kind. effects_store code firsts nodes n laid d lists at lays (listed_at code.listing.items laid d is) kind;
 }

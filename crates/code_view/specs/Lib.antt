@@ -6,3 +6,4 @@ pub mod Events
 pub mod Labels
 pub mod Named
 pub mod Rooms
+pub mod Blocks

@@ -1,10 +1,7 @@
 -- The rooms for the values of a full expression, and for what its updates are to store.
-use Rattle.std.specs.Prelude.{◌≡◌, ◌+◌, ◌<◌, ◌≤◌, ◌^◌, ℕ, Bool, true, false, List, length, Option, Some, None, slice_get}
+use Rattle.std.specs.Prelude.{◌≡◌, ◌<◌, ◌≤◌, ℕ, Bool, true, List, Option, Some, None, slice_get}
 use Rattle.ub_base.specs.declared.clause.Kind.TheVariants.{Eff}
 use Rattle.c_typed.specs.declared.tree.Change.{Change}
-use Rattle.c_typed.specs.declared.tree.Node.TheOpen as shape
-use Rattle.c_typed.specs.declared.tree.Typed.{out-Typed}
-use Rattle.c_typed.specs.Sites.{Head}
 use Rattle.c_typed.specs.Tree.{size}
 use Rattle.c_model.specs.Program.{Expr, Exprs, tree_of}
 use Rattle.c_model.specs.Steps.{at_node}
@@ -19,31 +16,12 @@ use Rattle.run_code.specs.declared.steps.Listed.TheVariants as listed
 use Rattle.run_code.specs.declared.steps.Operand.{Operand}
 use Rattle.run_code.specs.declared.steps.Operand.TheVariants.{Done}
 use Rattle.run_code.specs.declared.whole.Code.{Code}
-use Rattle.run_code.specs.EventActs.{head_at}
 use Rattle.run_code.specs.LaidOut.{LaidOutBy}
 use Rattle.run_code.specs.OfTrees.{ListsTrees, listing_in}
 use Rattle.run_state.specs.Stands.{IsUpdate}
 use Rattle.code_view.specs.Events.{stores}
 
--- 1. What the code is to have.
-
--- an update that gives the old value (6.5.2.4p2)
-abbrev pub gives_old : Head → Bool
-gives_old (shape.Update c true) = true
-gives_old h = false
-
--- the node of this number is such an update
-abbrev pub IsOld : List NodeInfo → ℕ → NodeInfo → Type 0
-IsOld nodes n x = (slice_get nodes n ≡ Some x) × (gives_old (head_at (out-Typed x.tree.now).node) ≡ true)
-
--- There is a room for each node, and behind these one for each update that gives the old value, no two of them one. A number of rooms has 32 bits.
-pub record IsRoomedBy (nodes : List NodeInfo) (laid : Laid) : Type 0 where
-  pub few : laid.rooms < 2 ^ 32
-  pub own : length nodes ≤ laid.rooms
-  pub behind : (n : ℕ) (x : NodeInfo) → IsOld nodes n x → length nodes + x.room < laid.rooms
-  pub apart : (n k : ℕ) (x y : NodeInfo) → IsOld nodes n x → IsOld nodes k y → x.room ≡ y.room → n ≡ k
-
--- 2. What a run asks.
+-- 1. What a run asks.
 
 -- the event stands among these entries
 abbrev pub IsListedIn : List Listed → Due → Type 0
@@ -76,8 +54,8 @@ pub record HasRoomsOf (entries : List Listed) (rooms : ℕ) (root : Expr) : Type
       → d.place.node ≡ r.due.place.node
   pub effects : (d : Due) → IsListedIn entries d → d.place.kind ≡ Eff → stores d.act ≡ true
 
--- So it is where the code has these rooms.
+-- 2. So it is in the code: it has these rooms (`IsRoomedBy` of run_code).
 abbrev pub RoomsAreThere : Type 0
 RoomsAreThere = (code : Code) (firsts : List ℕ) (nodes : List NodeInfo) (n : ℕ) (laid : Laid) → ListsTrees code
-    → slice_get code.expressions.items n ≡ Some laid → LaidOutBy firsts nodes code.tables code.listing.items laid → IsRoomedBy nodes laid
+    → slice_get code.expressions.items n ≡ Some laid → LaidOutBy firsts nodes code.tables code.listing.items laid
     → HasRoomsOf (listing_in code.listing.items laid) laid.rooms (expr_of laid.root.now)

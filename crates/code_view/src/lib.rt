@@ -8,6 +8,7 @@ ghost use Rattle.code_view.specs.Known.{CodeIsKnown};
 ghost use Rattle.code_view.specs.Events.{EventsAreOfClasses, EventsAreEvaluated, EffectsStore, EventsAreOfCode, EventsAreInCode};
 ghost use Rattle.code_view.specs.Labels.{DefinedKeepLabels};
 ghost use Rattle.code_view.specs.Rooms.{RoomsAreThere};
+ghost use Rattle.code_view.specs.Blocks.{BlocksStandInCode, OpenBlocksAreThere, ExpressionsStandInCode};
 ghost use Rattle.code_view.specs.Named.{OpenIsPlaced, OpenIsKnown, OpenIsNamed};
 ghost use Rattle.code_view.specs.Starting.{LawfulStartStands};
 
@@ -69,10 +70,18 @@ pub fn law_events()
     ensures laid { EventsAreInCode }
 {}
 
-/// Where the code has a room for each node of a full expression, and one behind these for each update that gives its old value, no two of them one, what each
-/// update is to store has its room, in which no other node keeps anything (6.5.2.4p2, 6.5.16.2p3).
+/// What each update of a full expression is to store has its room in the code, in which no other node keeps anything (6.5.2.4p2, 6.5.16.2p3).
 pub fn law_rooms()
     ensures { RoomsAreThere }
+{}
+
+/// Each block of a function that has code has the objects that the definitions create as they enter it: as many, with their sizes, alignments, forms and
+/// qualifiers, and the bytes that they count (6.2.4p6). The numbers of blocks and of objects are below 2^32, and a block's objects stand behind those of
+/// the blocks round it. The full expressions of the function are laid out by these numbers.
+pub fn law_blocks()
+    ensures stand { BlocksStandInCode }
+    ensures there { OpenBlocksAreThere }
+    ensures expressions { ExpressionsStandInCode }
 {}
 
 /// Of each function that has a body the labels of its body in the code are kept (6.8.6.1).

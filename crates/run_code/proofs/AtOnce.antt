@@ -13,7 +13,7 @@ use Rattle.run_code.specs.Branches.{Chooses}
 use Rattle.run_code.specs.declared.nodes.NodeInfo.{NodeInfo}
 use Rattle.run_code.specs.declared.steps.Operand.{Operand}
 use Rattle.run_code.specs.declared.steps.Range.{Range}
-use Rattle.run_code.specs.InRange.{IsRange, part_of}
+use Rattle.run_code.specs.InRange.{part_of}
 use Rattle.run_code.specs.Resolved.{resolved}
 use Rattle.run_code.specs.Numbered.{IsAt, AreBelow, AreNoted}
 use Rattle.run_code.specs.Choosing.{chooses}

@@ -1,6 +1,6 @@
 -- The choices that are made as soon as a tree is due are those of the definitions.
-use Rattle.std.proofs.Common.{arith, ◌≡◌, ◌<◌, ◌≤◌, ◌+◌, ◌==◌, ◌||◌, ◌⊎◌, inl, inr, Bool, true, false, not, if◌then◌else◌, ℕ, zero, suc, List, [], ◌∷◌, ◌++◌}
-use Rattle.std.proofs.Common.{Option, Some, None, slice_get, refl, sym, ap, subst, ◌∙◌, true≢false, map}
+use Rattle.std.proofs.Common.{arith, ◌≡◌, ◌<◌, ◌≤◌, ◌+◌, ◌==◌, ◌||◌, ◌⊎◌, inl, inr, Bool, true, false, if◌then◌else◌, ℕ, zero, suc, List, [], ◌∷◌, ◌++◌}
+use Rattle.std.proofs.Common.{Option, Some, None, slice_get, refl, sym, ap, ◌∙◌, true≢false}
 use Rattle.std.specs.Prelude.{nat_lt, is_some}
 use Rattle.std.proofs.lemmas.Bool.Decides.{nat_tests}
 use Rattle.std.proofs.lemmas.List.{append-nil}
@@ -9,7 +9,7 @@ use Rattle.c_typed.specs.declared.class.Class.{Class}
 use Rattle.c_typed.specs.declared.class.Class.TheVariants.{Choice, Constant, Plain}
 use Rattle.c_typed.specs.declared.tree.Conversion.{Conversion}
 use Rattle.c_typed.specs.declared.tree.Conversion.TheVariants as conversion
-use Rattle.c_typed.specs.declared.tree.Node.{Node, out-Node}
+use Rattle.c_typed.specs.declared.tree.Node.{Node}
 use Rattle.c_typed.specs.declared.tree.Node.TheOpen as shape
 use Rattle.c_typed.specs.declared.tree.Node.TheOpen.{Node-F}
 use Rattle.c_typed.specs.declared.tree.Place.{Place}
@@ -21,7 +21,7 @@ use Rattle.c_typed.specs.Order.{Taken, place, goes, is_number, events, operand_e
 use Rattle.c_model.specs.Program.{Head, And, Or, Cond, Conv, Member, Expr, expr, Exprs, none, more, tree_of, trees_of, head_class}
 use Rattle.c_model.specs.Values.{Value, truth, or_nothing}
 use Rattle.c_model.specs.World.{World}
-use Rattle.c_model.specs.Steps.{Scene, Begun, quiet_value, values_of, first_known, choice_by, choice_in, at_node, at_node_among, taken_by}
+use Rattle.c_model.specs.Steps.{Scene, quiet_value, values_of, first_known, choice_by, choice_in, at_node, at_node_among, taken_by}
 use Rattle.elaborate.specs.Formed.{is_formed, are_formed, takes as takes_operands}
 use Rattle.elaborate.proofs.Listed.{and_l, and_r, all_go, silent}
 use Rattle.elaborate.proofs.Ranges.{In, has_or, has_itself, own_node, events_in, eq_of, eq_eq}
@@ -29,8 +29,8 @@ use Rattle.run_code.specs.Branches.{IsChoiceOf, is_choice}
 use Rattle.run_code.specs.declared.steps.Operand.{Operand}
 use Rattle.run_code.specs.Resolved.{resolved}
 use Rattle.run_code.specs.Choosing.{chooses}
-use Rattle.run_code.specs.AtOnce.{truth_of, takes, is_known, takes_first, own_choice, chosen_of, chosen_in, first_evaluated}
-use Rattle.run_code.specs.Chosen.{with_chosen, IsKnown, Views, ViewAll, where_due, IsKept, ChosenAtOnce}
+use Rattle.run_code.specs.AtOnce.{truth_of, takes, is_known, chosen_of, chosen_in, first_evaluated}
+use Rattle.run_code.specs.Chosen.{with_chosen, IsKnown, Views, ViewAll, ChosenAtOnce}
 use Rattle.run_code.proofs.AtOnce.{node_at, chosen_from, from_first, of_others, of_choices, first_known as by_known, first_unknown}
 
 -- ---- the choices of nodes by their heads

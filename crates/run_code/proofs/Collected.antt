@@ -62,7 +62,7 @@ slice_get-set [] (suc i) a x h = absurd (cc)
 slice_get-set (y ∷ xs) zero a x h = refl
 slice_get-set (y ∷ xs) (suc i) a x h = slice_get-set xs i a x h
 
-same_some : {A : Type 0} (o : Option A) (x y : A) → o ≡ Some x → o ≡ Some y → x ≡ y
+pub same_some : {A : Type 0} (o : Option A) (x y : A) → o ≡ Some x → o ≡ Some y → x ≡ y
 same_some o x y e f = cc
 
 -- what was there from this number on is there as before
@@ -113,16 +113,22 @@ begun firsts parent t number old new x a e p q r =
     }
 
 -- an entry of a list that was there is the one that was there
-there : (xs ys : List NodeInfo) (n : ℕ) (y : NodeInfo) → AreKept xs ys → n < length xs → slice_get ys n ≡ Some y → slice_get xs n ≡ Some y
+pub there : (xs ys : List NodeInfo) (n : ℕ) (y : NodeInfo) → AreKept xs ys → n < length xs → slice_get ys n ≡ Some y → slice_get xs n ≡ Some y
 there xs ys n y k l h =
     let at = slice_get-get_or xs n y l in
     at ∙ ap Some (same_some (slice_get ys n) (get_or xs n y) y (k n (get_or xs n y) at) h)
 
-by_place : (n m : ℕ) → (n < m) ⊎ (m ≤ n)
+pub by_place : (n m : ℕ) → (n < m) ⊎ (m ≤ n)
 by_place zero zero = inr (omega arith)
 by_place zero (suc m) = inl (omega arith)
 by_place (suc n) zero = inr (omega arith)
 by_place (suc n) (suc m) = elim (by_place n m) [ inl l ↦ inl (omega (arith, l)) | inr l ↦ inr (omega (arith, l)) ]
+
+pub by_number : (n m : ℕ) → (n ≡ m) ⊎ (n ≡ m → ⊥)
+by_number n m = elim (by_place n m) [
+  | inl l ↦ inr (λ e. absurd (omega (arith, l, e)))
+  | inr l ↦ (elim (by_place m n) [ inl k ↦ inr (λ e. absurd (omega (arith, k, e))) | inr k ↦ inl (omega (arith, l, k)) ])
+]
 
 pub more_collected : (firsts : List ℕ) (parent : Option ℕ) (t : Typed) (number : ℕ) (old new newer : List NodeInfo) (child : Typed) (left rest : List Typed)
     → left ≡ child ∷ rest → Between firsts parent t number old new left → AreAdded firsts (Some number) child new newer
@@ -174,12 +180,6 @@ collected firsts parent t number old new end left last e b s f =
         | inr q ↦ node_kept firsts (suc number) new end n x from (omega (arith, l, b.at)) (b.each n x (omega (arith, l, q, b.at)) (sym (other n q) ∙ h))
       ];
     }
-  where
-    by_number : (n m : ℕ) → (n ≡ m) ⊎ (n ≡ m → ⊥)
-    by_number n m = elim (by_place n m) [
-      | inl l ↦ inr (λ e. absurd (omega (arith, l, e)))
-      | inr l ↦ (elim (by_place m n) [ inl k ↦ inr (λ e. absurd (omega (arith, k, e))) | inr k ↦ inl (omega (arith, l, k)) ])
-    ]
 
 pub drop_past : {A : Type 0} (xs : List A) (i : ℕ) → length xs ≤ i → drop i xs ≡ []
 drop_past [] zero l = refl

@@ -26,6 +26,7 @@ use Rattle.std.proofs.Common.{
   Some,
   None,
   slice_get,
+  refl,
   sym,
   ap,
   subst,
@@ -38,7 +39,7 @@ use Rattle.std.specs.Option.{ForSome, IfSome}
 use Rattle.std.proofs.Math.ListN.{get_or, set}
 use Rattle.std.proofs.lemmas.List.{append-nil}
 use Rattle.std.proofs.lemmas.List.Elements.{All-nil, All-weaker, All-push, All-get_or, All-set}
-use Rattle.std.proofs.lemmas.Option.{slice_get_within, get_or_from_slice_get}
+use Rattle.std.proofs.lemmas.Option.{slice_get_within, slice_get-get_or, get_or_from_slice_get}
 use Rattle.ub_base.specs.declared.clause.Kind.{Kind}
 use Rattle.ub_base.specs.declared.clause.Kind.TheVariants.{Val, Eff, Body}
 use Rattle.c_types.specs.Types.{CType}
@@ -80,9 +81,10 @@ use Rattle.run_code.specs.EventActs.{
 }
 use Rattle.run_code.specs.AtOnce.{chosen_in, chosen_of, Lists}
 use Rattle.run_code.specs.Choices.{Goes, IsChoiceOf, MakesChoice, ChoosesAt}
-use Rattle.run_code.specs.LaidOut.{IsLaidOut}
+use Rattle.run_code.specs.LaidOut.{LaidOutBy, IsLaidOut}
+use Rattle.run_code.specs.Rooms.{IsRoomedBy}
 use Rattle.run_code.proofs.AtOnce.{lists_grown, front_longer}
-use Rattle.run_code.proofs.Collected.{slice_get-front}
+use Rattle.run_code.proofs.Collected.{same_some, slice_get-front}
 
 pub nothing_grown : (tables : Tables) → AreGrown tables tables
 nothing_grown tables = record {
@@ -92,6 +94,8 @@ nothing_grown tables = record {
   chosen = λ n x h. h;
   choices = λ n x h. h;
   objects = omega arith;
+  each_object = λ n x h. h;
+  blocks = λ n x h. h;
 }
 
 pub grown_both : (first second third : Tables) → AreGrown first second → AreGrown second third → AreGrown first third
@@ -102,6 +106,8 @@ grown_both first second third g h = record {
   chosen = λ n x k. h.chosen n x (g.chosen n x k);
   choices = λ n x k. h.choices n x (g.choices n x k);
   objects = omega (arith, g.objects, h.objects);
+  each_object = λ n x k. h.each_object n x (g.each_object n x k);
+  blocks = λ n x k. h.blocks n x (g.blocks n x k);
 }
 
 stores_grown : (old new : Tables) (how : Access) (first : _) (object : CType) (place value : Operand) (a : Act) → AreGrown old new →
@@ -219,23 +225,30 @@ in_both (z ∷ xs) ys (suc i) x h = elim (in_both xs ys i x h) [ inl a ↦ inl a
 pub at_all : {A : Type 0} (P : A → Type 0) (xs : List A) (i : ℕ) (x : A) → All P xs → slice_get xs i ≡ Some x → P x
 at_all P xs i x a h = subst P (get_or_from_slice_get xs i x x h) (All-get_or P xs i x (slice_get_within xs i x h) a)
 
+pub front_of : {A : Type 0} (xs ys zs : List A) → ys ≡ xs ++ zs → AreFirst xs ys
+front_of xs ys zs e n x h = ap (λ l. slice_get l n) e ∙ slice_get-front xs zs n x h
+
+-- what is laid out stays as more is laid out behind it
+pub laid_later : (firsts : List ℕ) (nodes : List NodeInfo) (old new : Tables) (entries longer : List Listed) (e : Expression) → AreGrown old new →
+    AreFirst entries longer → LaidOutBy firsts nodes old entries e → LaidOutBy firsts nodes new longer e
+laid_later firsts nodes old new entries longer e g f l =
+    let more = front_longer entries longer f in record {
+      numbered = l.numbered;
+      value = l.value;
+      rooms = l.rooms;
+      chosen = lists_grown old.chosen.items new.chosen.items e.chosen (chosen_of firsts e.root.now 0) g.chosen l.chosen;
+      order = l.order;
+      within = omega (arith, l.within, more);
+      each = λ i x a b h.
+          let at = slice_get-get_or entries i x (omega (arith, b, l.within)) in
+          let same = same_some (slice_get longer i) (get_or entries i x) x (f i (get_or entries i x) at) h in
+          entry_grown firsts old new nodes g x (l.each i x a b (at ∙ ap Some same));
+    }
+
 laid_out_grown : (old new : Tables) (entries more : List Listed) → AreGrown old new → (e : Expression) → IsLaidOut old entries e →
     IsLaidOut new (entries ++ more) e
-laid_out_grown old new entries more g e l = (
-  l.0,
-  l.1,
-  record {
-    numbered = l.2.numbered;
-    value = l.2.value;
-    chosen = lists_grown old.chosen.items new.chosen.items e.chosen (chosen_of l.0 e.root.now 0) g.chosen l.2.chosen;
-    order = l.2.order;
-    within = omega (arith, l.2.within, length-append entries more);
-    each = λ i x a b h. elim (in_both entries more i x h) [
-      | inl k ↦ entry_grown l.0 old new l.1 g x (l.2.each i x a b k)
-      | inr k ↦ absurd (omega (arith, k.2, b, l.2.within))
-    ];
-  },
-)
+laid_out_grown old new entries more g e l =
+    (l.0, l.1, laid_later l.0 l.1 old new entries (entries ++ more) e g (front_of entries (entries ++ more) more refl) l.2)
 
 -- more in the tables, and more entries
 pub all_grown : (old new : Tables) (entries longer more : List Listed) (es : List Expression) → AreGrown old new → longer ≡ entries ++ more →
@@ -245,28 +258,31 @@ all_grown old new entries longer more es g e h =
     (All-weaker (IsLaidOut old entries) (IsLaidOut new (entries ++ more)) (laid_out_grown old new entries more g) es a))
 
 -- one more full expression, whose entries come last
+pub one_laid : (tables : Tables) (entries longer more : List Listed) (firsts : List ℕ) (nodes : List NodeInfo) (e : Expression) → longer ≡ entries ++ more
+    → AreNodes firsts e.root.now nodes → IsRoomedBy nodes e.rooms → AreEntries firsts tables nodes more
+    → Lists tables.chosen.items e.chosen (chosen_of firsts e.root.now 0) → e.value ≡ resolved firsts e.root.now 0 → e.first ≡ length entries
+    → e.end ≡ length longer → LaidOutBy firsts nodes tables longer e
+one_laid tables entries longer more firsts nodes e l n w a k v f t =
+    let count : length longer ≡ length entries + length more = ap length l ∙ length-append entries more in record {
+      numbered = n;
+      value = v;
+      rooms = w;
+      chosen = k;
+      order = omega (arith, f, t, count);
+      within = omega (arith, t);
+      each = λ i x b c g. elim (in_both entries more i x (ap (λ z. slice_get z i) (sym l) ∙ g)) [
+        | inl k ↦ absurd (omega (arith, slice_get_within entries i x k, b, f))
+        | inr k ↦ at_all (IsEntry firsts tables nodes) more k.0 x (a n.each) k.1
+      ];
+    }
+
 pub one_more : (tables : Tables) (entries longer more : List Listed) (es : List Expression) (firsts : List ℕ) (nodes : List NodeInfo) (e : Expression) →
     longer ≡ entries ++ more
-    → AreNodes firsts e.root.now nodes → AreEntries firsts tables nodes more → Lists tables.chosen.items e.chosen (chosen_of firsts e.root.now 0)
-    → e.value ≡ resolved firsts e.root.now 0 → e.first ≡ length entries → e.end ≡ length longer
-    → ∥ All (IsLaidOut tables longer) es ∥₁ → ∥ All (IsLaidOut tables longer) (es ++ e ∷ []) ∥₁
-one_more tables entries longer more es firsts nodes e l n a k v f t h =
-    let count : length longer ≡ length entries + length more = ap length l ∙ length-append entries more in
-    let new : IsLaidOut tables longer e = (
-      firsts,
-      nodes,
-      record {
-        numbered = n;
-        value = v;
-        chosen = k;
-        order = omega (arith, f, t, count);
-        within = omega (arith, t);
-        each = λ i x b c g. elim (in_both entries more i x (ap (λ z. slice_get z i) (sym l) ∙ g)) [
-          | inl k ↦ absurd (omega (arith, slice_get_within entries i x k, b, f))
-          | inr k ↦ at_all (IsEntry firsts tables nodes) more k.0 x (a n.each) k.1
-        ];
-      },
-    ) in
+    → AreNodes firsts e.root.now nodes → IsRoomedBy nodes e.rooms → AreEntries firsts tables nodes more
+    → Lists tables.chosen.items e.chosen (chosen_of firsts e.root.now 0) → e.value ≡ resolved firsts e.root.now 0 → e.first ≡ length entries
+    → e.end ≡ length longer → ∥ All (IsLaidOut tables longer) es ∥₁ → ∥ All (IsLaidOut tables longer) (es ++ e ∷ []) ∥₁
+one_more tables entries longer more es firsts nodes e l n w a k v f t h =
+    let new : IsLaidOut tables longer e = (firsts, nodes, one_laid tables entries longer more firsts nodes e l n w a k v f t) in
     ∥∥₁_map h (λ g. All-push (IsLaidOut tables longer) es e g new)
 
 pub no_entries : (firsts : List ℕ) (tables : Tables) (nodes : List NodeInfo) (es : List Listed) → es ≡ [] → AreEntries firsts tables nodes es
@@ -318,9 +334,6 @@ noted_due firsts tables nodes number room x d os noted at p line parent complete
       choice = choice;
     }
 
-pub front_of : {A : Type 0} (xs ys zs : List A) → ys ≡ xs ++ zs → AreFirst xs ys
-front_of xs ys zs e n x h = ap (λ l. slice_get l n) e ∙ slice_get-front xs zs n x h
-
 -- what a push leaves, whether it had memory or not
 pub pushed_front : {A : Type 0} (b : Bool) (xs ys : List A) (x : A) → ys ≡ (if b then xs ++ x ∷ [] else xs) → AreFirst xs ys
 pushed_front true xs ys x e = front_of xs ys (x ∷ []) e
@@ -336,12 +349,13 @@ tables_grown old new entries es g h = all_grown old new entries entries [] es g 
 
 pub expression_pushed : (b : Bool) (tables : Tables) (entries longer more : List Listed) (es fs : List Expression) (firsts : List ℕ) (nodes : List NodeInfo)
     (e : Expression) → fs ≡ (if b then es ++ e ∷ [] else es) → longer ≡ entries ++ more
-    → AreNodes firsts e.root.now nodes → AreEntries firsts tables nodes more → Lists tables.chosen.items e.chosen (chosen_of firsts e.root.now 0)
+    → AreNodes firsts e.root.now nodes → IsRoomedBy nodes e.rooms → AreEntries firsts tables nodes more
+    → Lists tables.chosen.items e.chosen (chosen_of firsts e.root.now 0)
     → e.value ≡ resolved firsts e.root.now 0 → e.first ≡ length entries → e.end ≡ length longer
     → ∥ All (IsLaidOut tables longer) es ∥₁ → ∥ All (IsLaidOut tables longer) fs ∥₁
-expression_pushed true tables entries longer more es fs firsts nodes e p l n a k v f t h =
-    subst (λ z. ∥ All (IsLaidOut tables longer) z ∥₁) (sym p) (one_more tables entries longer more es firsts nodes e l n a k v f t h)
-expression_pushed false tables entries longer more es fs firsts nodes e p l n a k v f t h = subst (λ z. ∥ All (IsLaidOut tables longer) z ∥₁) (sym p) h
+expression_pushed true tables entries longer more es fs firsts nodes e p l n w a k v f t h =
+    subst (λ z. ∥ All (IsLaidOut tables longer) z ∥₁) (sym p) (one_more tables entries longer more es firsts nodes e l n w a k v f t h)
+expression_pushed false tables entries longer more es fs firsts nodes e p l n w a k v f t h = subst (λ z. ∥ All (IsLaidOut tables longer) z ∥₁) (sym p) h
 
 -- the value of the root
 pub root_value : (firsts : List ℕ) (root : Typed) (nodes : List NodeInfo) (x : NodeInfo) → AreNodes firsts root nodes →

@@ -1,15 +1,12 @@
 -- What is kept of choices by the tables of the code.
-use Rattle.std.proofs.Common.{arith, ◌≡◌, ◌<◌, ◌≤◌, ◌+◌, ◌⊎◌, inl, inr, Bool, true, false, ℕ, zero, suc, List, [], ◌∷◌, length, Option, Some, None, slice_get}
+use Rattle.std.proofs.Common.{arith, ◌≡◌, ◌<◌, ◌≤◌, ◌+◌, ◌⊎◌, inl, inr, Bool, true, false, ℕ, suc, List, [], ◌∷◌, length, Option, Some, None, slice_get}
 use Rattle.std.proofs.Common.{refl, sym, ap, subst, ◌∙◌}
 use Rattle.std.specs.Option.{IfSome}
 use Rattle.std.proofs.lemmas.Option.{slice_get_within}
 use Rattle.ub_base.specs.declared.clause.Kind.{Kind}
 use Rattle.ub_base.specs.declared.clause.Kind.TheVariants.{Val, Eff, Body}
-use Rattle.c_typed.specs.declared.tree.Node.{Node}
-use Rattle.c_typed.specs.declared.tree.Node.TheOpen.{Node-F}
 use Rattle.c_typed.specs.declared.tree.Place.{Place}
 use Rattle.c_typed.specs.declared.tree.Typed.{Typed, out-Typed}
-use Rattle.c_typed.specs.Tree as typed
 use Rattle.c_typed.specs.Tree.{size, sizes}
 use Rattle.c_typed.specs.Order.{Taken, place, is_due}
 use Rattle.c_model.specs.Program.{Expr, expr, Exprs, none, more, tree_of, trees_of}
@@ -17,26 +14,21 @@ use Rattle.c_model.specs.Values.{Value, truth}
 use Rattle.c_model.specs.World.{World}
 use Rattle.c_model.specs.Steps.{Scene, Begun, with_given, taken_by}
 use Rattle.elaborate.specs.Formed.{is_formed}
-use Rattle.run_code.specs.Branches.{Chooses}
 use Rattle.run_code.specs.declared.nodes.NodeInfo.{NodeInfo}
 use Rattle.run_code.specs.declared.steps.Choice.{Choice}
-use Rattle.run_code.specs.declared.steps.Due.{Due}
-use Rattle.run_code.specs.declared.steps.Expression.{Expression}
-use Rattle.run_code.specs.declared.steps.Listed.{Listed}
 use Rattle.run_code.specs.declared.steps.Listed.TheVariants as listed
 use Rattle.run_code.specs.declared.steps.Way.{Way}
 use Rattle.run_code.specs.declared.tables.Tables.{Tables}
 use Rattle.run_code.specs.InRange.{part_of, way_of}
 use Rattle.run_code.specs.Numbered.{IsAt, AreBelow, AreNoted, AreNodes}
 use Rattle.run_code.specs.Choosing.{chooses, node_of, IsTest}
-use Rattle.run_code.specs.AtOnce.{takes, chosen_in, Lists}
+use Rattle.run_code.specs.AtOnce.{chosen_in, Lists}
 use Rattle.run_code.specs.Choices.{Goes, IsChoiceOf, ChoosesAt}
-use Rattle.run_code.specs.LaidOut.{LaidOutBy}
-use Rattle.run_code.specs.Chosen.{with_chosen, Views, ViewAll, IsNodeOf, IsNodeBelow, IsKept, by_way, IsNoTest}
+use Rattle.run_code.specs.Chosen.{with_chosen, Views, ViewAll, IsNodeOf, IsNodeBelow, IsKept, by_way}
 use Rattle.run_code.specs.Keeping.{choice_of, kept_by, KeepsAtBegin, KeepsAtEvent}
 use Rattle.run_code.proofs.AtOnce.{node_at, noted_below, test_there, taken}
 use Rattle.run_code.proofs.ChosenLemmas.{view_size, chosen_at_once}
-use Rattle.run_code.proofs.Tested.{node_viewed, node_range, chosen_at_test, chosen_elsewhere}
+use Rattle.run_code.proofs.Tested.{node_viewed, chosen_at_test, chosen_elsewhere}
 
 same_info : (nodes : List NodeInfo) (n : ℕ) (x y : NodeInfo) → slice_get nodes n ≡ Some x → slice_get nodes n ≡ Some y → x ≡ y
 same_info nodes n x y e f = cc

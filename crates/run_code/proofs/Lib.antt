@@ -1,6 +1,7 @@
 mod Entries
 mod Listings
 mod Collected
+mod Roomed
 mod Grown
 mod Walked
 mod ResolvedLemmas
@@ -11,6 +12,8 @@ mod Rooted
 mod Termed
 mod FittingLemmas
 mod Coded
+mod Blocked
+mod InTurn
 mod AtOnce
 mod ChosenLemmas
 mod Tested

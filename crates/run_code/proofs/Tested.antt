@@ -1,16 +1,13 @@
 -- The choices that are made at the value of a node's test are those of the definitions.
-use Rattle.std.proofs.Common.{arith, ◌≡◌, ◌≢◌, ◌<◌, ◌≤◌, ◌+◌, ◌==◌, ◌||◌, ◌&&◌, ◌⊎◌, inl, inr, Bool, true, false, if◌then◌else◌, ℕ, zero, suc}
+use Rattle.std.proofs.Common.{arith, ◌≡◌, ◌≢◌, ◌<◌, ◌≤◌, ◌+◌, ◌==◌, ◌||◌, ◌&&◌, inl, inr, Bool, true, false, if◌then◌else◌, ℕ, zero, suc}
 use Rattle.std.proofs.Common.{List, [], ◌∷◌, ◌++◌, Option, Some, None, slice_get, refl, sym, ap, subst, ◌∙◌, true≢false}
 use Rattle.std.specs.Prelude.{nat_lt, is_some}
 use Rattle.std.proofs.lemmas.Bool.Decides.{nat_tests}
 use Rattle.std.proofs.lemmas.List.{append-nil}
 use Rattle.ub_base.specs.declared.clause.Kind.TheVariants.{Val}
-use Rattle.ub_base.specs.Names.{same_kind}
 use Rattle.c_types.specs.Types.{CType}
 use Rattle.c_typed.specs.declared.class.Class.{Class}
 use Rattle.c_typed.specs.declared.class.Class.TheVariants.{Choice}
-use Rattle.c_typed.specs.declared.tree.Node.{Node, out-Node}
-use Rattle.c_typed.specs.declared.tree.Node.TheOpen.{Node-F}
 use Rattle.c_typed.specs.declared.tree.Place.{Place}
 use Rattle.c_typed.specs.declared.tree.Typed.{Typed, out-Typed}
 use Rattle.c_typed.specs.Tree as typed
@@ -29,7 +26,7 @@ use Rattle.run_code.specs.Branches.{IsChoiceOf, is_choice}
 use Rattle.run_code.specs.Choosing.{chooses}
 use Rattle.run_code.specs.AtOnce.{takes, chosen_in}
 use Rattle.run_code.specs.Chosen.{with_chosen, Views, ViewAll, where_due, IsNodeOf, IsNodeBelow, IsKept, by_way, IsNoTest, ChosenAtTest, ChosenElsewhere}
-use Rattle.run_code.proofs.ChosenLemmas.{bool_cases, has_none, same_choice, not_known, by_truth, no_choice, takes_later, class_choice, none_go, made, IsEmpty}
+use Rattle.run_code.proofs.ChosenLemmas.{bool_cases, has_none, same_choice, not_known, by_truth, no_choice, takes_later, class_choice, none_go, made}
 use Rattle.run_code.proofs.ChosenLemmas.{view_size, operand_made, agree_all}
 use Rattle.run_code.proofs.AtOnce.{node_at}
 

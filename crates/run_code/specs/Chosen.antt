@@ -1,5 +1,5 @@
 -- The choices that the code makes of a full expression are those of the definitions (6.5.13p4, 6.5.14p4, 6.5.15p4).
-use Rattle.std.specs.Prelude.{◌≡◌, ◌⊎◌, ℕ, suc, ◌+◌, ◌==◌, Bool, true, false, List, [], ◌∷◌, Option, Some, None, slice_get, if◌then◌else◌}
+use Rattle.std.specs.Prelude.{◌≡◌, ◌⊎◌, ℕ, suc, ◌+◌, ◌==◌, true, false, List, [], ◌∷◌, Option, Some, None, slice_get, if◌then◌else◌}
 use Rattle.ub_base.specs.declared.clause.Kind.TheVariants.{Val}
 use Rattle.c_typed.specs.declared.tree.Node.{out-Node}
 use Rattle.c_typed.specs.declared.tree.Place.{Place}

@@ -198,3 +198,5 @@ pub record AreGrown (old new : Tables) : Type 0 where
   pub chosen : AreFirst old.chosen.items new.chosen.items
   pub choices : AreFirst old.choices.items new.choices.items
   pub objects : length old.objects.items ≤ length new.objects.items
+  pub each_object : AreFirst old.objects.items new.objects.items
+  pub blocks : AreFirst old.blocks.items new.blocks.items

@@ -8,11 +8,13 @@ use Rattle.run_code.specs.Resolved.{resolved}
 use Rattle.run_code.specs.Numbered.{AreNodes}
 use Rattle.run_code.specs.AtOnce.{chosen_of, Lists}
 use Rattle.run_code.specs.EventActs.{IsEntry}
+use Rattle.run_code.specs.Rooms.{IsRoomedBy}
 
--- its listing is a part of these entries, each an event of one of its nodes, with the act of that node
+-- it has rooms for its nodes; its listing is a part of these entries, each an event of one of its nodes, with the act of that node
 pub record LaidOutBy (firsts : List ℕ) (nodes : List NodeInfo) (tables : Tables) (entries : List Listed) (e : Expression) : Type 0 where
   pub numbered : AreNodes firsts e.root.now nodes
   pub value : e.value ≡ resolved firsts e.root.now 0
+  pub rooms : IsRoomedBy nodes e.rooms
   pub chosen : Lists tables.chosen.items e.chosen (chosen_of firsts e.root.now 0)
   pub order : e.first ≤ e.end
   pub within : e.end ≤ length entries

@@ -7,10 +7,13 @@ pub mod Choosing
 pub mod AtOnce
 pub mod Choices
 pub mod EventActs
+pub mod Rooms
 pub mod LaidOut
 pub mod Fitting
 pub mod Named
 pub mod Roots
 pub mod OfTrees
+pub mod Blocks
+pub mod Functions
 pub mod Chosen
 pub mod Keeping

@@ -5,7 +5,6 @@ use crate::expressions::{Expressions, Laid};
 use crate::nodes::Objects;
 use crate::steps::FunctionCode;
 use crate::whole::Code;
-use c_typed::Program;
 use std::alloc::Global;
 
 // The function that is in the making.
@@ -19,7 +18,6 @@ pub struct FunctionDraft {
 #[derive(Drop)]
 pub struct Draft<'p> {
     pub alloc: Global,
-    pub program: &'p Program,
     pub expressions: Expressions<'p>,
     pub function: FunctionDraft,
 }
@@ -38,7 +36,6 @@ pub fn finished<'p>(draft: Draft<'p>, functions: Vec<Option<FunctionCode>>) -> C
 {
     let Draft {
         alloc: _,
-        program: _,
         expressions,
         function: _,
     } = draft;

@@ -34,6 +34,8 @@ impl<'p> Expressions<'p> {
     ghost use Rattle.run_code.specs.InRange.{IsRange, IsChoice, IsObject, IsBlock};
     ghost use Rattle.run_code.specs.AtOnce.{chosen_of, Lists};
     ghost use Rattle.run_code.specs.EventActs.{AreGrown, AreEntries};
+    ghost use Rattle.run_code.specs.Rooms.{IsRoomedBy};
+    ghost use Rattle.run_code.specs.Functions.{AddsExpression};
     ghost use Rattle.c_typed.specs.Tree.{tree_of, size};
     ghost use Rattle.core_ir.specs.declared.term.Core.{Core as CoreOf};
     ghost use Rattle.run_code.specs.Listings.{entries_of};
@@ -59,6 +61,8 @@ impl<'p> Expressions<'p> {
         ensures at { IfOk result (λ n. slice_get self.new.tables.stores.items n ≡ Some store.entry) }
         ensures grown { AreGrown self.old.tables self.new.tables }
         ensures fit { (p : ProgramOf) → StoreFits store.entry → AreFit p self.old.tables → AreFit p self.new.tables }
+        ensures objects { self.new.tables.objects.items ≡ self.old.tables.objects.items }
+        ensures blocks { self.new.tables.blocks.items ≡ self.old.tables.blocks.items }
         ensures kept { self.new.laid ≡ self.old.laid }
     {
         self.tables.add_store(store)
@@ -104,6 +108,9 @@ impl<'p> Expressions<'p> {
 
     pub fn add_object(&mut self, object: ObjectCode) -> Result<(), NoMemory>
         requires { IsObject (length self.old.tables.stores.items) object }
+        ensures added { OnOk result (self.new.tables.objects.items ≡ self.old.tables.objects.items ++ object ∷ []) }
+        ensures stores { self.new.tables.stores.items ≡ self.old.tables.stores.items }
+        ensures blocks { self.new.tables.blocks.items ≡ self.old.tables.blocks.items }
         ensures grown { AreGrown self.old.tables self.new.tables }
         ensures fit { (p : ProgramOf) → AreFit p self.old.tables → AreFit p self.new.tables }
         ensures kept { self.new.laid ≡ self.old.laid }
@@ -113,6 +120,9 @@ impl<'p> Expressions<'p> {
 
     pub fn add_block(&mut self, block: BlockCode) -> Result<(), NoMemory>
         requires { IsBlock (length self.old.tables.objects.items) block }
+        ensures added { OnOk result (self.new.tables.blocks.items ≡ self.old.tables.blocks.items ++ block ∷ []) }
+        ensures few { OnOk result (length self.old.tables.blocks.items < 2 ^ 32) }
+        ensures objects { self.new.tables.objects.items ≡ self.old.tables.objects.items }
         ensures grown { AreGrown self.old.tables self.new.tables }
         ensures fit { (p : ProgramOf) → AreFit p self.old.tables → AreFit p self.new.tables }
         ensures kept { self.new.laid ≡ self.old.laid }
@@ -131,11 +141,15 @@ impl<'p> Expressions<'p> {
     ) -> Result<(), NoMemory>
         requires laid_out { (firsts : List ℕ) × AreNodes firsts root.now nodes.now × AreEntries firsts self.old.tables nodes.now entries.now
             × Lists self.old.tables.chosen.items chosen (chosen_of firsts root.now 0) }
+        requires roomed { IsRoomedBy nodes.now rooms }
         requires counted { length nodes.now < 2 ^ 32 }
         ensures order { OnOk result (roots_in self.new.laid.all.items ≡ roots_in self.old.laid.all.items ++ root.now ∷ []) }
         ensures listed { (terms : List CoreOf) → AreOfTerms terms self.old.laid → entries_of entries.now ≡ flat_of (size (tree_of root.now)) (slice_get terms (length self.old.laid.all.items))
             → OnOk result (AreOfTerms terms self.new.laid) }
         ensures tables { self.new.tables ≡ self.old.tables }
+        ensures added { (firsts : List ℕ) → AreNodes firsts root.now nodes.now → AreEntries firsts self.old.tables nodes.now entries.now
+            → Lists self.old.tables.chosen.items chosen (chosen_of firsts root.now 0)
+            → OnOk result (AddsExpression firsts root.now self.old.tables self.old.laid self.new.laid) }
     {
         let first = self.laid.entries.len();
         self.laid.entries.extend_from_slice(entries)?;

@@ -7,6 +7,7 @@ ghost use Rattle.c_typed.specs.declared.program.Program.{Program as ProgramOf};
 ghost use Rattle.core_ir.specs.Term.{term_of};
 ghost use Rattle.run_code.specs.Roots.{roots_in};
 ghost use Rattle.run_code.specs.Listings.{entries_of, one, continuation, flat};
+ghost use Rattle.run_code.specs.Functions.{AddsExpression};
 ghost use Rattle.run_code.specs.OfTrees.{flat_of, AreOfTerms};
 ghost use Rattle.run_code.specs.declared.steps.Operand.{Operand as OperandOf};
 ghost use Rattle.run_code.specs.Resolved.{value_at};
@@ -20,7 +21,7 @@ ghost use Rattle.run_code.specs.EventActs.{head_at, pointed, first_type, seen, l
 use crate::choices::{chosen, chosen_at_once, is_choice, operand_number};
 use crate::draft::{Draft, count_of};
 use crate::nodes::{Counts, NodeInfo, collect, operands};
-use crate::numbers::number_of;
+use crate::numbers::{number_of, number_with};
 use crate::steps::{
     Act, CallCode, Choice, Due, Expression, Listed, Operand, Range, StoreCode, Way,
 };
@@ -63,6 +64,9 @@ impl<'p> Draft<'p> {
         ensures order { OnOk result (roots_in self.new.expressions.laid.all.items ≡ roots_in self.old.expressions.laid.all.items ++ root.now ∷ []) }
         ensures listed { AreOfTerms terms.now self.old.expressions.laid → OnOk result (AreOfTerms terms.now self.new.expressions.laid) }
         ensures fit { (p : ProgramOf) → TreeFits p root.now → AreFit p self.old.expressions.tables → OnOk result (AreFit p self.new.expressions.tables) }
+        ensures grown { OnOk result (AreGrown self.old.expressions.tables self.new.expressions.tables) }
+        ensures objects { OnOk result (self.new.function.objects.first.items ≡ self.old.function.objects.first.items) }
+        ensures added { OnOk result (AddsExpression self.old.function.objects.first.items root.now self.new.expressions.tables self.old.expressions.laid self.new.expressions.laid) }
     {
         let mut nodes = Vec::new(self.alloc);
         let mut counts = Counts {
@@ -70,9 +74,9 @@ impl<'p> Draft<'p> {
             olds: 0,
         };
         collect(&self.function.objects, root, None, &mut nodes, &mut counts)?;
+        let rooms = number_with(number_of(nodes.len())?, counts.olds)?;
         let entries = self.listing(terms, &nodes)?;
         let chosen = self.chosen(root, 0, &nodes)?;
-        let rooms = count_of(&nodes).saturating_add(counts.olds);
         let all = &mut self.expressions;
         all.add_expression(root, rooms, chosen, &nodes, &entries)
     }
@@ -87,6 +91,7 @@ impl<'p> Draft<'p> {
         ensures objects { OnOk result (self.new.function.objects.first.items ≡ self.old.function.objects.first.items) }
         ensures kept { OnOk result (self.new.expressions.laid ≡ self.old.expressions.laid) }
         ensures fit { (p : ProgramOf) → NodesFit p nodes.now → AreFit p self.old.expressions.tables → OnOk result (AreFit p self.new.expressions.tables) }
+        ensures grown { OnOk result (AreGrown self.old.expressions.tables self.new.expressions.tables) }
         ensures due { IfOk result (λ es. AreEntries self.new.function.objects.first.items self.new.expressions.tables nodes.now es.items) }
     {
         let mut entries = Vec::new(self.alloc);
@@ -130,6 +135,7 @@ impl<'p> Draft<'p> {
         ensures objects { OnOk result (self.new.function.objects.first.items ≡ self.old.function.objects.first.items) }
         ensures kept { OnOk result (self.new.expressions.laid ≡ self.old.expressions.laid) }
         ensures fit { (p : ProgramOf) → NodesFit p nodes.now → AreFit p self.old.expressions.tables → OnOk result (AreFit p self.new.expressions.tables) }
+        ensures grown { OnOk result (AreGrown self.old.expressions.tables self.new.expressions.tables) }
         ensures due { AreEntries self.old.function.objects.first.items self.old.expressions.tables nodes.now entries.old.items → OnOk result (AreEntries self.new.function.objects.first.items self.new.expressions.tables nodes.now entries.new.items) }
     {
         match core {
@@ -169,6 +175,7 @@ impl<'p> Draft<'p> {
         ensures objects { OnOk result (self.new.function.objects.first.items ≡ self.old.function.objects.first.items) }
         ensures kept { OnOk result (self.new.expressions.laid ≡ self.old.expressions.laid) }
         ensures fit { (p : ProgramOf) → NodesFit p nodes.now → AreFit p self.old.expressions.tables → OnOk result (AreFit p self.new.expressions.tables) }
+        ensures grown { OnOk result (AreGrown self.old.expressions.tables self.new.expressions.tables) }
         ensures due { AreEntries self.old.function.objects.first.items self.old.expressions.tables nodes.now entries.old.items → OnOk result (AreEntries self.new.function.objects.first.items self.new.expressions.tables nodes.now entries.new.items) }
     {
         let at = entries.len();
@@ -245,6 +252,7 @@ impl<'p> Draft<'p> {
         ensures objects { OnOk result (self.new.function.objects.first.items ≡ self.old.function.objects.first.items) }
         ensures kept { OnOk result (self.new.expressions.laid ≡ self.old.expressions.laid) }
         ensures fit { (p : ProgramOf) → NodesFit p nodes.now → AreFit p self.old.expressions.tables → OnOk result (AreFit p self.new.expressions.tables) }
+        ensures grown { OnOk result (AreGrown self.old.expressions.tables self.new.expressions.tables) }
         ensures due { AreEntries self.old.function.objects.first.items self.old.expressions.tables nodes.now entries.old.items → OnOk result (AreEntries self.new.function.objects.first.items self.new.expressions.tables nodes.now entries.new.items) }
     {
         let Some(info) = nodes.get(number as usize) else {

@@ -2,13 +2,15 @@
 ghost use Rattle.std.specs.Prelude.{◌≡◌, ◌<◌, ◌^◌, ℕ, List, OnOk, IfOk, suc, length, slice_get};
 ghost use Rattle.c_typed.specs.declared.tree.Typed.{out-Typed};
 ghost use Rattle.c_types.specs.Types.{type_of};
+ghost use Rattle.run_code.specs.EventActs.{head_at};
+ghost use Rattle.run_code.specs.Rooms.{olds_with, AreRoomed};
 ghost use Rattle.run_code.specs.Resolved.{object_of, local_number, constant_of, by_conversion, member_of, resolved, operands_from, value_at};
 ghost use Rattle.run_code.specs.Numbered.{AreAdded, AreNoted, AreBelow};
 ghost use Rattle.run_code.specs.AtOnce.{truth_of, is_known};
 ghost use Rattle.run_code.specs.Fitting.{TreeFits, NodesFit};
 ghost use Rattle.c_typed.specs.declared.program.Program.{Program as ProgramOf};
 
-use crate::numbers::number_of;
+use crate::numbers::{number_of, number_with};
 use crate::steps::Operand;
 use c_typed::{Conversion, Node, Slot, Typed};
 use c_types::Ty;
@@ -180,9 +182,11 @@ pub fn collect<'p>(
     ensures added { OnOk result (AreAdded objects.now.first.items parent root.now nodes.old.items nodes.new.items) }
     ensures counted { OnOk result (length nodes.new.items < 2 ^ 32) }
     ensures fit { (p : ProgramOf) → TreeFits p root.now → NodesFit p nodes.old.items → OnOk result (NodesFit p nodes.new.items) }
+    ensures rooms { OnOk result (AreRoomed (length nodes.old.items) nodes.new.items counts.old.olds counts.new.olds) }
 {
     let number = number_of(nodes.len())?;
-    nodes.push(info(objects, root, parent, number, counts))?;
+    let noted = info(objects, root, parent, number, counts)?;
+    nodes.push(noted)?;
     for child in root.children.as_slice() {
         collect(objects, child, Some(number), nodes, counts)?;
     }
@@ -191,34 +195,43 @@ pub fn collect<'p>(
     Ok(())
 }
 
+// How many updates that give their old value there are with this node.
+fn with_old(node: &Node, olds: u32) -> Result<u32, NoMemory>
+    ensures { IfOk result (λ n. n ≡ olds_with (head_at node.now) olds) }
+{
+    match node {
+        Node::Update { old: true, .. } => number_with(olds, 1),
+        _ => Ok(olds),
+    }
+}
+
 fn info<'p>(
     objects: &Objects,
     tree: &'p Typed,
     parent: Option<u32>,
     number: u32,
     counts: &mut Counts,
-) -> NodeInfo<'p>
-    ensures tree { result.tree.now ≡ tree.now }
-    ensures parent { result.parent ≡ parent }
-    ensures operand { result.operand ≡ resolved objects.now.first.items tree.now number }
+) -> Result<NodeInfo<'p>, NoMemory>
+    ensures tree { IfOk result (λ x. x.tree.now ≡ tree.now) }
+    ensures parent { IfOk result (λ x. x.parent ≡ parent) }
+    ensures operand { IfOk result (λ x. x.operand ≡ resolved objects.now.first.items tree.now number) }
+    ensures room { IfOk result (λ x. x.room ≡ counts.old.olds) }
+    ensures olds { OnOk result (counts.new.olds ≡ olds_with (head_at (out-Typed tree.now).node) counts.old.olds) }
 {
-    let (initializer, room) = (counts.initializers, counts.olds);
-    match &tree.node {
-        Node::Isolated(own) => {
-            let next = counts.initializers.saturating_add(1);
-            counts.initializers = next.saturating_add(own_trees(own.get()));
-        }
-        Node::Update { old: true, .. } => counts.olds = counts.olds.saturating_add(1),
-        _ => {}
+    let Counts { initializers, olds } = *counts;
+    counts.olds = with_old(&tree.node, olds)?;
+    if let Node::Isolated(own) = &tree.node {
+        let next = initializers.saturating_add(1);
+        counts.initializers = next.saturating_add(own_trees(own.get()));
     }
-    NodeInfo {
+    Ok(NodeInfo {
         tree,
         parent,
         operand: operand_of(objects, tree, number),
         next: number,
-        initializer,
-        room,
-    }
+        initializer: initializers,
+        room: olds,
+    })
 }
 
 // Where the values of the operands of the node of this number come from.

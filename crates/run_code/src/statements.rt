@@ -1,5 +1,5 @@
 // The code of a program.
-ghost use Rattle.std.specs.Prelude.{◌≡◌, ◌≤◌, ◌++◌, length, drop, map, flat_map, IfOk, OnOk};
+ghost use Rattle.std.specs.Prelude.{◌≡◌, ◌≤◌, ◌++◌, [], length, drop, map, flat_map, IfOk, OnOk};
 ghost use Rattle.std.specs.List.{All};
 ghost use Rattle.elaborate.specs.Expressions.{block_trees, program_trees};
 ghost use Rattle.c_typed.specs.Tree.{tree_of};
@@ -7,18 +7,24 @@ ghost use Rattle.c_typed.specs.declared.statement.Body.TheVariants as body_form;
 ghost use Rattle.run_statements.specs.Bodies.{Grows, IsStatement};
 ghost use Rattle.run_statements.specs.declared.numbers.Numbers.{Numbers as NumbersOf};
 ghost use Rattle.run_code.specs.Roots.{roots_in, code_trees, IsNumberedBy, HaveCode, AreInBlocks};
+ghost use Rattle.run_code.specs.Blocks.{rows_of_block};
+ghost use Rattle.run_code.specs.Functions.{HasBlocks, HaveBlocks, HasExpressions, HaveExpressions, IsMore, AddsExpressions, laid_in};
+ghost use Rattle.c_types.specs.declared.ty.FuncTy.{out-FuncTy};
+ghost use Rattle.run_code.specs.EventActs.{AreGrown};
 ghost use Rattle.run_code.specs.LaidOut.{IsLaidOut};
 ghost use Rattle.run_code.specs.OfTrees.{AreOfTerms, ListsTrees, AreTermsOf};
 ghost use Rattle.elaborate.specs.Formed.{EachFormed};
 ghost use Rattle.run_code.specs.Fitting.{TreeFits, AreFit};
 ghost use Rattle.c_typed.specs.declared.program.Program.{Program as ProgramOf};
 
-use crate::draft::{Draft, FunctionDraft, count_of, finished};
+use crate::draft::{Draft, FunctionDraft, finished};
 use crate::expressions::Expressions;
 use crate::nodes::Objects;
+use crate::numbers::{next_number, number_of, range_from};
 use crate::steps::{FunctionCode, Range};
 use crate::whole::Code;
 use c_typed::{Block, Body, Function, Program, Typed};
+use c_types::Tags;
 use core_ir::Core;
 use run_control::Statement;
 use run_statements::{Numbers, block};
@@ -37,18 +43,21 @@ impl<'p> Draft<'p> {
         ensures listed { AreOfTerms terms.now self.old.expressions.laid → OnOk result (AreOfTerms terms.now self.new.expressions.laid) }
         ensures order { OnOk result (roots_in self.new.expressions.laid.all.items ≡ roots_in self.old.expressions.laid.all.items ++ drop passed (map (λ root. root.now) roots.now)) }
         ensures fit { (p : ProgramOf) → All (TreeFits p) (drop passed (map (λ root. root.now) roots.now)) → AreFit p self.old.expressions.tables → OnOk result (AreFit p self.new.expressions.tables) }
+        ensures grown { OnOk result (AreGrown self.old.expressions.tables self.new.expressions.tables) }
+        ensures range { IfOk result (λ r. (r.first ≡ length self.old.expressions.laid.all.items) × (r.count ≡ length (drop passed (map (λ root. root.now) roots.now)))) }
+        ensures added { OnOk result (AddsExpressions self.old.function.objects.first.items (drop passed (map (λ root. root.now) roots.now)) self.new.expressions.tables self.old.expressions.laid self.new.expressions.laid) }
     {
-        let first = count_of(&self.expressions.laid.all);
+        let first = next_number(&self.expressions.laid.all)?;
         let (_, rest) = roots.split_at(passed);
         for root in rest {
             self.expression(root, terms)?;
         }
-        let count = count_of(&self.expressions.laid.all).saturating_sub(first);
-        Ok(Range { first, count })
+        range_from(&self.expressions.laid.all, first)
     }
 
     fn function(
         &mut self,
+        tags: &Tags,
         function: &'p Function,
         body: &'p Block,
         numbers: &mut Numbers<'p>,
@@ -60,27 +69,32 @@ impl<'p> Draft<'p> {
         ensures grows { OnOk result (Grows numbers.old numbers.new) }
         ensures fit { (p : ProgramOf) → All (TreeFits p) (block_trees body.now) → AreFit p self.old.expressions.tables → OnOk result (AreFit p self.new.expressions.tables) }
         ensures body { IfOk result (λ code. IsStatement numbers.new (body_form.Block body.now) code.body) }
+        ensures grown { OnOk result (AreGrown self.old.expressions.tables self.new.expressions.tables) }
+        ensures more { OnOk result (IsMore self.old.expressions.laid self.new.expressions.laid) }
+        ensures blocks { IfOk result (λ code. HasBlocks tags.now (length (out-FuncTy function.now.ty).params) (rows_of_block body.now) self.new.expressions.tables code) }
+        ensures expressions { IfOk result (λ code. HasExpressions body.now self.new.expressions.tables self.new.expressions.laid code.expressions) }
     {
         self.function = start_function(self.alloc);
-        let blocks = count_of(&self.expressions.tables.blocks);
-        self.survey_block(body, count_of_items(function.ty.params.len()))?;
+        let blocks = next_number(&self.expressions.tables.blocks)?;
+        let arguments = number_of(function.ty.params.len())?;
+        self.survey_block(tags, body, arguments)?;
+        let objects = self.function.count;
         let first = numbers.roots.len();
         let body = Statement::Block(block(self.alloc, body, numbers)?);
         let expressions = self.expressions(&numbers.roots, first, terms)?;
         Ok(FunctionCode {
             body,
             blocks,
-            objects: self.function.count,
+            objects,
             expressions,
         })
     }
 }
 
-fn count_of_items(count: usize) -> u32 {
-    u32::try_from(count).unwrap_or(u32::MAX)
-}
-
-fn start_function(alloc: Global) -> FunctionDraft {
+fn start_function(alloc: Global) -> FunctionDraft
+    ensures count { result.count ≡ 0 }
+    ensures objects { result.objects.first.items ≡ [] }
+{
     FunctionDraft {
         objects: Objects {
             first: Vec::new(alloc),
@@ -109,10 +123,13 @@ pub fn code_of<'p>(
     ensures bodies { IfOk result (λ code. (numbers : NumbersOf) × IsNumberedBy numbers program.now.functions code) }
     // Where each of their nodes is lawful in it, a pointer is stored by its own type, and the constants that objects are filled with are lawful.
     ensures fit { (p : ProgramOf) → All (TreeFits p) (flat_map code_trees program.now.functions) → IfOk result (λ code. AreFit p code.tables) }
+    // The blocks of each function are those of its body, with their objects as the types of these say.
+    ensures blocks { IfOk result (λ code. HaveBlocks program.now.tags code.tables program.now.functions code.functions.items) }
+    // The full expressions of each function are those of its block, laid out where the objects of its blocks have the numbers that the code gives them.
+    ensures expressions { IfOk result (λ code. HaveExpressions code.tables (laid_in code) program.now.functions code.functions.items) }
 {
     let mut draft = Draft {
         alloc,
-        program,
         expressions: Expressions::new(alloc),
         function: start_function(alloc),
     };
@@ -121,7 +138,13 @@ pub fn code_of<'p>(
     for function in program.functions.as_slice() {
         let code = match &function.body {
             Some(body) => match body {
-                Body::Block(block) => Some(draft.function(function, block, &mut numbers, terms)?),
+                Body::Block(block) => Some(draft.function(
+                    &program.tags,
+                    function,
+                    block,
+                    &mut numbers,
+                    terms,
+                )?),
                 _ => None,
             },
             None => None,

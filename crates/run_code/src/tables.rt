@@ -27,7 +27,7 @@ pub struct Tables<'p> {
 }
 
 impl<'p> Tables<'p> {
-    ghost use Rattle.std.specs.Prelude.{◌≡◌, ◌<◌, ◌≤◌, Some, slice_get, IfOk};
+    ghost use Rattle.std.specs.Prelude.{◌≡◌, ◌<◌, ◌≤◌, ◌^◌, [], ◌∷◌, ◌++◌, Some, slice_get, IfOk, OnOk};
     ghost use Rattle.run_code.specs.InRange.{IsRange};
     ghost use Rattle.run_code.specs.AtOnce.{Lists};
     ghost use Rattle.run_code.specs.EventActs.{AreGrown};
@@ -53,6 +53,8 @@ impl<'p> Tables<'p> {
         ensures at { IfOk result (λ n. slice_get self.new.stores.items n ≡ Some store.entry) }
         ensures grown { AreGrown self.old self.new }
         ensures fit { (p : ProgramOf) → StoreFits store.entry → AreFit p self.old → AreFit p self.new }
+        ensures objects { self.new.objects.items ≡ self.old.objects.items }
+        ensures blocks { self.new.blocks.items ≡ self.old.blocks.items }
     {
         let number = next_number(&self.stores)?;
         self.stores.push(store)?;
@@ -106,6 +108,9 @@ impl<'p> Tables<'p> {
         requires { IsObject (length self.old.stores.items) object }
         ensures grown { AreGrown self.old self.new }
         ensures fit { (p : ProgramOf) → AreFit p self.old → AreFit p self.new }
+        ensures added { OnOk result (self.new.objects.items ≡ self.old.objects.items ++ object ∷ []) }
+        ensures stores { self.new.stores.items ≡ self.old.stores.items }
+        ensures blocks { self.new.blocks.items ≡ self.old.blocks.items }
     {
         self.objects.push(object)?;
         Ok(())
@@ -115,7 +120,11 @@ impl<'p> Tables<'p> {
         requires { IsBlock (length self.old.objects.items) block }
         ensures grown { AreGrown self.old self.new }
         ensures fit { (p : ProgramOf) → AreFit p self.old → AreFit p self.new }
+        ensures added { OnOk result (self.new.blocks.items ≡ self.old.blocks.items ++ block ∷ []) }
+        ensures few { OnOk result (length self.old.blocks.items < 2 ^ 32) }
+        ensures objects { self.new.objects.items ≡ self.old.objects.items }
     {
+        let _number = next_number(&self.blocks)?;
         self.blocks.push(block)?;
         Ok(())
     }

@@ -46,9 +46,9 @@ rooms_asked entries rooms e h = record {
 }
 
 pub code_has_rooms : RoomsAreThere → CodeHasRooms
-code_has_rooms there code firsts nodes n laid e lists at lays roomed root =
+code_has_rooms there code firsts nodes n laid e lists at lays root =
     rooms_asked (listing_in code.listing.items laid) laid.rooms e
-    (subst (HasRoomsOf (listing_in code.listing.items laid) laid.rooms) (sym root) (there code firsts nodes n laid lists at lays roomed))
+    (subst (HasRoomsOf (listing_in code.listing.items laid) laid.rooms) (sym root) (there code firsts nodes n laid lists at lays))
 
 pub events_asked : EventsAreAsked
 events_asked world code f laid e d h = record {

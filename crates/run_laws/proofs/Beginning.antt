@@ -98,7 +98,7 @@ module _ (keeps : KeepsAtBegin) (known : OpenIsKnown) (world : World) (meaning :
   rooms_there = let le = b.has.rooms in let is = rooms_is in omega (arith, le, is)
 
 pub begins_open : KeepsAtBegin → OpenIsKnown → BeginsOpen
-begins_open keeps known world meaning m st e s laid firsts nodes b code lays roomed names ends bytes lists = record {
+begins_open keeps known world meaning m st e s laid firsts nodes b code lays names ends bytes lists = record {
   stood = record {
     stands = b.stands;
     begun = b.begun;
@@ -113,7 +113,6 @@ begins_open keeps known world meaning m st e s laid firsts nodes b code lays roo
   code = code;
   at = b.has.at;
   lays = lays;
-  roomed = roomed;
   names = names;
   ends = ends;
   small = none_small e b.given;

@@ -258,7 +258,7 @@ has_rooms rooms world meaning m st e s laid firsts nodes o =
     (end_is world meaning m st e s laid firsts nodes o) in
     subst (λ es. HasRooms es m.top.rooms e) (sym part)
     (subst (λ (n : ℕ). HasRooms (listing_in m.code.now.listing.items laid) n e) (sym (rooms_is world meaning m st e s laid firsts nodes o))
-    (rooms m.code.now firsts nodes s.expression laid e o.stood.stands.listed o.at o.lays o.roomed
+    (rooms m.code.now firsts nodes s.expression laid e o.stood.stands.listed o.at o.lays
     (root_is world meaning m st e s laid firsts nodes o)))
 
 -- ---- the next event

@@ -289,7 +289,7 @@ module _ (gives : RoomGives) (evaluated : EventsAreEvaluated) (world : World) (m
       let base = base_is in
       let same : length t.taken.past.values.items ≡ length old.values.items = past_count s.straight old t.taken.past s d t.taken.passes in
       let node = slice_get_within nodes d.place.node entry.0 entry.1 in
-      let own = o.roomed.own in
+      let own = o.lays.rooms.own in
       let is = rooms_is world meaning old st e s laid firsts nodes o in
       let rooms = o.stood.rooms in
       omega (arith, base, same, node, own, is, rooms)
@@ -415,7 +415,6 @@ module _ (gives : RoomGives) (evaluated : EventsAreEvaluated) (world : World) (m
         (subst (λ (k : Code). IsLawfulCode old.program.now k) (sym moves.code) o.code);
     at = ap (λ (k : Code). slice_get k.expressions.items s.expression) moves.code ∙ o.at;
     lays = subst (λ (k : Code). LaidOutBy firsts nodes k.tables k.listing.items laid) (sym moves.code) o.lays;
-    roomed = o.roomed;
     names = names_moved old new moves.code (ap (λ (z : Open). z.blocks) moves.top) firsts st.top.scene.blocks laid.root.now o.names;
     ends = o.ends;
     small = small_with e d.place v o.small small.0;

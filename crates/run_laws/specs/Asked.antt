@@ -19,7 +19,7 @@ use Rattle.run_machine.specs.Taking.{AreLawful, HasRooms, IsEventOf}
 use Rattle.code_view.specs.Events.{IsEventOfCode}
 use Rattle.code_view.specs.Labels.{KeepsLabelsOf}
 use Rattle.code_view.specs.Laws.{IsCodeOfProgram}
-use Rattle.code_view.specs.Rooms.{HasRoomsOf, IsRoomedBy}
+use Rattle.code_view.specs.Rooms.{HasRoomsOf}
 
 -- the rooms of a full expression
 abbrev pub RoomsAreAsked : Type 0
@@ -28,7 +28,7 @@ RoomsAreAsked = (entries : List Listed) (rooms : ℕ) (e : Begun) → HasRoomsOf
 -- .. which are there where the code has a room for each node, and one for each update that gives its old value
 abbrev pub CodeHasRooms : Type 0
 CodeHasRooms = (code : Code) (firsts : List ℕ) (nodes : List NodeInfo) (n : ℕ) (laid : Laid) (e : Begun) → ListsTrees code
-    → slice_get code.expressions.items n ≡ Some laid → LaidOutBy firsts nodes code.tables code.listing.items laid → IsRoomedBy nodes laid
+    → slice_get code.expressions.items n ≡ Some laid → LaidOutBy firsts nodes code.tables code.listing.items laid
     → e.root ≡ expr_of laid.root.now → HasRooms (listing_in code.listing.items laid) laid.rooms e
 
 -- an event that is listed

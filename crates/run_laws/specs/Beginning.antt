@@ -18,7 +18,6 @@ use Rattle.run_state.specs.Stands.{Stands}
 use Rattle.run_machine.specs.Ending.{KeepToRooms}
 use Rattle.run_machine.specs.Picks.{top_of}
 use Rattle.code_view.specs.Named.{NamesAreOpen}
-use Rattle.code_view.specs.Rooms.{IsRoomedBy}
 use Rattle.run_laws.specs.Open.{IsLawfulCode, IsOpen}
 use Rattle.run_laws.specs.Small.{EndInTime, HasSmallBytes, ListsAreSmall}
 
@@ -42,11 +41,11 @@ pub record HasJustBegun (world : World) (meaning : Option ℕ → Meaning) (m : 
   pub result : m.left ≡ None
   pub below : KeepToRooms m.code.now (reverse m.below.items) st.held
 
--- Over the code of a lawful program, laid out with its rooms, with the blocks open that are round what it names, it then stands as picks ask it.
+-- Over the code of a lawful program, with the blocks open that are round what it names, it then stands as picks ask it.
 abbrev pub BeginsOpen : Type 0
 BeginsOpen =
     (world : World) (meaning : Option ℕ → Meaning) (m : Machine) (st : State) (e : Begun) (s : Stage) (laid : Laid) (firsts : List ℕ)
     (nodes : List NodeInfo) → HasJustBegun world meaning m st e s laid → IsLawfulCode m.program.now m.code.now
-    → LaidOutBy firsts nodes m.code.now.tables m.code.now.listing.items laid → IsRoomedBy nodes laid
+    → LaidOutBy firsts nodes m.code.now.tables m.code.now.listing.items laid
     → NamesAreOpen m firsts st.top.scene.blocks laid.root.now → EndInTime world.rows → HasSmallBytes st.store → ListsAreSmall e.root
     → IsOpen world meaning m st e s laid firsts nodes

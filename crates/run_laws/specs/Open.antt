@@ -16,7 +16,6 @@ use Rattle.run_state.specs.declared.machine.Stage.{Stage}
 use Rattle.run_machine.specs.Taking.{AreLawful, StandsOpen}
 use Rattle.code_view.specs.Known.{AreInOrder}
 use Rattle.code_view.specs.Named.{NamesAreOpen}
-use Rattle.code_view.specs.Rooms.{IsRoomedBy}
 use Rattle.run_laws.specs.Sited.{IsLawfulTree}
 use Rattle.run_laws.specs.Small.{AreSmall, EndInTime, HasSmallBytes, ListsAreSmall}
 
@@ -27,8 +26,8 @@ pub record IsLawfulCode (p : Program) (code : Code) : Type 0 where
   pub trees : (n : ℕ) (laid : Laid) → slice_get code.expressions.items n ≡ Some laid → IsLawfulTree p laid.root.now
   pub constants : AreLawful p code
 
--- A machine stands for the state, with this full expression open, whose stage this is. It is laid out by these nodes in the code of a lawful program, with its
--- rooms, and the blocks are open that are round what it names. What was given, what the store holds, and what the expression's lists have is small.
+-- A machine stands for the state, with this full expression open, whose stage this is. It is laid out by these nodes in the code of a lawful program,
+-- and the blocks are open that are round what it names. What was given, what the store holds, and what the expression's lists have is small.
 pub record IsOpen (world : World) (meaning : Option ℕ → Meaning) (m : Machine) (st : State) (e : Begun) (s : Stage) (laid : Laid) (firsts : List ℕ)
     (nodes : List NodeInfo) : Type 0 where
   pub stood : StandsOpen world meaning m st e
@@ -36,7 +35,6 @@ pub record IsOpen (world : World) (meaning : Option ℕ → Meaning) (m : Machin
   pub code : IsLawfulCode m.program.now m.code.now
   pub at : slice_get m.code.now.expressions.items s.expression ≡ Some laid
   pub lays : LaidOutBy firsts nodes m.code.now.tables m.code.now.listing.items laid
-  pub roomed : IsRoomedBy nodes laid
   pub names : NamesAreOpen m firsts st.top.scene.blocks laid.root.now
   pub ends : EndInTime world.rows
   pub small : AreSmall e.given

@@ -1,12 +1,12 @@
-use Rattle.std.proofs.Common.{arith, ◌<◌, ◌≡◌, ◌+◌, ◌∷◌, ◌++◌, suc, drop, slice_get, Some, None, refl, sym, ap, subst, ◌∙◌}
+use Rattle.std.proofs.Common.{arith, ◌<◌, ◌≡◌, ◌+◌, ◌∷◌, ◌++◌, suc, drop, slice_get, Some, sym, ap, subst, ◌∙◌}
 use Rattle.std.proofs.lemmas.List.{drop_more, append-nil}
 use Rattle.std.proofs.lemmas.Option.{slice_get_within}
 use Rattle.std.proofs.lemmas.Result.{on_ok_weaker}
 use Rattle.c_typed.specs.declared.tree.Typed.{out-Typed}
 use Rattle.c_typed.specs.Tree.{tree_of, size}
-use Rattle.run_code.specs.Numbered.{IsAt, AreBelow, AreNoted}
+use Rattle.run_code.specs.Numbered.{IsAt, AreBelow}
 use Rattle.run_code.specs.AtOnce.{chosen_of, operand_number}
-use Rattle.run_code.proofs.AtOnce.{node_at, chosen_from, of_others, noted_below, operand_there, one_passed, one_chosen, none_chosen, nothing_there}
+use Rattle.run_code.proofs.AtOnce.{chosen_from, of_others, noted_below, operand_there, one_passed, one_chosen, none_chosen, nothing_there}
 use Rattle.run_code.proofs.AtOnce.{operand_smaller, child_smaller}
 use Rattle.run_code.proofs.Collected.{drop_past}
 use Rattle.run_code.proofs.choices.+chosen_at_once.Goals as goal

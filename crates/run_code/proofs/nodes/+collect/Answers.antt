@@ -3,6 +3,7 @@ use Rattle.std.proofs.lemmas.List.{drop_more}
 use Rattle.std.proofs.lemmas.Option.{slice_get_within, get_or_from_slice_get}
 use Rattle.run_code.proofs.Collected.{Between, begun, more_collected, collected, drop_past, relabelled}
 use Rattle.run_code.proofs.FittingLemmas.{root_fits, child_fits, node_pushed, nodes_set}
+use Rattle.run_code.proofs.Roomed.{one_roomed, more_roomed, all_roomed}
 use Rattle.run_code.proofs.nodes.+collect.Goals as goal
 
 pub loop-child-init : goal.loop-child-init
@@ -10,10 +11,12 @@ loop-child-init t c =
     let at : c.in_ok-number.number ≡ length c.args.nodes.now.items = search rules in (
       subst (Between c.args.objects.now.first.items c.args.parent c.args.root.now c.in_ok-number.number c.args.nodes.now.items c.push.new.self.items)
           (sym c.as_slice-child-items.ensures)
-          (begun c.args.objects.now.first.items c.args.parent c.args.root.now c.in_ok-number.number c.args.nodes.now.items c.push.new.self.items c.info.result at
-          c.in_ok-push.ensures.items c.info.ensures.tree c.info.ensures.parent c.info.ensures.operand),
-      λ p h. node_pushed p c.args.nodes.now.items c.push.new.self.items c.info.result c.args.root.now c.in_ok-push.ensures.items c.info.ensures.tree
-          (root_fits p c.args.root.now h),
+          (begun c.args.objects.now.first.items c.args.parent c.args.root.now c.in_ok-number.number c.args.nodes.now.items c.push.new.self.items
+          c.in_ok-noted.noted at c.in_ok-push.ensures.items c.in_ok-noted.ensures.tree c.in_ok-noted.ensures.parent c.in_ok-noted.ensures.operand),
+      λ p h. node_pushed p c.args.nodes.now.items c.push.new.self.items c.in_ok-noted.noted c.args.root.now c.in_ok-push.ensures.items
+          c.in_ok-noted.ensures.tree (root_fits p c.args.root.now h),
+      one_roomed c.in_ok-number.number c.args.nodes.now.items c.push.new.self.items c.in_ok-noted.noted c.args.root.now c.args.counts.now.olds
+          c.info.new.counts.olds at c.in_ok-push.ensures.items c.in_ok-noted.ensures.tree c.in_ok-noted.ensures.room c.in_ok-noted.ensures.olds,
     )
 
 pub loop-child-preserved : goal.loop-child-preserved
@@ -26,8 +29,11 @@ loop-child-preserved t c =
           (drop c.loop-child.child-index c.as_slice-child-items.result.now) (drop (c.loop-child.child-index + 1) c.as_slice-child-items.result.now)
           left c.loop-child.invariant.0 c.in_ok-collect.ensures.added,
       λ p h old. c.in_ok-collect.ensures.fit p
-          (child_fits p c.args.root.now c.child-item.result c.as_slice-child-items.result.now rest c.loop-child.child-index c.as_slice-child-items.ensures left h)
+          (child_fits p c.args.root.now c.child-item.result c.as_slice-child-items.result.now rest c.loop-child.child-index
+          c.as_slice-child-items.ensures left h)
           (c.loop-child.invariant.1 p h old),
+      more_roomed c.in_ok-number.number c.loop-child.nodes.items c.collect.new.nodes.items c.args.counts.now.olds c.loop-child.counts.olds
+          c.collect.new.counts.olds c.in_ok-collect.ensures.added.kept c.loop-child.invariant.2 c.in_ok-collect.ensures.rooms,
     )
 
 pub index_mut-requires : goal.index_mut-requires
@@ -52,3 +58,12 @@ returns-clause-fit t c = λ p h old.
     nodes_set p c.loop-child.nodes.items _ c.in_ok-number.number (record c.index_mut.result.now { next = c.in_ok-next.next }) top.0 refl
     (ap (λ y. y.tree.now) (c.index_mut.ensures.value ∙ get_or_from_slice_get c.loop-child.nodes.items c.in_ok-number.number top.0 c.index_mut.result.now top.1))
     top.1 (c.loop-child.invariant.1 p h old)
+
+pub returns-clause-rooms : goal.returns-clause-rooms
+returns-clause-rooms t c =
+    let top = c.loop-child.invariant.0.top in
+    all_roomed c.in_ok-number.number c.args.nodes.now.items c.loop-child.nodes.items _ (record c.index_mut.result.now { next = c.in_ok-next.next }) top.0
+    c.args.counts.now.olds c.loop-child.counts.olds c.loop-child.invariant.0.at refl
+    (ap (λ y. y.tree.now) (c.index_mut.ensures.value ∙ get_or_from_slice_get c.loop-child.nodes.items c.in_ok-number.number top.0 c.index_mut.result.now top.1))
+    (ap (λ y. y.room) (c.index_mut.ensures.value ∙ get_or_from_slice_get c.loop-child.nodes.items c.in_ok-number.number top.0 c.index_mut.result.now top.1))
+    top.1 c.loop-child.invariant.2

@@ -8,7 +8,7 @@ use Rattle.run_code.specs.Listings.{Entry, operand, entries_of, continuation, fl
 use Rattle.run_code.proofs.Entries.{two_parts, part_more, choice_parts, pair_flat, choice_flat, parts_left, split, continued_by}
 use Rattle.run_code.specs.EventActs.{AreEntries}
 use Rattle.run_code.proofs.Entries.{on_ok}
-use Rattle.run_code.proofs.Grown.{entries_pushed, entries_set}
+use Rattle.run_code.proofs.Grown.{entries_pushed, entries_set, grown_both}
 use Rattle.run_code.proofs.draft.Draft.+term.Goals as goal
 
 pub continuation-returns-clause-listing : goal.continuation-returns-clause-listing
@@ -38,6 +38,7 @@ term-loop-part-preserved t c = (
   λ h. c.in_ok-term-in-Unseq.ensures.due (c.loop-part.invariant.2 h),
   c.in_ok-term-in-Unseq.ensures.kept ∙ c.loop-part.invariant.3,
   λ p n h. c.in_ok-term-in-Unseq.ensures.fit p n (c.loop-part.invariant.4 p n h),
+  grown_both _ _ _ c.loop-part.invariant.5 c.in_ok-term-in-Unseq.ensures.grown,
 )
 
 pub term-returns-in_ok-continuation-in-Choose-clause-listing : goal.term-returns-in_ok-continuation-in-Choose-clause-listing
@@ -104,3 +105,13 @@ term-returns-in_ok-continuation-in-Choose-clause-fit t c = λ p n h.
 
 pub term-returns-in_ok-term-in-Weak-clause-fit : goal.term-returns-in_ok-term-in-Weak-clause-fit
 term-returns-in_ok-term-in-Weak-clause-fit t c = λ p n h. c.term-in-Weak-2.ensures.fit p n (c.in_ok-term-in-Weak.ensures.fit p n h)
+
+pub term-returns-in_ok-continuation-in-Choose-clause-grown : goal.term-returns-in_ok-continuation-in-Choose-clause-grown
+term-returns-in_ok-continuation-in-Choose-clause-grown t c =
+    on_ok c.continuation-in-Choose.result _ _
+    (λ e. grown_both _ _ _ (grown_both _ _ _ c.in_ok-term-in-Choose.ensures.grown c.in_ok-continuation-in-Choose.ensures.grown) e)
+    c.continuation-in-Choose.ensures.grown
+
+pub term-returns-in_ok-term-in-Weak-clause-grown : goal.term-returns-in_ok-term-in-Weak-clause-grown
+term-returns-in_ok-term-in-Weak-clause-grown t c =
+    on_ok c.term-in-Weak-2.result _ _ (λ e. grown_both _ _ _ c.in_ok-term-in-Weak.ensures.grown e) c.term-in-Weak-2.ensures.grown

@@ -1,7 +1,7 @@
 use Rattle.std.proofs.Common.{◌≡◌, ◌++◌, length, map, drop}
 use Rattle.c_typed.specs.declared.program.Program.{Program}
 use Rattle.core_ir.specs.Term.{term_of, terms_from}
-use Rattle.run_code.specs.EventActs.{AreEntries}
+use Rattle.run_code.specs.EventActs.{AreEntries, AreGrown}
 use Rattle.run_code.specs.Fitting.{NodesFit, AreFit}
 use Rattle.run_code.specs.Listings.{entries_of, flat, all_flat}
 use Rattle.run_code.proofs.draft.Draft.+term.Given as goal
@@ -16,3 +16,4 @@ invariant-term-loop-part l =
     → AreEntries l.self.function.objects.first.items l.self.expressions.tables l.nodes l.entries.items)
     × (l.self.expressions.laid ≡ l.fn.self.expressions.laid)
     × ((p : Program) → NodesFit p l.nodes → AreFit p l.fn.self.expressions.tables → AreFit p l.self.expressions.tables)
+    × AreGrown l.fn.self.expressions.tables l.self.expressions.tables

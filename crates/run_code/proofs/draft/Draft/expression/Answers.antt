@@ -1,8 +1,9 @@
-use Rattle.std.proofs.Common.{◌≡◌, [], None, length, slice_get, sym, ap, subst, ◌∙◌}
+use Rattle.std.proofs.Common.{arith, ◌≡◌, ◌+◌, List, [], None, length, slice_get, sym, ap, subst, ◌∙◌}
 use Rattle.c_typed.specs.Tree.{tree_of, size}
 use Rattle.std.proofs.lemmas.List.Elements.{All-nil}
-use Rattle.run_code.specs.EventActs.{AreEntries}
+use Rattle.run_code.specs.EventActs.{AreEntries, AreGrown}
 use Rattle.run_code.specs.declared.expressions.Laid.{Laid}
+use Rattle.run_code.specs.declared.tables.Tables.{Tables}
 use Rattle.run_code.specs.Listings.{entries_of}
 use Rattle.run_code.specs.OfTrees.{flat_of, AreOfTerms}
 use Rattle.run_code.specs.Numbered.{AreAdded, AreNodes}
@@ -10,7 +11,11 @@ use Rattle.run_code.specs.declared.nodes.NodeInfo.{NodeInfo}
 use Rattle.run_code.specs.Fitting.{RootFits, NodesFit, AreFit}
 use Rattle.run_code.proofs.Collected.{nodes_added}
 use Rattle.run_code.proofs.FittingLemmas.{always}
-use Rattle.run_code.proofs.Grown.{entries_grown}
+use Rattle.run_code.specs.Functions.{AddsExpression}
+use Rattle.run_code.proofs.Entries.{on_ok}
+use Rattle.run_code.specs.Rooms.{AreRoomed, IsRoomedBy}
+use Rattle.run_code.proofs.Roomed.{roomed_by}
+use Rattle.run_code.proofs.Grown.{entries_grown, grown_both}
 use Rattle.run_code.proofs.draft.Draft.expression.Goals as goal
 
 pub add_expression-requires-clause-laid_out : goal.add_expression-requires-clause-laid_out
@@ -35,6 +40,30 @@ add_expression-requires-clause-laid_out c =
       c.in_ok-chosen.ensures.chosen firsts None whole.each whole.top,
     )
 
+pub returns-clause-added : goal.returns-clause-added
+returns-clause-added c =
+    let firsts = c.args.self.now.function.objects.first.items in
+    let old = c.listing.new.self.expressions.tables in
+    let tables = c.chosen.new.self.expressions.tables in
+    let root = c.args.root.now in
+    let added : AreAdded firsts None root [] c.collect.new.nodes.items =
+    subst (λ old. AreAdded firsts None root old c.collect.new.nodes.items) c.new-nodes.ensures.items c.in_ok-collect.ensures.added in
+    let same : c.deref.result.now ≡ c.deref-3.result.now = c.deref.ensures.value ∙ sym c.deref-3.ensures.value in
+    let laid : AreEntries firsts old c.deref.result.now c.in_ok-entries.entries.items =
+    subst (λ fs. AreEntries fs old c.deref.result.now c.in_ok-entries.entries.items) c.in_ok-entries.ensures.objects c.in_ok-entries.ensures.due in
+    let grown : AreEntries firsts tables c.deref.result.now c.in_ok-entries.entries.items =
+    entries_grown firsts old tables c.deref.result.now c.in_ok-entries.entries.items c.in_ok-chosen.ensures.grown laid in
+    let nodes : AreNodes firsts root c.collect.new.nodes.items = nodes_added firsts root c.collect.new.nodes.items added in
+    let whole : AreNodes firsts root c.deref-2.result.now = subst (AreNodes firsts root) (sym c.deref-2.ensures.value) nodes in
+    let before : c.chosen.new.self.expressions.laid ≡ c.args.self.now.expressions.laid = c.in_ok-chosen.ensures.kept ∙ c.in_ok-entries.ensures.kept in
+    on_ok c.add_expression.result _ _
+    (λ a. subst (λ (l : Laid). AddsExpression firsts root c.add_expression.new.self.tables l c.add_expression.new.self.laid) before
+    (subst (λ (t : Tables). AddsExpression firsts root t c.chosen.new.self.expressions.laid c.add_expression.new.self.laid)
+    (sym c.add_expression.ensures.tables) a))
+    (c.add_expression.ensures.added firsts (subst (AreNodes firsts root) (sym c.deref-3.ensures.value) nodes)
+    (subst (AreEntries firsts tables c.deref-3.result.now) (sym c.deref-4.ensures.value)
+    (subst (λ ns. AreEntries firsts tables ns c.in_ok-entries.entries.items) same grown)) (c.in_ok-chosen.ensures.chosen firsts None whole.each whole.top))
+
 pub returns-clause-listed : goal.returns-clause-listed
 returns-clause-listed c = λ h.
     let firsts = c.args.self.now.function.objects.first.items in
@@ -57,3 +86,21 @@ returns-clause-fit c = λ p h t.
     let nodes : NodesFit p c.deref.result.now = subst (NodesFit p) (sym c.deref.ensures.value) (c.in_ok-collect.ensures.fit p h none) in
     always c.add_expression.result _ (subst (AreFit p) (sym c.add_expression.ensures.tables)
     (c.in_ok-chosen.ensures.fit p (c.in_ok-entries.ensures.fit p nodes t)))
+
+pub add_expression-requires-clause-roomed : goal.add_expression-requires-clause-roomed
+add_expression-requires-clause-roomed c =
+    let nodes = c.collect.new.nodes.items in
+    let olds = c.collect.new.counts.olds in
+    let from : AreRoomed 0 nodes 0 olds =
+    subst (λ (ns : List NodeInfo). AreRoomed (length ns) nodes 0 olds) c.new-nodes.ensures.items c.in_ok-collect.ensures.rooms in
+    let rooms : c.in_ok-rooms.rooms ≡ length nodes + olds = omega (arith, c.in_ok-rooms.ensures.sum, c.in_ok-number_of.ensures) in
+    subst (λ ns. IsRoomedBy ns c.in_ok-rooms.rooms) (sym c.deref-3.ensures.value)
+    (roomed_by nodes olds c.in_ok-rooms.rooms rooms c.in_ok-rooms.ensures.few from)
+
+pub returns-clause-grown : goal.returns-clause-grown
+returns-clause-grown c =
+    always c.add_expression.result _ (subst (λ (t : Tables). AreGrown c.args.self.now.expressions.tables t) (sym c.add_expression.ensures.tables)
+    (grown_both _ _ _ c.in_ok-entries.ensures.grown c.in_ok-chosen.ensures.grown))
+
+pub returns-clause-objects : goal.returns-clause-objects
+returns-clause-objects c = always c.add_expression.result _ (c.in_ok-chosen.ensures.objects ∙ c.in_ok-entries.ensures.objects)

@@ -1,7 +1,9 @@
-use Rattle.std.proofs.Common.{◌≡◌, ◌++◌, map, drop}
+use Rattle.std.proofs.Common.{◌≡◌, ◌++◌, map, drop, take}
 use Rattle.std.specs.List.{All}
 use Rattle.c_typed.specs.declared.program.Program.{Program}
+use Rattle.run_code.specs.EventActs.{AreGrown}
 use Rattle.run_code.specs.Fitting.{TreeFits, AreFit}
+use Rattle.run_code.specs.Functions.{AddsExpressions}
 use Rattle.run_code.specs.OfTrees.{AreOfTerms}
 use Rattle.run_code.specs.Roots.{roots_in}
 use Rattle.run_code.proofs.draft.Draft.expressions.Given as goal
@@ -13,3 +15,7 @@ invariant-loop-root l =
     ≡ roots_in l.fn.self.expressions.laid.all.items ++ map (λ root. root.now) l.rest)
     × (AreOfTerms l.terms l.fn.self.expressions.laid → AreOfTerms l.terms l.self.expressions.laid)
     × ((p : Program) → All (TreeFits p) (map (λ root. root.now) l.rest) → AreFit p l.fn.self.expressions.tables → AreFit p l.self.expressions.tables)
+    × AreGrown l.fn.self.expressions.tables l.self.expressions.tables
+    × (l.self.function.objects.first.items ≡ l.fn.self.function.objects.first.items)
+    × AddsExpressions l.fn.self.function.objects.first.items (map (λ root. root.now) (take l.root-index l.rest)) l.self.expressions.tables
+    l.fn.self.expressions.laid l.self.expressions.laid

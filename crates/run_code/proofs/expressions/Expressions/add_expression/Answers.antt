@@ -1,8 +1,9 @@
-use Rattle.std.proofs.Common.{rules, arith, ◌≡◌, ◌≤◌, [], length, if◌then◌else◌}
+use Rattle.std.proofs.Common.{rules, arith, ◌≡◌, ◌≤◌, [], length, if◌then◌else◌, refl}
 use Rattle.std.specs.Prelude.{is_ok}
 use Rattle.run_code.specs.Named.{IsListedOf, IsExpressionOf}
 use Rattle.run_code.proofs.Grown.{nothing_grown, extended, all_grown, expression_pushed, root_value}
 use Rattle.run_code.proofs.NamedLemmas.{pushed_longer, one_pushed, all_pushed, entries_named, within_grown}
+use Rattle.run_code.proofs.InTurn.{expression_added}
 use Rattle.run_code.proofs.Termed.{one_termed}
 use Rattle.run_code.proofs.expressions.Expressions.add_expression.Goals as goal
 
@@ -35,7 +36,7 @@ invariant_of-self-2 c =
     pushed_longer (is_ok c.extend_from_slice.result) entries longer c.args.entries.now c.extend_from_slice.ensures.items in
     record {
       laid_out = expression_pushed (is_ok c.push.result) tables entries longer c.args.entries.now c.args.self.now.laid.all.items c.push.new.self.items
-          nodes.0 c.args.nodes.now _ c.push.ensures.items c.in_ok-extend_from_slice.ensures.items nodes.1 nodes.2 nodes.3
+          nodes.0 c.args.nodes.now _ c.push.ensures.items c.in_ok-extend_from_slice.ensures.items nodes.1 c.requires.roomed nodes.2 nodes.3
           (root_value nodes.0 c.args.root.now c.args.nodes.now c.index-nodes-0.result nodes.1) first end
           (all_grown tables tables entries longer c.args.entries.now c.args.self.now.laid.all.items (nothing_grown tables)
           c.in_ok-extend_from_slice.ensures.items c.args.self.now.laid_out);
@@ -59,3 +60,13 @@ returns-clause-listed c = λ terms old given.
     let end : c.len-end.result ≡ length longer = search rules in
     one_termed c.args.self.now.tables terms entries longer c.args.entries.now c.args.self.now.laid.all.items c.push.new.self.items _
     c.in_ok-extend_from_slice.ensures.items c.in_ok-push.ensures.items first end c.args.self.now.within given old
+
+pub returns-clause-added : goal.returns-clause-added
+returns-clause-added c = λ firsts nodes due chosen.
+    let entries = c.args.self.now.laid.entries.items in
+    let longer = c.extend_from_slice.new.self.items in
+    let first : c.len-first.result ≡ length entries = search rules in
+    let end : c.len-end.result ≡ length longer = search rules in
+    expression_added firsts c.args.root.now c.args.self.now.tables c.args.self.now.laid _ longer c.args.entries.now c.args.nodes.now _
+    c.in_ok-extend_from_slice.ensures.items refl c.in_ok-push.ensures.items refl nodes c.requires.roomed due chosen
+    (root_value firsts c.args.root.now c.args.nodes.now c.index-nodes-0.result nodes) first end
