@@ -28,6 +28,7 @@ use Rattle.std.proofs.Common.{
   Err,
   slice_get,
 }
+use Rattle.std.specs.Borrow.{Bor}
 use Rattle.std.specs.Prelude.{◌==◌, is_some}
 use Rattle.ub_base.specs.declared.clause.Clause.{Clause}
 use Rattle.ub_base.specs.declared.clause.Clause.TheVariants.{IncompatibleCall, InvalidPointer}
@@ -35,7 +36,8 @@ use Rattle.ub_base.specs.declared.names.Event.{Event}
 use Rattle.ub_base.specs.declared.names.ObjName.TheVariants as object
 use Rattle.addr_map.specs.declared.map.Row.{Row}
 use Rattle.c_types.specs.declared.library.LibFunc.{LibFunc}
-use Rattle.c_types.specs.Types.{CType}
+use Rattle.c_types.specs.declared.ty.FuncTy.{FuncTy}
+use Rattle.c_types.specs.Types.{CType, signature_of}
 use Rattle.c_typed.specs.declared.program.Function.{Function as Typed}
 use Rattle.mem_spec.specs.Script.{Give, require, run, ◌>>◌}
 use Rattle.mem_spec.specs.Store.{Store}
@@ -44,8 +46,9 @@ use Rattle.prov_memory.specs.declared.value.Value.{Value as Kept_value}
 use Rattle.c_model.specs.Program.{Function}
 use Rattle.c_model.specs.Steps.{function_of}
 use Rattle.c_model.specs.Values.{function_address, function_in}
-use Rattle.run_acts.specs.Calls.{AreFunctions, checked_call}
+use Rattle.run_acts.specs.Calls.{AreFunctions, IsFunction, checked_call, type_by}
 use Rattle.run_acts.specs.Views.{value_in}
+use Rattle.run_code.specs.declared.steps.CallCode.{CallCode}
 use Rattle.run_code.specs.declared.steps.Operand.{Operand}
 use Rattle.run_code.specs.declared.steps.Operand.TheVariants as operand
 use Rattle.run_state.specs.declared.machine.Machine.{Machine}
@@ -53,7 +56,7 @@ use Rattle.run_state.specs.Operands.{into_local, operand_in, pointer_into}
 use Rattle.run_events.specs.declared.acts.Outcome.{Outcome}
 use Rattle.run_events.specs.declared.fault.Fault.{Fault}
 use Rattle.run_events.specs.declared.fault.Fault.TheVariants as fault
-use Rattle.run_events.specs.Calling.{CallsFound, Runs, RunsWhere, library_in}
+use Rattle.run_events.specs.Calling.{CallsFound, Runs, RunsWhere, library_in, type_of_call}
 
 -- ---- anything but a function pointer leads to no function
 pointer_leads_none : {A : Type 0} (f : A → Kept_value) (o : Option A) (h : Kept_value) (k : Kept) → ((a : A) → function_in (value_in k (f a)) ≡ 0) →
@@ -93,22 +96,26 @@ record StandsAt (held : List Typed) (n first : ℕ) (f : Function) : Type 0 wher
   is : n ≡ first + at
   library : library_in (slice_get held at) ≡ f.library
 
+pair_same : (x y : ℕ × Function) → Some x ≡ Some y → x ≡ y
+pair_same x y e = cc
+
+stands_by : (h : Typed) (held : List Typed) (g : Function) (k n : ℕ) (f : Function) (rest : Option (ℕ × Function)) (b : Bool) → IsFunction h g →
+    (rest ≡ Some (n, f) → StandsAt held n (suc k) f) → (if b then Some (k, g) else rest) ≡ Some (n, f) → StandsAt (h ∷ held) n k f
+stands_by h held g k n f rest true is later e =
+    let pair = pair_same (k, g) (n, f) e in
+    let number : k ≡ n = ap (λ (x : ℕ × Function). x.0) pair in
+    record { at = 0; is = omega (arith, number); library = sym is.library ∙ ap (λ (x : ℕ × Function). x.1.library) pair }
+stands_by h held g k n f rest false is later e =
+    let there = later e in
+    let number = there.is in
+    record { at = suc there.at; is = omega (arith, number); library = there.library }
+
 stands_at : (held : List Typed) (fs : List Function) (k a n : ℕ) (f : Function) → AreFunctions held fs → function_of fs k a ≡ Some (n, f) → StandsAt held n k f
 stands_at [] [] k a n f are is = absurd (cc)
 stands_at [] (g ∷ fs) k a n f are is = absurd are
 stands_at (h ∷ held) [] k a n f are is = absurd are
-stands_at (h ∷ held) (g ∷ fs) k a n f are is = by (function_address k == a) refl is
-  where
-    same : (x y : ℕ × Function) → Some x ≡ Some y → x ≡ y
-    same x y e = cc
-
-    by : (b : Bool) → (function_address k == a) ≡ b → (if b then Some (k, g) else function_of fs (suc k) a) ≡ Some (n, f) → StandsAt (h ∷ held) n k f
-    by true here e =
-        let pair = same (k, g) (n, f) e in
-        record { at = 0; is = omega (arith, ap (λ (x : ℕ × Function). x.0) pair); library = sym are.0.library ∙ ap (λ (x : ℕ × Function). x.1.library) pair }
-    by false here e =
-        let rest = stands_at held fs (suc k) a n f are.1 e in
-        record { at = suc rest.at; is = (let r = rest.is in omega (arith, r)); library = rest.library }
+stands_at (h ∷ held) (g ∷ fs) k a n f are is =
+    stands_by h held g k n f (function_of fs (suc k) a) (function_address k == a) are.0 (stands_at held fs (suc k) a n f are.1) is
 
 pub library_is : (held : List Typed) (fs : List Function) (a n : ℕ) (f : Function) → AreFunctions held fs → function_of fs 0 a ≡ Some (n, f) →
     library_in (slice_get held n) ≡ f.library
@@ -167,3 +174,23 @@ module _ (old : Machine) (os : List Operand) (event : Event) (new : Machine) whe
 
     pub runs_by : (n : ℕ) (held given : Option LibFunc) → held ≡ given → Runs old os event new result n held → Runs old os event new result n given
     runs_by n held given same runs = subst (Runs old os event new result n) same runs
+
+-- ---- by the code of the call
+-- where it goes by no type
+pub no_type : (old : Machine) (os : List Operand) (event : Event) (new : Machine) (agree : CType → CType → Bool) (o : Option (Bor FuncTy))
+    (found : Option (ℕ × Function)) → ((ty : Bor FuncTy) → o ≡ Some ty → ⊥) →
+    CallsFound old os event new (Err (fault.Raise InvalidPointer)) agree (type_of_call o) found
+no_type old os event new agree None found none = refl
+no_type old os event new agree (Some ty) found none = absurd (none ty refl)
+
+-- by its type and the address that its designator gives
+pub by_type : (old : Machine) (os : List Operand) (event : Event) (new : Machine) (result : Result Outcome Fault) (agree : CType → CType → Bool)
+    (o : Option (Bor FuncTy)) (ty : Bor FuncTy) (fs : List Function) (a b : ℕ) → o ≡ Some ty → a ≡ b →
+    CallsFound old os event new result agree (Some (type_by (signature_of ty.now))) (function_of fs 0 a) →
+    CallsFound old os event new result agree (type_of_call o) (function_of fs 0 b)
+by_type old os event new result agree o ty fs a b is at calls =
+    subst (λ (z : Option (Bor FuncTy)). CallsFound old os event new result agree (type_of_call z) (function_of fs 0 b)) (sym is)
+    (subst (λ (n : ℕ). CallsFound old os event new result agree (Some (type_by (signature_of ty.now))) (function_of fs 0 n)) at calls)
+
+pub same_call : (x y : CallCode) → Some x ≡ Some y → x ≡ y
+same_call x y e = cc

@@ -1,12 +1,19 @@
 -- The values of operands pass to the rooms of the frame that starts.
-use Rattle.std.proofs.Common.{◌≡◌, ◌≢◌, ℕ, zero, suc, ◌+◌, ◌-◌, ◌^◌, ◌<◌, ◌≤◌, ◌==◌, min, Bool, true, false, refl, sym, ap, ◌∙◌, subst, arith, List, [], ◌∷◌, length, Option, Some, None, slice_get, option_map}
+use Rattle.std.proofs.Common.{◌≡◌, ◌≢◌, ℕ, zero, suc, ◌+◌, ◌-◌, ◌^◌, ◌<◌, ◌≤◌, ◌==◌, min, Bool, true, false, refl, sym, ap, ◌∙◌, subst, arith, List, [], ◌∷◌, ◌++◌, length, Option, Some, None, slice_get, option_map}
 use Rattle.std.proofs.lemmas.Bool.{eqb-true}
+use Rattle.std.specs.Borrow.{Bor}
+use Rattle.ub_base.specs.declared.names.Event.{Event}
 use Rattle.prov_memory.specs.declared.value.Value.{Value}
+use Rattle.run_control.specs.declared.statement.Statement.{Statement}
+use Rattle.run_control.specs.declared.work.Work.TheVariants as work
+use Rattle.run_control.specs.Stacked.{Stacked}
+use Rattle.run_code.specs.declared.steps.FunctionCode.{FunctionCode}
 use Rattle.run_code.specs.declared.steps.Operand.{Operand}
 use Rattle.run_code.specs.declared.steps.Operand.TheVariants as operand
+use Rattle.run_state.specs.declared.machine.Local.{Local}
 use Rattle.run_state.specs.declared.machine.Machine.{Machine}
 use Rattle.run_state.specs.Operands.{operand_in}
-use Rattle.run_events.specs.Opens.{HasPassed, IsBefore, PassesFirst}
+use Rattle.run_events.specs.Opens.{HasPassed, IsBefore, IsOnTop, OpensFrame, PassesFirst, started_on}
 
 -- an operand gives the same where only values in rooms behind its own have changed
 same_given : (old m : Machine) (room : ℕ) (o : Operand) (h : Value) → m ≡ record old { values = m.values } →
@@ -84,3 +91,45 @@ pub all_passed : (old new : Machine) (os : List Operand) (room k at : ℕ) → l
 all_passed old new os room k at le before few =
     let p = before few in
     record { comes = refl; there = p.there; before = p.before; passed = λ i o h lt. p.passed i o h (omega (arith, lt, le)) }
+
+-- ---- the frame of the function is on top
+abbrev left_by : Bor Statement → Stacked → Stacked
+left_by body w = record { below = w.now ∷ w.below; now = work.ToDo body ∷ [] }
+
+pub frame_opened : (old grown new : Machine) (number : ℕ) (event : Event) (code : FunctionCode) (body : Bor Statement) (left : Stacked) (above : ℕ) →
+    slice_get old.code.now.functions.items number ≡ Some (Some code) → body.now ≡ code.body → grown ≡ record old { locals = grown.locals } →
+    ((j : ℕ) (l : Local) → slice_get old.locals.items j ≡ Some l → slice_get grown.locals.items j ≡ Some l) →
+    above ≡ min (old.top.above + code.objects) (2 ^ 64 - 1) → left.below ≡ grown.work.now ∷ grown.work.below → left.now ≡ work.ToDo body ∷ [] →
+    IsOnTop (record grown { work = left }) (started_on grown.top event (Some number) code.blocks old.top.above above) new →
+    OpensFrame old number event new
+frame_opened old grown new number event code body left above there same rest kept above_is below now on =
+    let work_is : new.work ≡ left = ap (λ (k : Machine). k.work) on.rest in
+    let locals_is : new.locals ≡ grown.locals = ap (λ (k : Machine). k.locals) on.rest in
+    record {
+      code = code;
+      body = body;
+      there = there;
+      same = same;
+      rest = on.rest
+          ∙ ap (λ (k : Machine). record k {
+            below = new.below;
+            top = started_on k.top event (Some number) code.blocks old.top.above above;
+            work = left;
+            locals = grown.locals;
+          }) rest
+          ∙ ap (λ (n : ℕ). record old {
+            below = new.below;
+            top = started_on old.top event (Some number) code.blocks old.top.above n;
+            work = left;
+            locals = grown.locals;
+          }) above_is
+          ∙ (λ i. record old {
+            below = new.below;
+            top = started_on old.top event (Some number) code.blocks old.top.above (min (old.top.above + code.objects) (2 ^ 64 - 1));
+            work = sym work_is i;
+            locals = sym locals_is i;
+          });
+      below = on.below ∙ ap (λ (k : Machine). k.below.items ++ k.top ∷ []) rest;
+      left = work_is ∙ (λ i. record { below = below i; now = now i }) ∙ ap (λ (k : Machine). left_by body k.work) rest;
+      locals = λ j l is. ap (λ (k : Machine). slice_get k.locals.items j) on.rest ∙ kept j l is;
+    }

@@ -153,10 +153,7 @@ fn pass_arguments(machine: &mut Machine, operands: &[Operand], room: usize) -> R
     Ok(())
 }
 
-fn function_code<'c>(
-    machine: &Machine<'_, 'c>,
-    function: u32,
-) -> Result<&'c FunctionCode, NoMemory>
+fn function_code<'c>(machine: &Machine<'_, 'c>, function: u32) -> Result<&'c FunctionCode, NoMemory>
     ensures { IfOk result (λ f. slice_get machine.now.code.now.functions.items function ≡ Some (Some f.now)) }
 {
     let code = machine.code;

@@ -156,21 +156,23 @@ record StandsAt (fs : List Function) (n first : ℕ) (f : Function) : Type 0 whe
   is : n ≡ first + at
   there : slice_get fs at ≡ Some f
 
+pair_same : (x y : ℕ × Function) → Some x ≡ Some y → x ≡ y
+pair_same x y e = cc
+
+stands_by : (g : Function) (fs : List Function) (k n : ℕ) (f : Function) (rest : Option (ℕ × Function)) (b : Bool) →
+    (rest ≡ Some (n, f) → StandsAt fs n (suc k) f) → (if b then Some (k, g) else rest) ≡ Some (n, f) → StandsAt (g ∷ fs) n k f
+stands_by g fs k n f rest true later e =
+    let pair = pair_same (k, g) (n, f) e in
+    let number : k ≡ n = ap (λ (x : ℕ × Function). x.0) pair in
+    record { at = 0; is = omega (arith, number); there = ap (λ (x : ℕ × Function). Some x.1) pair }
+stands_by g fs k n f rest false later e =
+    let there = later e in
+    let number = there.is in
+    record { at = suc there.at; is = omega (arith, number); there = there.there }
+
 stands_at : (fs : List Function) (k a n : ℕ) (f : Function) → function_of fs k a ≡ Some (n, f) → StandsAt fs n k f
 stands_at [] k a n f is = absurd (cc)
-stands_at (g ∷ fs) k a n f is = by (function_address k == a) is
-  where
-    same : (x y : ℕ × Function) → Some x ≡ Some y → x ≡ y
-    same x y e = cc
-
-    by : (b : Bool) → (if b then Some (k, g) else function_of fs (suc k) a) ≡ Some (n, f) → StandsAt (g ∷ fs) n k f
-    by true e =
-        let pair = same (k, g) (n, f) e in
-        let number : k ≡ n = ap (λ (x : ℕ × Function). x.0) pair in
-        record { at = 0; is = omega (arith, number); there = ap (λ (x : ℕ × Function). Some x.1) pair }
-    by false e =
-        let rest = stands_at fs (suc k) a n f e in
-        record { at = suc rest.at; is = (let r = rest.is in omega (arith, r)); there = rest.there }
+stands_at (g ∷ fs) k a n f is = stands_by g fs k n f (function_of fs (suc k) a) (function_address k == a) (stands_at fs (suc k) a n f) is
 
 found_there : (fs : List Function) (a n : ℕ) (f : Function) → function_of fs 0 a ≡ Some (n, f) → slice_get fs n ≡ Some f
 found_there fs a n f is =
