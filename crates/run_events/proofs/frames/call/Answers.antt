@@ -1,4 +1,4 @@
-use Rattle.std.proofs.Common.{◌∙◌, Some, None}
+use Rattle.std.proofs.Common.{◌∙◌, Some, None, Err}
 use Rattle.std.proofs.lemmas.Result.{err_from_is_err_and}
 use Rattle.c_types.specs.Types.{signature_of}
 use Rattle.c_model.specs.Steps.{function_of}
@@ -25,7 +25,8 @@ returns-in_err-number c =
     rw (p.1, p.2) (record { calls = λ fs agree h few are agrees given.
     let m = c.args.machine.now in
     let ty = c.in-Some.ty in
-    by_type m c.args.call.now.arguments.items c.args.event m _ agree c.args.call.now.ty ty fs c.in_ok-address.address _ c.in-Some.is
+    by_type m c.args.call.now.arguments.items c.args.event m (Err (fault.Raise c.in_err-number.field-0.0)) agree c.args.call.now.ty ty fs
+    c.in_ok-address.address _ c.in-Some.is
     (c.in_ok-address.ensures h given m.memory)
     (refused m c.args.call.now.arguments.items c.args.event m agree (type_by (signature_of ty.now)) (function_of fs 0 c.in_ok-address.address)
     c.in_err-number.field-0.0 m.memory.rows (store_in m) (c.in_err-number.ensures few fs are agree agrees m.memory.rows (store_in m))) })
