@@ -2,7 +2,6 @@
 use Rattle.std.proofs.Common.{
   ◌≡◌,
   ℕ,
-  zero,
   suc,
   ◌+◌,
   ◌-◌,
@@ -44,8 +43,6 @@ use Rattle.ub_base.specs.declared.clause.Cause.{Cause}
 use Rattle.ub_base.specs.declared.clause.Cause.TheVariants.{Depth}
 use Rattle.ub_base.specs.declared.clause.Clause.{Clause}
 use Rattle.ub_base.specs.declared.clause.Clause.TheVariants.{IncompatibleCall, InvalidPointer}
-use Rattle.ub_base.specs.declared.clause.Kind.{Kind}
-use Rattle.ub_base.specs.declared.clause.Kind.TheVariants.{Body}
 use Rattle.ub_base.specs.declared.names.Event.{Event}
 use Rattle.ub_base.specs.declared.names.Item.{Item}
 use Rattle.c_types.specs.declared.library.LibFunc.{LibFunc}
@@ -63,8 +60,8 @@ use Rattle.c_typed.specs.declared.statement.ForStart.{ForStart}
 use Rattle.c_typed.specs.declared.tree.Place.{Place}
 use Rattle.c_typed.specs.Order.{is_body}
 use Rattle.mem_spec.specs.Script.{Raised, Script, require, run, ◌>>◌}
-use Rattle.c_model.specs.Program.{Call, expr, Function, Stmt}
-use Rattle.c_model.specs.Runs.{Outcome, Over, Raises, State, chosen_pick, depth_of, entry_of, library_of, limit_passed, step}
+use Rattle.c_model.specs.Program.{Function, Stmt}
+use Rattle.c_model.specs.Runs.{Over, Raises, State, chosen_pick, depth_of, entry_of, library_of, step}
 use Rattle.c_model.specs.Steps.{
   Begun,
   Control,
