@@ -96,7 +96,7 @@ returns-in-Fill-clause-calls c = λ n is. absurd (let e = c.in-Fill.is in cc)
 
 pub returns-in-Call-clause-calls : goal.returns-in-Call-clause-calls
 returns-in-Call-clause-calls c = λ n is.
-    let same : c.in-Call.field-0.now ≡ n = (let e = c.in-Call.is in cc) in
+    let same : c.in-Call.number ≡ n = (let e = c.in-Call.is in cc) in
     subst (λ (k : ℕ). CallsNumbered k c.args.machine.now c.args.event c.call_of.new.machine c.call_of.result) same c.call_of.ensures.calls
 
 pub returns-in-Initialize-clause-calls : goal.returns-in-Initialize-clause-calls
