@@ -7,3 +7,4 @@ pub mod Takes
 pub mod Choices
 pub mod Ways
 pub mod Opens
+pub mod Calling

@@ -104,16 +104,18 @@ pub record OpensFrame (old : Machine) (number : ℕ) (event : Event) (new : Mach
   pub left : new.work ≡ record { below = old.work.now ∷ old.work.below; now = work.ToDo body ∷ [] }
   pub locals : (j : ℕ) (l : Local) → slice_get old.locals.items j ≡ Some l → slice_get new.locals.items j ≡ Some l
 
--- The function's frame has started, counted, with the arguments in its first rooms (6.5.2.2p4, p10).
+-- The function's frame has started, one of so many, with the arguments in its first rooms (6.5.2.2p4, p10).
 pub record StartsFunction (old : Machine) (number : ℕ) (os : List Operand) (event : Event) (new : Machine) : Type 0 where
   pub passed : Machine
   pub opened : Machine
   pub rest : passed ≡ record old { values = passed.values }
   pub passes : Passes old os (min (old.top.base + old.top.rooms) (2 ^ 64 - 1)) passed
   pub opens : OpensFrame passed number event opened
+  pub few : old.depth < 100000
   pub counted : new ≡ record opened { depth = old.depth + 1 }
 
--- So it has where fewer than 100,000 frames of functions are open; otherwise the limit is passed, with the number that would be reached (own).
+-- So it has where fewer than 100,000 frames of functions are open; otherwise the limit is passed, with the number that would be reached (own). There may
+-- be want of memory.
 abbrev pub OpensFunction : Machine → ℕ → List Operand → Event → Machine → Result Outcome Fault → Type 0
 OpensFunction old number os event new (Ok outcome.Started) = StartsFunction old number os event new
 OpensFunction old number os event new (Ok outcome.Done) = ⊥

@@ -14,6 +14,7 @@ ghost use Rattle.run_code.specs.declared.steps.Act.TheVariants as acts;
 ghost use Rattle.run_code.specs.declared.steps.Operand.TheVariants as operands;
 ghost use Rattle.run_state.specs.Stands.{StandsTables};
 ghost use Rattle.run_events.specs.Acts.{either_truth, filled_from, given_by, stored_by, is_body_act, AreGiven, IsGiven};
+ghost use Rattle.run_events.specs.Calling.{CallsNumbered};
 ghost use Rattle.run_events.specs.Opens.{Opens};
 ghost use Rattle.run_events.specs.Performs.{gives_value, is_pointer_act, CanAct, CanPerform, CanPut, ChangesOnly, Does, Effects, Performs, Puts, TouchesMemory, TouchesSpare};
 
@@ -23,8 +24,8 @@ use c_typed::{Access, Change, Conversion, EqOp, RelOp, UnOp};
 use c_types::{BinOp, IntKind, Ty};
 use prov_memory::{Value, Via};
 use run_acts::{
-    Filling, Pointer, answer, as_function, binary, changed, convert, distance, equal, fill, load,
-    member, moved, part, related, store, unary,
+    Filling, Pointer, answer, binary, changed, convert, distance, equal, fill, load, member, moved,
+    part, related, store, unary,
 };
 use run_code::{Act, Operand, StoreCode};
 use run_state::Machine;
@@ -56,6 +57,7 @@ pub fn perform(machine: &mut Machine, act: &Act, event: Event) -> Result<Outcome
     ensures changes { is_body_act act.now ≡ false → ChangesOnly machine.old machine.new event.node act.now }
     ensures effect { is_body_act act.now ≡ false → gives_value act.now ≡ false → machine.new.values ≡ machine.old.values }
     ensures bodies { Opens machine.old act.now event machine.new result }
+    ensures calls { (number : ℕ) → act.now ≡ acts.Call number → CallsNumbered number machine.old event machine.new result }
 {
     match act {
         Act::Store {
@@ -74,6 +76,7 @@ pub fn perform(machine: &mut Machine, act: &Act, event: Event) -> Result<Outcome
 #[inline(never)]
 fn call_of(machine: &mut Machine, number: u32, event: Event) -> Result<Outcome, Fault>
     requires there { number < length machine.old.code.now.tables.calls.items }
+    ensures calls { CallsNumbered number machine.old event machine.new result }
 {
     let code = machine.code;
     call(machine, &code.tables.calls[number as usize], event)
@@ -391,13 +394,6 @@ fn selected(
     }
 }
 
-pub fn function_value(machine: &Machine, operand: Operand) -> u64 {
-    match machine.value(operand) {
-        Ok(value) => as_function(&value),
-        Err(_) => 0,
-    }
-}
-
 // What the body of a call has left is the call's value.
 #[inline(never)]
 fn answered(machine: &mut Machine, discarded: bool, event: Event) -> Result<Outcome, Fault>
@@ -468,7 +464,7 @@ fn target_of<'p>(machine: &Machine<'p, '_>, number: u32) -> Result<(StoreCode<'p
 }
 
 // The value in the room of this number, from the first one of a full expression on.
-fn in_room(values: &Vec<Value>, first: usize, room: u32) -> Result<&Value, NoMemory>
+pub fn in_room(values: &Vec<Value>, first: usize, room: u32) -> Result<&Value, NoMemory>
     ensures { IfOk result (λ v. slice_get values.now.items (first + room) ≡ Some v.now) }
 {
     match values.get(first.saturating_add(room as usize)) {

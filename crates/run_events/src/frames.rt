@@ -1,14 +1,20 @@
 // The bodies of calls, and the frames that they start.
-ghost use Rattle.std.specs.Prelude.{OnOk};
+ghost use Rattle.std.specs.Prelude.{◌≡◌, OnOk, IfOk, Some, slice_get};
+ghost use Rattle.c_model.specs.Values.{function_in};
+ghost use Rattle.prov_memory.specs.Memory.{Kept};
+ghost use Rattle.prov_memory.specs.declared.value.Value.{Value as Kept_value};
+ghost use Rattle.run_acts.specs.Views.{value_in};
+ghost use Rattle.run_state.specs.Operands.{operand_in};
+ghost use Rattle.run_events.specs.Calling.{library_in, Calls};
 ghost use Rattle.run_events.specs.Depth.{StartsWithin};
-ghost use Rattle.run_events.specs.Opens.{started_on, IsOnTop, OpensInitializer};
+ghost use Rattle.run_events.specs.Opens.{started_on, IsOnTop, OpensFrame, OpensFunction, OpensInitializer, Passes};
 
-use crate::acts::{Outcome, function_value};
+use crate::acts::{Outcome, in_room};
 use crate::fault::Fault;
-use c_typed::Function;
+use c_typed::Program;
 use c_types::LibFunc;
 use prov_memory::{LibAnswer, Values};
-use run_acts::callee;
+use run_acts::{as_function, callee};
 use run_code::{CallCode, FunctionCode, Operand};
 use run_control::Use;
 use run_state::{Machine, Open};
@@ -18,29 +24,42 @@ use ub_base::{Cause, Clause, Event, Items, NoMemory};
 const MOST_FRAMES: u64 = 100_000;
 
 // The body of a call: an act of the library, or a new frame.
-pub fn call(machine: &mut Machine, call: &CallCode, event: Event) -> Result<Outcome, Fault> {
+pub fn call(machine: &mut Machine, call: &CallCode, event: Event) -> Result<Outcome, Fault>
+    ensures calls { Calls machine.old call.now event machine.new result }
+{
     let Some(ty) = call.ty else {
         return Err(Fault::Raise(Clause::InvalidPointer));
     };
     let program = machine.program;
-    let function = callee(program, designated(machine, call.designator), ty)?;
-    match program.functions.as_slice().get(function as usize) {
-        Some(
-            Function {
-                ty: _,
-                library: Some(library),
-                body: _,
-            },
-        ) => call_library(machine, *library, call, event),
-        _ => start_function(machine, function, call, event),
+    let address = designated(machine, call.designator)?;
+    let number = callee(program, address, ty)?;
+    match library_of(program, number) {
+        Some(library) => call_library(machine, library, call, event),
+        None => start_function(machine, number, call, event),
     }
 }
 
-fn designated(machine: &Machine, designator: Operand) -> u64 {
+// The address of the function that a designator leads to. Anything but a function pointer leads to none.
+fn designated(machine: &Machine, designator: Operand) -> Result<u64, NoMemory>
+    ensures { IfOk result (λ a. (h : Kept_value) → operand_in machine.now designator ≡ Some h → (m : Kept) → a ≡ function_in (value_in m h)) }
+{
     match designator {
-        Operand::Function(addr) => addr,
-        Operand::Done(_) => function_value(machine, designator),
-        _ => 0,
+        Operand::Function(addr) => Ok(addr),
+        Operand::Done(room) => {
+            let value = in_room(&machine.values, machine.top.base, room)?;
+            Ok(as_function(value))
+        }
+        _ => Ok(0),
+    }
+}
+
+// Which function of the library the function of this number is, where it is one.
+fn library_of(program: &Program, number: u32) -> Option<LibFunc>
+    ensures { result ≡ library_in (slice_get program.now.functions number) }
+{
+    match program.functions.as_slice().get(number as usize) {
+        Some(function) => function.library,
+        None => None,
     }
 }
 
@@ -105,29 +124,38 @@ fn start_function(
     call: &CallCode,
     event: Event,
 ) -> Result<Outcome, Fault>
-    ensures { StartsWithin result machine.old.depth machine.new.depth }
+    ensures within { StartsWithin result machine.old.depth machine.new.depth }
+    ensures opens { OpensFunction machine.old function call.now.arguments.items event machine.new result }
 {
     let reached = machine.depth.saturating_add(1);
     if reached > MOST_FRAMES {
         return Err(Fault::Over(Cause::Depth, reached));
     }
     let base = machine.top.base.saturating_add(machine.top.rooms as usize);
-    machine.grow(base.saturating_add(call.arguments.len()))?;
-    let mut at = base;
-    for operand in call.arguments.as_slice() {
-        let value = machine.value(*operand)?;
-        machine.put(at, value);
-        at = at.saturating_add(1);
-    }
+    pass_arguments(machine, call.arguments.as_slice(), base)?;
     open_function(machine, function, event)?;
     machine.depth = reached;
     Ok(Outcome::Started)
 }
 
-fn function_code<'c>(
-    machine: &Machine<'_, 'c>,
-    function: u32,
-) -> Result<&'c FunctionCode, NoMemory> {
+// The values of these operands go to the rooms from this one on.
+fn pass_arguments(machine: &mut Machine, operands: &[Operand], room: usize) -> Result<(), NoMemory>
+    ensures rest { machine.new ≡ record machine.old { values = machine.new.values } }
+    ensures passes { OnOk result (Passes machine.old operands.now room machine.new) }
+{
+    machine.grow(room.saturating_add(operands.len()))?;
+    let mut at = room;
+    for operand in operands {
+        let value = machine.value(*operand)?;
+        machine.put(at, value);
+        at = at.saturating_add(1);
+    }
+    Ok(())
+}
+
+fn function_code<'c>(machine: &Machine<'_, 'c>, function: u32) -> Result<&'c FunctionCode, NoMemory>
+    ensures { IfOk result (λ f. slice_get machine.now.code.now.functions.items function ≡ Some (Some f.now)) }
+{
     let code = machine.code;
     match code.functions.get(function as usize) {
         Some(Some(function)) => Ok(function),
@@ -147,7 +175,9 @@ pub fn initialize(machine: &mut Machine, number: u32, event: Event) -> Result<Ou
     Ok(Outcome::Started)
 }
 
-fn open_function(machine: &mut Machine, function: u32, event: Event) -> Result<(), NoMemory> {
+fn open_function(machine: &mut Machine, function: u32, event: Event) -> Result<(), NoMemory>
+    ensures opens { OnOk result (OpensFrame machine.old function event machine.new) }
+{
     let code = function_code(machine, function)?;
     let locals = machine.top.above;
     let above = locals.saturating_add(code.objects as usize);

@@ -119,7 +119,7 @@ passes_so m now s d false is stage few at =
     ∙ ap (staged m) (sym stage)
 
 -- it is the machine with another cursor
-staged_so : (m now : Machine) (s : Stage) (d : Due) (straight : Bool) → IsAt straight m s d now → (z : Option Stage) × (now ≡ staged m z)
+pub staged_so : (m now : Machine) (s : Stage) (d : Due) (straight : Bool) → IsAt straight m s d now → (z : Option Stage) × (now ≡ staged m z)
 staged_so m now s d true at = (Some (record s { cursor = min (s.cursor + at.1.0) (2 ^ 64 - 1) }), at.5)
 staged_so m now s d false at = (m.top.stage, at)
 
@@ -139,7 +139,7 @@ decides_so None code noted new is d = d
 decides_so (Some n) code noted new is d = subst (λ (c : Code). Chooses c n noted new) (sym is) d
 
 -- ---- what the definitions raise
-raises_so : (world : World) (st : State) (e : Begun) (u : Place) (c : Clause) → st.top.begun ≡ Some e →
+pub raises_so : (world : World) (st : State) (e : Begun) (u : Place) (c : Clause) → st.top.begun ≡ Some e →
     run world.rows (event_act world st.top.scene e u (at_node 0 e.root u.node)) st.store ≡ Raised c →
     step world st (Ev u) ≡ Raises c (entry_of world st.top (Ev u) [] ∷ st.trace)
 raises_so world st e u c begun ran =

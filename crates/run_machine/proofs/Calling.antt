@@ -1,7 +1,8 @@
 -- What the definitions do at the body of a call of a function that the program defines.
-use Rattle.std.proofs.Common.{◌≡◌, ℕ, suc, ◌+◌, ◌<◌, Bool, true, false, refl, sym, ap, ◌∙◌, subst, arith, List, [], ◌∷◌, Option, Some, None}
+use Rattle.std.proofs.Common.{◌≡◌, ℕ, suc, ◌+◌, ◌<◌, ◌≤◌, Bool, true, false, refl, sym, ap, ◌∙◌, subst, arith, List, [], ◌∷◌, Option, Some, None}
 use Rattle.std.specs.Prelude.{◌||◌, is_some, if◌then◌else◌, nat_lt}
 use Rattle.std.proofs.lemmas.Bool.Decides.{nat_tests}
+use Rattle.ub_base.specs.declared.clause.Cause.TheVariants.{Depth}
 use Rattle.ub_base.specs.declared.clause.Clause.TheVariants.{IncompatibleCall, InvalidPointer}
 use Rattle.ub_base.specs.declared.clause.Kind.TheVariants.{Body}
 use Rattle.ub_base.specs.declared.names.Event.{Event}
@@ -11,7 +12,7 @@ use Rattle.c_typed.specs.declared.tree.Place.{Place}
 use Rattle.c_typed.specs.Order.{place}
 use Rattle.c_model.specs.Moves.{Move, Start}
 use Rattle.c_model.specs.Program.{Call, expr, Exprs, Function, Stmt}
-use Rattle.c_model.specs.Runs.{Running, State, acted, depth_of, entry_of, limit_passed, limited, moved, step, within}
+use Rattle.c_model.specs.Runs.{Over, Running, State, acted, depth_of, entry_of, limit_passed, limited, moved, step, within}
 use Rattle.c_model.specs.Steps.{
   Begun,
   Ev,
@@ -72,6 +73,13 @@ pass_rest false x rest is = is
 one_fits : (limit d : ℕ) → d < limit → nat_lt limit (1 + d) ≡ false
 one_fits limit d lt = grind (arith, nat_tests, lt)
 
+pass_first : {A : Type 0} (test : Bool) (x : A) (rest : Option A) → test ≡ true → (if test then Some x else rest) ≡ Some x
+pass_first true x rest is = refl
+pass_first false x rest is = absurd (cc)
+
+one_too_many : (limit d : ℕ) → limit ≤ d → nat_lt limit (1 + d) ≡ true
+one_too_many limit d le = grind (arith, nat_tests, le)
+
 one_more_within : (world : World) (d : ℕ) (s : Store) → d < world.limits.depth → limit_passed world.limits d s ≡ None →
     limit_passed world.limits (1 + d) s ≡ None
 one_more_within world d s lt is =
@@ -119,6 +127,12 @@ module _ (world : World) (st : State) (e : Begun) (n number : ℕ) (body : Stmt)
       call_steps
       ∙ ap (λ (l : Option _). within l (Running then_state)) (one_more_within world (depth_of st.top st.held) st.store lt is)
 
+  pub call_passes : world.limits.depth ≤ depth_of st.top st.held → step world st (Ev u) ≡ Over Depth (1 + depth_of st.top st.held)
+  call_passes le =
+      call_steps
+      ∙ ap (λ (l : Option _). within l (Running then_state))
+      (pass_first (nat_lt world.limits.depth (1 + depth_of st.top st.held)) _ _ (one_too_many world.limits.depth (depth_of st.top st.held) le))
+
 by_place : (world : World) (st : State) (e : Begun) (n number : ℕ) (body : Stmt) (vs : List Value) → st.top.begun ≡ Some e →
     IsCallOf world st.top.scene e (place n Body) number body vs → IsWithin world st → depth_of st.top st.held < world.limits.depth →
     step world st (Ev (place n Body)) ≡ Running (started_state world st (place n Body) (function_frame st.top.scene n number body vs))
@@ -132,3 +146,18 @@ function_steps world st e u number body vs begun c is lt =
     (sym (place_is u Body c.kind))
     (by_place world st e u.node number body vs begun
     (subst (λ (v : Place). IsCallOf world st.top.scene e v number body vs) (place_is u Body c.kind) c) is lt)
+
+passes_by_place : (world : World) (st : State) (e : Begun) (n number : ℕ) (body : Stmt) (vs : List Value) → st.top.begun ≡ Some e →
+    IsCallOf world st.top.scene e (place n Body) number body vs → world.limits.depth ≤ depth_of st.top st.held →
+    step world st (Ev (place n Body)) ≡ Over Depth (1 + depth_of st.top st.held)
+passes_by_place world st e n number body vs begun c le =
+    call_passes world st e n number body begun c.discarded c.ty c.line c.operands c.node c.through c.typed c.called c.calls c.agrees c.none c.defines le
+
+-- where as many frames are open as may be, the limit is passed
+pub function_passes : (world : World) (st : State) (e : Begun) (u : Place) (number : ℕ) (body : Stmt) (vs : List Value) → st.top.begun ≡ Some e →
+    IsCallOf world st.top.scene e u number body vs → world.limits.depth ≤ depth_of st.top st.held →
+    step world st (Ev u) ≡ Over Depth (1 + depth_of st.top st.held)
+function_passes world st e u number body vs begun c le =
+    subst (λ (v : Place). step world st (Ev v) ≡ Over Depth (1 + depth_of st.top st.held)) (sym (place_is u Body c.kind))
+    (passes_by_place world st e u.node number body vs begun
+    (subst (λ (v : Place). IsCallOf world st.top.scene e v number body vs) (place_is u Body c.kind) c) le)

@@ -4,6 +4,7 @@ mod Beginning
 mod Behind
 mod Births
 mod Bodies
+mod Callees
 mod Called
 mod Calling
 mod Creating

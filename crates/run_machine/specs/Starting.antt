@@ -1,36 +1,40 @@
--- The event that is taken is a body that starts a frame: what is asked of the machine, and what it stands for then (6.7.9p23).
-use Rattle.std.specs.Prelude.{◌≡◌, ◌+◌, ◌^◌, ◌<◌, ℕ, suc, Bool, true, List, [], ◌∷◌, length, reverse, Option, Some, None, Result, Ok, Err, slice_get}
+-- The event that is taken is a body that starts a frame: what is asked of the machine, and what it stands for then (6.5.2.2p10, 6.7.9p23).
+use Rattle.std.specs.Prelude.{◌≡◌, ◌+◌, ◌^◌, ◌<◌, ◌≤◌, ℕ, suc, Bool, true, List, [], ◌∷◌, length, reverse, Option, Some, None, Result, Ok, Err, slice_get}
 use Rattle.std.specs.Borrow.{Bor}
 use Rattle.ub_base.specs.declared.clause.Kind.TheVariants.{Body}
 use Rattle.ub_base.specs.declared.names.Event.{Event}
 use Rattle.ub_base.specs.declared.names.Frame.{Frame}
 use Rattle.c_types.specs.Types.{CType}
+use Rattle.c_typed.specs.declared.program.Program.{Program}
 use Rattle.c_typed.specs.declared.tree.Place.{Place}
 use Rattle.c_model.specs.Control.{To_do}
 use Rattle.c_model.specs.Program.{Call, Expr, expr, Exprs, Function, Isolated, Stmt}
-use Rattle.c_model.specs.Runs.{Outcome, Running, State, canonical_pick, depth_of, entry_of, step}
+use Rattle.c_model.specs.Runs.{Outcome, Running, State, canonical_pick, depth_of, entry_of, library_of, step}
 use Rattle.c_model.specs.Steps.{Begun, Ev, Local, Scene, at_node, body_of, called_by, first_type, function_type, target, values_of}
-use Rattle.c_model.specs.Values.{Value, later_values}
+use Rattle.c_model.specs.Values.{Value, later_values, value_at}
 use Rattle.c_model.specs.World.{World}
 use Rattle.program_view.specs.Trees.{expr_of}
 use Rattle.run_control.specs.View.{Meaning}
 use Rattle.run_code.specs.declared.steps.Act.TheVariants as act
+use Rattle.run_code.specs.declared.steps.CallCode.{CallCode}
 use Rattle.run_code.specs.declared.steps.Due.{Due}
 use Rattle.run_code.specs.declared.steps.Expression.{Expression}
 use Rattle.run_code.specs.declared.steps.Operand.{Operand}
 use Rattle.run_code.specs.declared.whole.Code.{Code}
+use Rattle.run_code.specs.Roots.{AreInBlocks}
 use Rattle.run_state.specs.declared.halt.Halt.{Halt}
 use Rattle.run_state.specs.declared.machine.Machine.{Machine}
 use Rattle.run_state.specs.declared.machine.Stage.{Stage}
 use Rattle.run_state.specs.Operands.{Gives}
 use Rattle.run_state.specs.Stands.{Stands}
+use Rattle.run_events.specs.Calling.{type_of_call}
 use Rattle.run_events.specs.Opens.{IsBefore, StartsFunction}
 use Rattle.run_machine.specs.declared.pick.Pick.{Pick}
 use Rattle.run_machine.specs.declared.pick.Pick.TheVariants as pick
 use Rattle.run_machine.specs.Answering.{Answers, IsWithin, newest_items}
 use Rattle.run_machine.specs.Ending.{KeepToRooms}
 use Rattle.run_machine.specs.Picks.{ComesNext, whole_part}
-use Rattle.run_machine.specs.Taking.{HasRooms, IsAt, IsPast, StandsOpen}
+use Rattle.run_machine.specs.Taking.{HasRooms, IsAt, IsPast, StandsOpen, at_next, past_event}
 
 -- 1. A frame that has started.
 
@@ -185,3 +189,69 @@ FunctionSteps =
     (world : World) (st : State) (e : Begun) (u : Place) (number : ℕ) (body : Stmt) (vs : List Value) → st.top.begun ≡ Some e
     → IsCallOf world st.top.scene e u number body vs → IsWithin world st → depth_of st.top st.held < world.limits.depth
     → step world st (Ev u) ≡ Running (started_state world st u (function_frame st.top.scene u.node number body vs))
+
+-- 6. What is asked of an event that is the body of a call.
+
+-- So it is in code that was laid out of a program: its act is that of a call of the table, which goes by the type of the node's designator. In this machine
+-- the operands of the call give the values of those of the node, for which there are places below 2^64. The function that is called is none of the library.
+pub record IsCall (world : World) (past : Machine) (f : Scene) (e : Begun) (d : Due) : Type 0 where
+  pub number : ℕ
+  pub act : d.act ≡ act.Call number
+  pub body : d.place.kind ≡ Body
+  pub code : CallCode
+  pub there : slice_get past.code.now.tables.calls.items number ≡ Some code
+  pub discarded : Bool
+  pub ty : CType
+  pub line : ℕ
+  pub operands : Exprs
+  pub node : at_node 0 e.root d.place.node ≡ Some (expr (Call discarded) ty line operands)
+  pub typed : type_of_call code.ty ≡ function_type (target (first_type operands))
+  pub designator : Gives past code.designator (value_at (values_of world f e.given (suc d.place.node) operands) 0)
+  pub arguments : ArePassed past code.arguments.items (later_values (values_of world f e.given (suc d.place.node) operands))
+  pub few : past.top.base + past.top.rooms + length code.arguments.items < 2 ^ 64
+  pub own : library_of (called_by world (values_of world f e.given (suc d.place.node) operands)) ≡ None
+
+-- What is defined is defined by a block, and there are at most 2^32 functions, of which as many frames may be open as the profile allows.
+pub record AreCallable (world : World) (p : Program) : Type 0 where
+  pub blocks : AreInBlocks p.functions
+  pub few : length p.functions ≤ 2 ^ 32
+  pub depth : world.limits.depth ≡ 100000
+
+-- The machine has touched nothing yet, stands for a state within the limits, with a full expression open in its top frame, and has gone on to the event.
+-- There is a room for each node; places in listings are below 2^64.
+pub record MayCall (world : World) (meaning : Option ℕ → Meaning) (m : Machine) (st : State) (e : Begun) (s : Stage) (d : Due) (now : Machine)
+    : Type 0 where
+  pub stood : StandsOpen world meaning m st e
+  pub within : IsWithin world st
+  pub items : m.items ≡ []
+  pub stage : m.top.stage ≡ Some s
+  pub end : s.end < 2 ^ 64
+  pub rooms : HasRooms (whole_part m s) m.top.rooms e
+  pub functions : AreCallable world m.program.now
+  pub event : IsCall world (past_event now) st.top.scene e d
+  pub goes : IsAt s.straight m s d now
+
+-- The frame of the function starts as the definitions say; or the call raises what they raise, of none or through a type that isn't compatible (6.5.3.2p4,
+-- 6.5.2.2p9), or passes the limit on open frames; or memory is wanted.
+abbrev pub AnswersCall : Due → (old new : Machine) → Result Pick Halt → Type 0
+AnswersCall d old new result =
+    (world : World) (meaning : Option ℕ → Meaning) (m : Machine) (st : State) (e : Begun) (s : Stage)
+    → MayCall world meaning m st e s d old → AnswersStart world meaning result new (step world st (Ev d.place))
+
+-- 7. The next event along the canonical way is such a body.
+
+pub record MayCallNext (world : World) (meaning : Option ℕ → Meaning) (m : Machine) (st : State) (e : Begun) (s : Stage) : Type 0 where
+  pub stood : StandsOpen world meaning m st e
+  pub within : IsWithin world st
+  pub stage : m.top.stage ≡ Some s
+  pub straight : s.straight ≡ true
+  pub end : s.end < 2 ^ 64
+  pub rooms : HasRooms (whole_part m s) m.top.rooms e
+  pub functions : AreCallable world m.program.now
+  pub each : (next : ℕ × Bor Due) → ComesNext m s (Some next) → IsCall world (past_event (at_next m s next.0)) st.top.scene e next.1.now
+
+abbrev pub AnswersNextCall : (old new : Machine) → Result Pick Halt → Type 0
+AnswersNextCall old new result =
+    (world : World) (meaning : Option ℕ → Meaning) (st : State) (e : Begun) (s : Stage) (u : Place)
+    → MayCallNext world meaning old st e s → canonical_pick world st.top st.top.begun ≡ Ev u
+    → AnswersStart world meaning result new (step world st (Ev u))

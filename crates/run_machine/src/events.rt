@@ -4,7 +4,7 @@ ghost use Rattle.run_code.specs.Named.{IsDueOf};
 ghost use Rattle.run_machine.specs.Completing.{CompletesEvent, CompletesPick};
 ghost use Rattle.run_machine.specs.Ending.{Notes};
 ghost use Rattle.run_machine.specs.Picks.{event_at, IsOfEvent};
-ghost use Rattle.run_machine.specs.Starting.{AnswersBody, FunctionStands, FunctionSteps};
+ghost use Rattle.run_machine.specs.Starting.{AnswersBody, AnswersCall, FunctionStands, FunctionSteps};
 ghost use Rattle.run_machine.specs.Taking.{past_event, AnswersEvent, DecidesBy, FollowsEvent};
 
 use crate::laws::law_events;
@@ -49,6 +49,7 @@ pub fn take_event(machine: &mut Machine, due: &Due) -> Result<Pick, Halt>
     ensures answers { AnswersEvent due.now machine.old machine.new result }
     ensures bodies { AnswersBody due.now machine.old machine.new result }
     ensures completes { CompletesEvent due.now machine.old machine.new result }
+    ensures calls { AnswersCall due.now machine.old machine.new result }
 {
     law_events();
     law_view();

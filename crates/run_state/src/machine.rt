@@ -1,5 +1,5 @@
 // The state of a run.
-ghost use Rattle.std.specs.Prelude.{◌≡◌, ◌≢◌, ◌+◌, ◌-◌, ◌^◌, ◌<◌, min, ℕ, Some, IfOk, length, option_copied, slice_get};
+ghost use Rattle.std.specs.Prelude.{◌≡◌, ◌≢◌, ◌+◌, ◌-◌, ◌^◌, ◌<◌, ◌≤◌, min, ℕ, Some, IfOk, OnOk, length, option_copied, slice_get};
 ghost use Rattle.c_model.specs.Values as model;
 ghost use Rattle.c_model.specs.Values.{integer_of, pointer_of};
 ghost use Rattle.prov_memory.specs.Memory.{Kept};
@@ -216,6 +216,7 @@ impl<'p, 'c> Machine<'p, 'c> {
         ensures rest { self.new ≡ record self.old { values = self.new.values } }
         ensures room { at < length self.old.values.items → slice_get self.new.values.items at ≡ Some value }
         ensures others { (j : ℕ) → j ≢ at → slice_get self.new.values.items j ≡ slice_get self.old.values.items j }
+        ensures count { length self.new.values.items ≡ length self.old.values.items }
     {
         if let Some(place) = self.values.get_mut(at) {
             *place = value;
@@ -239,15 +240,17 @@ impl<'p, 'c> Machine<'p, 'c> {
     pub fn grow(&mut self, size: usize) -> Result<(), NoMemory>
         ensures rest { self.new ≡ record self.old { values = self.new.values } }
         ensures kept { (j : ℕ) (h : Kept_value) → slice_get self.old.values.items j ≡ Some h → slice_get self.new.values.items j ≡ Some h }
+        ensures count { OnOk result (size ≤ length self.new.values.items) }
     {
-        for _ in self.values.len()..size {
+        for room in self.values.len()..size {
             self.values.push(Value::Nothing)?;
         }
         Ok(())
     }
 
     pub fn grow_locals(&mut self, size: usize) -> Result<(), NoMemory>
-        ensures { self.new ≡ record self.old { locals = self.new.locals } }
+        ensures rest { self.new ≡ record self.old { locals = self.new.locals } }
+        ensures kept { (j : ℕ) (l : LocalOf) → slice_get self.old.locals.items j ≡ Some l → slice_get self.new.locals.items j ≡ Some l }
     {
         for _ in self.locals.len()..size {
             self.locals.push(Local {

@@ -1,6 +1,7 @@
-use Rattle.std.proofs.Common.{◌≡◌, true, false, ap, sym, subst, ◌∙◌}
+use Rattle.std.proofs.Common.{◌≡◌, ℕ, true, false, ap, sym, subst, ◌∙◌}
 use Rattle.run_code.specs.declared.steps.Act.{Act}
 use Rattle.run_events.specs.Acts.{is_body_act}
+use Rattle.run_events.specs.Calling.{CallsNumbered}
 use Rattle.run_events.specs.Opens.{Opens}
 use Rattle.run_events.specs.Performs.{gives_value}
 use Rattle.run_events.proofs.Opening.{opens_none}
@@ -86,3 +87,20 @@ returns-in-Initialize-clause-bodies c =
 pub returns-in_default-clause-bodies : goal.returns-in_default-clause-bodies
 returns-in_default-clause-bodies c =
     opens_none c.args.machine.now c.value_act.new.machine c.args.act.now c.args.event c.value_act.result c.in_default.not-Initialize
+
+pub returns-in-Store-clause-calls : goal.returns-in-Store-clause-calls
+returns-in-Store-clause-calls c = λ n is. absurd (let e = c.in-Store.is in cc)
+
+pub returns-in-Fill-clause-calls : goal.returns-in-Fill-clause-calls
+returns-in-Fill-clause-calls c = λ n is. absurd (let e = c.in-Fill.is in cc)
+
+pub returns-in-Call-clause-calls : goal.returns-in-Call-clause-calls
+returns-in-Call-clause-calls c = λ n is.
+    let same : c.in-Call.number ≡ n = (let e = c.in-Call.is in cc) in
+    subst (λ (k : ℕ). CallsNumbered k c.args.machine.now c.args.event c.call_of.new.machine c.call_of.result) same c.call_of.ensures.calls
+
+pub returns-in-Initialize-clause-calls : goal.returns-in-Initialize-clause-calls
+returns-in-Initialize-clause-calls c = λ n is. absurd (let e = c.in-Initialize.is in cc)
+
+pub returns-in_default-clause-calls : goal.returns-in_default-clause-calls
+returns-in_default-clause-calls c = λ n is. absurd (c.in_default.not-Call n is)

@@ -3,6 +3,7 @@ use Rattle.run_machine.specs.declared.pick.Pick.TheVariants as pick
 use Rattle.run_machine.specs.Picks.{event_at}
 use Rattle.run_machine.proofs.Answered.{completed_done, completed_else, completed_ended, taken_done, taken_ended, taken_started, taken_stopped}
 use Rattle.run_machine.proofs.Bodies.{body_done, body_ended, body_started, body_stopped}
+use Rattle.run_machine.proofs.Callees.{call_done, call_ended, call_started, call_stopped}
 use Rattle.run_machine.proofs.events.take_event.Goals as goal
 
 pub returns-in-Ok-Done-clause-answers : goal.returns-in-Ok-Done-clause-answers
@@ -78,3 +79,27 @@ returns-in-Err-clause-completes c =
     completed_else c.law_events.ensures.stands c.law_events.ensures.steps c.args.due.now c.args.machine.now c.pass_event.new.machine
     c.perform.new.machine c.perform.new.machine c.perform.result (Err c.of.result) c.pass_event.ensures
     (c.perform.ensures.exact, c.perform.ensures.changes, c.perform.ensures.effect) (λ world u o. tt)
+
+pub returns-in-Ok-Done-clause-calls : goal.returns-in-Ok-Done-clause-calls
+returns-in-Ok-Done-clause-calls c =
+    call_done c.law_view.ensures.trees c.law_cursor.ensures.starts c.args.due.now c.args.machine.now c.pass_event.new.machine c.perform.new.machine
+    (event_at c.args.machine.now c.args.due.now.place) refl c.perform.result c.pass_event.ensures c.perform.ensures.calls
+    c.finish_event.new.machine c.finish_event.result (c.in-Ok-Done.is ∙ ap Ok c.in-Ok-Done.field-0-is)
+
+pub returns-in-Ok-Started-clause-calls : goal.returns-in-Ok-Started-clause-calls
+returns-in-Ok-Started-clause-calls c =
+    call_started c.law_view.ensures.trees c.law_cursor.ensures.starts c.args.due.now c.args.machine.now c.pass_event.new.machine c.perform.new.machine
+    (event_at c.args.machine.now c.args.due.now.place) refl c.perform.result c.pass_event.ensures c.perform.ensures.calls
+    (c.in-Ok-Started.is ∙ ap Ok c.in-Ok-Started.field-0-is) (event_at c.args.machine.now c.args.due.now.place)
+
+pub returns-in-Ok-End-clause-calls : goal.returns-in-Ok-End-clause-calls
+returns-in-Ok-End-clause-calls c =
+    call_ended c.law_view.ensures.trees c.law_cursor.ensures.starts c.args.due.now c.args.machine.now c.pass_event.new.machine c.perform.new.machine
+    (event_at c.args.machine.now c.args.due.now.place) refl c.perform.result c.pass_event.ensures c.perform.ensures.calls
+    c.finish_event-in-Ok-End.new.machine c.finish_event-in-Ok-End.result _ (c.in-Ok-End.is ∙ ap Ok c.in-Ok-End.field-0-is)
+
+pub returns-in-Err-clause-calls : goal.returns-in-Err-clause-calls
+returns-in-Err-clause-calls c =
+    call_stopped c.law_view.ensures.trees c.law_cursor.ensures.starts c.args.due.now c.args.machine.now c.pass_event.new.machine c.perform.new.machine
+    (event_at c.args.machine.now c.args.due.now.place) refl c.perform.result c.pass_event.ensures c.perform.ensures.calls c.in-Err.fault
+    c.args.due.now.line c.of.result c.in-Err.is c.of.ensures

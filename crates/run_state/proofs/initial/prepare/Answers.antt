@@ -30,7 +30,7 @@ returns-clause-stands c = λ lawful few nothing high.
     (c.vias_of.ensures.store (before.tagged (subst (λ (k : Kept). AreTagged k) (sym nothing) tt))) c.in_ok-vias.ensures.vias
     (c.in_ok-fillings.ensures (since.sound (before.sound sound)).named) c.in_ok-frame.ensures.top c.in_ok-frame.ensures.work in
     begins old first.memory c.args.program.now words c.args.input c.grow_locals.new.self nothing high
-    (parts_after old first.memory c.args.program.now words c.args.input c.assembled-machine.result c.grow_locals.new.self c.grow_locals.ensures parts)
+    (parts_after old first.memory c.args.program.now words c.args.input c.assembled-machine.result c.grow_locals.new.self c.grow_locals.ensures.rest parts)
 
 pub returns-clause-given : goal.returns-clause-given
 returns-clause-given c = λ lawful nothing.
@@ -41,8 +41,8 @@ returns-clause-given c = λ lawful nothing.
     let made = c.assembled-machine.ensures in
     let sound = subst (λ (k : Kept). IsSound k) (sym nothing) (empty_sound old.rows old.mode) in
     let many = ap (λ n. n + 1) (sym (length-map c.args.args.now string_bytes)) in
-    let memory = ap (λ (n : Machine). n.memory) c.grow_locals.ensures ∙ made.memory in
-    let values = ap (λ (n : Machine). n.values.items) c.grow_locals.ensures ∙ ap (λ v. v.items) made.values in
+    let memory = ap (λ (n : Machine). n.memory) c.grow_locals.ensures.rest ∙ made.memory in
+    let values = ap (λ (n : Machine). n.values.items) c.grow_locals.ensures.rest ∙ ap (λ v. v.items) made.values in
     holds_given first.memory c.args.program.now first.values.items words (length c.args.args.now + 1) m many (c.in_ok-first.ensures.given sound lawful)
     (subst (λ (k : Kept). Keeps first.memory k) (sym memory) c.vias_of.ensures.kept) values
 
@@ -51,8 +51,8 @@ returns-clause-labels c =
     let m = c.grow_locals.new.self in
     let made = c.assembled-machine.ensures in
     labels_same m.code.now c.args.code.now m.jumps c.in_ok-frame.frame.jumps
-    (ap (λ (n : Machine). n.code.now) c.grow_locals.ensures ∙ ap (λ (b : Bor Code). b.now) made.code)
-    (ap (λ (n : Machine). n.jumps) c.grow_locals.ensures ∙ made.jumps) c.in_ok-frame.ensures.labels
+    (ap (λ (n : Machine). n.code.now) c.grow_locals.ensures.rest ∙ ap (λ (b : Bor Code). b.now) made.code)
+    (ap (λ (n : Machine). n.jumps) c.grow_locals.ensures.rest ∙ made.jumps) c.in_ok-frame.ensures.labels
 
 pub returns-clause-code : goal.returns-clause-code
-returns-clause-code c = ap (λ (n : Machine). n.code) c.grow_locals.ensures ∙ c.assembled-machine.ensures.code
+returns-clause-code c = ap (λ (n : Machine). n.code) c.grow_locals.ensures.rest ∙ c.assembled-machine.ensures.code
