@@ -9,6 +9,7 @@ mod Calling
 mod Creating
 mod Deciding
 mod Entered
+mod Entering
 mod Finished
 mod Given
 mod Giving
@@ -22,6 +23,8 @@ mod Objects
 mod Onward
 mod Opened
 mod Parts
+mod Passed
+mod Passing
 mod Picked
 mod Results
 mod Returning
@@ -33,6 +36,7 @@ mod Started
 mod Staying
 mod Steering
 mod Still
+mod Storing
 mod Taken
 mod Unwriting
 mod Waiting
