@@ -381,22 +381,22 @@ module _ (world : World) (meaning : Option ℕ → Meaning) (m new : Machine) (b
   entered_so = λ rows. entered rows
 
 -- ---- too many bytes would be created
-passes_over : (world : World) (st : State) (b : ℕ) (ds : List Decl) (rest : Todo) (number : ℕ) → st.top.begun ≡ None →
-    ready_work st.top.todo ≡ todo.Enter b ds ∷ rest → created_after st.store.created ds ≡ number → world.limits.created < number →
+passes_over : (world : World) (st : State) (b : ℕ) (xs : List Decl) (ws : Todo) (number : ℕ) → st.top.begun ≡ None →
+    ready_work st.top.todo ≡ todo.Enter b xs ∷ ws → created_after st.store.created xs ≡ number → world.limits.created < number →
     step world st Control ≡ Over Created number
-passes_over world st b ds rest number closed ready reached lt =
+passes_over world st b xs ws number closed ready reached lt =
     ap (λ (l : Option (Cause × ℕ)). within l (acted world st Control (run world.rows (does world st.top st.top.begun Control) st.store)))
     (ap (λ (e : Option Begun). if is_some e then None else block_passes world.limits st.store (ready_work st.top.todo)) closed
     ∙ ap (block_passes world.limits st.store) ready ∙ ap (too_many world.limits) reached ∙ too_many_so world.limits number lt)
 
 -- ---- an object has no place
-no_row : (world : World) (st : State) (b : ℕ) (ds : List Decl) (rest : Todo) → st.top.begun ≡ None → ready_work st.top.todo ≡ todo.Enter b ds ∷ rest →
-    created_after st.store.created ds ≤ world.limits.created → run world.rows (control_act world st.top (todo.Enter b ds ∷ rest)) st.store ≡ Unplaced →
+no_row : (world : World) (st : State) (b : ℕ) (xs : List Decl) (ws : Todo) → st.top.begun ≡ None → ready_work st.top.todo ≡ todo.Enter b xs ∷ ws →
+    created_after st.store.created xs ≤ world.limits.created → run world.rows (control_act world st.top (todo.Enter b xs ∷ ws)) st.store ≡ Unplaced →
     step world st Control ≡ No_row
-no_row world st b ds rest closed ready fits runs =
+no_row world st b xs ws closed ready fits runs =
     ap (λ (l : Option (Cause × ℕ)). within l (acted world st Control (run world.rows (does world st.top st.top.begun Control) st.store)))
     (ap (λ (e : Option Begun). if is_some e then None else block_passes world.limits st.store (ready_work st.top.todo)) closed
-    ∙ ap (block_passes world.limits st.store) ready ∙ too_many_not world.limits (created_after st.store.created ds) fits)
+    ∙ ap (block_passes world.limits st.store) ready ∙ too_many_not world.limits (created_after st.store.created xs) fits)
     ∙ ap (λ (e : Option Begun). acted world st Control (run world.rows (does world st.top e Control) st.store)) closed
     ∙ ap (λ (w : Todo). acted world st Control (run world.rows (control_act world st.top w) st.store)) ready
     ∙ ap (acted world st Control) runs

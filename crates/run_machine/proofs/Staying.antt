@@ -212,8 +212,8 @@ enters_as world m below now st (Enter b ds ∷ rest) c = record {
   block = c.block;
   below = c.below;
   rooms = c.rooms;
-  addresses = c.addresses;
-  plain = c.plain;
+  rows = c.rows;
+  takes = c.takes;
 }
 enters_as world m below now st (w ∷ rest) c = tt
 
@@ -229,8 +229,8 @@ enters_cleared world m is st (Enter b ds ∷ rest) c = record {
   block = c.block;
   below = c.below;
   rooms = c.rooms;
-  addresses = c.addresses;
-  plain = c.plain;
+  rows = c.rows;
+  takes = c.takes;
 }
 enters_cleared world m is st (w ∷ rest) c = tt
 
