@@ -58,7 +58,7 @@ use Rattle.prov_memory.proofs.AccessLemmas.{before}
 use Rattle.c_model.specs.Control as todo
 use Rattle.c_model.specs.Control.{Todo, ready_work}
 use Rattle.c_model.specs.Program.{Decl}
-use Rattle.c_model.specs.Runs.{Entry, State, created_after, depth_of, limit_passed, too_many, within}
+use Rattle.c_model.specs.Runs.{Entry, State, created_after, depth_of, limit_passed, too_many}
 use Rattle.c_model.specs.Steps.{Begun, Local, Scene, auto_name}
 use Rattle.c_model.specs.World.{World, Limits}
 use Rattle.run_control.specs.declared.statement.Block.{Block}
@@ -73,22 +73,8 @@ use Rattle.run_state.specs.declared.machine.Open.{Open}
 use Rattle.run_state.specs.declared.machine.Stage.{Stage}
 use Rattle.run_state.specs.Stands.{IsAbove, SeesLocals, StandLocals, Stands, StandsBegun, StandsControl, StandsFrame, StandsLocal}
 use Rattle.run_machine.specs.Answering.{HasTaken, as_before}
-use Rattle.run_machine.specs.Entering.{
-  Birth,
-  CanBear,
-  CanEnter,
-  HasBirths,
-  IsNew,
-  birth_in,
-  birth_of,
-  births,
-  born_by,
-  born_first,
-  new_name,
-  reached_with,
-  turned,
-}
-use Rattle.run_machine.proofs.Births.{CanAll, bears}
+use Rattle.run_machine.specs.Entering.{Birth, CanBear, CanEnter, HasBirths, IsNew, birth_in, birth_of, born_by, born_first, new_name, reached_with, turned}
+use Rattle.run_machine.proofs.Births.{CanAll}
 use Rattle.run_machine.proofs.Growing.{frame_grown, frames_grown, tables_grown, with_objects_of}
 use Rattle.run_machine.proofs.Still.{depth_same, frame_aside, frames_aside, tables_aside}
 use Rattle.run_machine.proofs.Unwriting.{block_number, capped}

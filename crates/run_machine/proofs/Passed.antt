@@ -1,37 +1,5 @@
 -- Parameters take their arguments: what the definitions do, and what the machine then stands for.
-use Rattle.std.proofs.Common.{
-  ◌≡◌,
-  ◌≢◌,
-  ℕ,
-  zero,
-  suc,
-  ◌+◌,
-  ◌-◌,
-  ◌<◌,
-  ◌≤◌,
-  ◌^◌,
-  min,
-  Bool,
-  true,
-  false,
-  refl,
-  sym,
-  ap,
-  ◌∙◌,
-  subst,
-  arith,
-  List,
-  [],
-  ◌∷◌,
-  ◌++◌,
-  length,
-  map,
-  reverse,
-  Option,
-  Some,
-  None,
-  slice_get,
-}
+use Rattle.std.proofs.Common.{◌≡◌, ℕ, zero, suc, ◌+◌, ◌<◌, ◌≤◌, ◌^◌, min, Bool, true, refl, sym, ap, ◌∙◌, subst, arith, List, [], ◌∷◌, ◌++◌, length, reverse, Option, Some, None, slice_get}
 use Rattle.std.specs.Prelude.{take, Result, Ok, Err}
 use Rattle.std.proofs.lemmas.List.{length-reverse, length-take-le}
 use Rattle.std.proofs.lemmas.Option.{same_Some}
@@ -44,7 +12,7 @@ use Rattle.exposure.specs.declared.prov.Prov.TheVariants.{Whole}
 use Rattle.c_types.specs.Types.{type_of}
 use Rattle.c_typed.specs.declared.tree.Place.{Place}
 use Rattle.mem_spec.specs.Acts.{base_in}
-use Rattle.mem_spec.specs.Script.{Act, Do, Done, Exceed, Finish, Give, Misplace, Raise, Raised, Script, run, touched, ◌>>=◌, ◌>>◌}
+use Rattle.mem_spec.specs.Script.{Do, Done, Exceed, Finish, Give, Misplace, Raise, Raised, Script, run, touched, ◌>>◌}
 use Rattle.mem_spec.specs.Store.{Store}
 use Rattle.mem_laws.specs.MoreRows.{BearsIn}
 use Rattle.prov_memory.specs.declared.value.Value.{Value as Kept_value}
@@ -54,7 +22,7 @@ use Rattle.prov_memory.proofs.AccessLemmas.{after, before, done_then, run_bind}
 use Rattle.c_model.specs.Nodes.{put}
 use Rattle.c_model.specs.Program.{Decl}
 use Rattle.c_model.specs.Runs.{Entry, State}
-use Rattle.c_model.specs.Steps.{Begun, Local as Frame, Scene, auto_name, object_at, pass_all}
+use Rattle.c_model.specs.Steps.{Begun, Scene, auto_name, object_at, pass_all}
 use Rattle.c_model.specs.Values.{Value, Nothing, address_after}
 use Rattle.c_model.specs.World.{World}
 use Rattle.run_acts.specs.Views.{value_in}
@@ -66,17 +34,16 @@ use Rattle.run_state.specs.declared.machine.Local.{Local}
 use Rattle.run_state.specs.declared.machine.Machine.{Machine}
 use Rattle.run_state.specs.declared.machine.Open.{Open}
 use Rattle.run_state.specs.declared.machine.Stage.{Stage}
-use Rattle.run_state.specs.declared.watch.Begun.{Begun as Shown}
 use Rattle.run_state.specs.Operands.{AreAddresses}
-use Rattle.run_state.specs.Stands.{Holds, HoldsAll, Stands, StandsBegun, StandsFrame, StandsLocal, result_seen}
+use Rattle.run_state.specs.Stands.{Holds, HoldsAll, Stands, StandsBegun, result_seen}
 use Rattle.run_events.specs.Acts.{stored_by}
 use Rattle.run_events.specs.Performs.{store_in}
 use Rattle.run_events.proofs.Stays.{value_stays}
 use Rattle.run_machine.specs.Ending.{IsResultOf, KeepToRooms}
 use Rattle.run_machine.specs.Entering.{TakesAs}
 use Rattle.run_machine.specs.Passing.{PutsAs, argument_script, first_of, place_of, script_of, with_arguments}
-use Rattle.run_machine.proofs.Creating.{none_bind, none_put, none_run}
-use Rattle.run_machine.proofs.Standing.{frames_under, locals_on, moved_on, tables_on}
+use Rattle.run_machine.proofs.Creating.{none_bind, none_put}
+use Rattle.run_machine.proofs.Standing.{frames_under, locals_on, tables_on}
 
 -- ---- scripts one after the other
 then_after : {A B C : Type 0} (a : Script A) (b : Script B) (c : Script C) → (a >> b) >> c ≡ a >> (b >> c)

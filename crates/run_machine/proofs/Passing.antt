@@ -1,41 +1,6 @@
 -- Parameters take their arguments: what the code does, one after the other.
-use Rattle.std.proofs.Common.{
-  ◌≡◌,
-  ◌≢◌,
-  ℕ,
-  zero,
-  suc,
-  ◌+◌,
-  ◌-◌,
-  ◌<◌,
-  ◌≤◌,
-  ◌^◌,
-  ◌==◌,
-  min,
-  Bool,
-  true,
-  false,
-  refl,
-  sym,
-  ap,
-  ◌∙◌,
-  subst,
-  arith,
-  append_assoc,
-  get_or,
-  not,
-  List,
-  [],
-  ◌∷◌,
-  ◌++◌,
-  length,
-  Option,
-  Some,
-  None,
-  slice_get,
-}
+use Rattle.std.proofs.Common.{◌≡◌, ◌≢◌, ℕ, zero, suc, ◌+◌, ◌-◌, ◌<◌, ◌^◌, ◌==◌, min, Bool, true, false, refl, sym, ap, ◌∙◌, subst, arith, append_assoc, get_or, not, List, [], ◌∷◌, ◌++◌, length, Option, Some, None, slice_get}
 use Rattle.std.specs.Prelude.{is_some, option_map, Result, Ok, Err}
-use Rattle.std.specs.List.{All}
 use Rattle.ub_base.specs.declared.clause.Clause.{Clause}
 use Rattle.ub_base.specs.declared.clause.Clause.TheVariants.{DeadObject, EffectiveType, InvalidPointer, OutOfBounds, OverlappingAssignment}
 use Rattle.ub_base.specs.declared.clause.Clause.TheVariants.{StoreToConst, StoreToLiteral}
@@ -45,7 +10,6 @@ use Rattle.addr_map.specs.declared.map.Row.{Row}
 use Rattle.addr_map.specs.Rows.{row_of}
 use Rattle.exposure.specs.declared.prov.Prov.TheVariants.{Whole}
 use Rattle.c_types.specs.Types.{CType, int, type_of}
-use Rattle.c_typed.specs.Lawful.{ContentIsLawful}
 use Rattle.c_typed.specs.declared.tree.Access.{Access}
 use Rattle.c_typed.specs.declared.tree.Access.TheVariants as access
 use Rattle.mem_spec.specs.Agreement.{bytes_of_kind}
@@ -80,20 +44,8 @@ use Rattle.run_state.specs.Stands.{StandsTables}
 use Rattle.run_events.specs.Acts.{stored_by}
 use Rattle.run_events.specs.Performs.{CanPut, Puts, store_in}
 use Rattle.run_events.proofs.Stays.{value_stays}
-use Rattle.run_machine.specs.Passing.{
-  CanPass,
-  CanPassAll,
-  HasPassed,
-  HavePassed,
-  IsOnePassed,
-  PassesAll,
-  PutsAs,
-  argument_script,
-  first_of,
-  place_of,
-  script_of,
-}
-use Rattle.run_machine.proofs.Standing.{moved_on, tables_on}
+use Rattle.run_machine.specs.Passing.{CanPassAll, HavePassed, IsOnePassed, PassesAll, PutsAs, argument_script, first_of, place_of, script_of}
+use Rattle.run_machine.proofs.Standing.{tables_on}
 
 -- ---- scripts that do the same under all rows
 abbrev pub Alike : {V : Type 0} → Script V → Type 0

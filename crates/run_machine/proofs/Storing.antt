@@ -44,7 +44,7 @@ use Rattle.addr_map.specs.Rows.{is_lawful, is_power, row_of}
 use Rattle.exposure.specs.declared.prov.Prov.{Prov}
 use Rattle.exposure.specs.declared.prov.Prov.TheVariants as prov
 use Rattle.c_types.specs.Shapes.{Form}
-use Rattle.c_types.specs.Types.{CType, int}
+use Rattle.c_types.specs.Types.{int}
 use Rattle.c_typed.specs.declared.tree.Access.{Access}
 use Rattle.c_typed.specs.declared.tree.Access.TheVariants as access
 use Rattle.mem_spec.specs.Acts.{Seen, base_in, declared_of, has_place, in_row, is_aligned, offset_in, scalar, store, stored_from, suits_store, whole}
