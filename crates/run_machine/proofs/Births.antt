@@ -58,6 +58,7 @@ use Rattle.prov_memory.specs.Keeps.{Keeps}
 use Rattle.prov_memory.specs.Made.{IsMade}
 use Rattle.prov_memory.specs.Memory.{AreKnown, IsBorn, Kept, cannot_create, life_in, no_place, store_of}
 use Rattle.prov_memory.specs.Sound.{IsSound}
+use Rattle.prov_memory.proofs.AccessLemmas.{before}
 use Rattle.prov_memory.proofs.KeepLemmas.{keeps_none, keeps_then}
 use Rattle.c_model.specs.Program.{Decl}
 use Rattle.c_model.specs.Steps.{Scene, auto_name, bear_all, object_kind}
@@ -203,7 +204,7 @@ without_place rows x size base kind form rest s true h =
     ap (λ (b : Bool). if b then Unplaced else touched (Born x) (run rows rest (born s x size kind form))) h
 without_place rows x size base kind form rest s false h = refl
 
-abbrev births_from : (ℕ → ObjName) → (k n : ℕ) → List Item
+abbrev pub births_from : (ℕ → ObjName) → (k n : ℕ) → List Item
 births_from x k zero = []
 births_from x k (suc n) = Born (x k) ∷ births_from x (suc k) n
 
@@ -224,16 +225,17 @@ module _ (world : World) (f : Scene) (turn : ℕ) (bs : List Birth) (s : Store) 
       (slice_get bs k ≡ Some (birth_in d)) × (has_place (row_of world.rows (own k)) d.size d.align ≡ true) × ((born_first own bs k s).life (own k) ≡ None)
       × CanAll (suc k) ds
 
-  pub bears : (k n : ℕ) (ds : List Decl) (v : Value) → n ≡ k + length ds → CanAll k ds →
-      run world.rows (bear_all world f turn k ds (Give v)) (born_first own bs k s) ≡ Done v (births_from own k (length ds)) (born_first own bs n s)
-  bears k n [] v e can = ap (λ (m : ℕ). Done v [] (born_first own bs m s)) (omega (arith, e))
-  bears k n (d ∷ ds) v e can =
+  pub bears : (k n : ℕ) (ds : List Decl) (rest : Script Value) → n ≡ k + length ds → CanAll k ds →
+      run world.rows (bear_all world f turn k ds rest) (born_first own bs k s)
+      ≡ before (births_from own k (length ds)) (run world.rows rest (born_first own bs n s))
+  bears k n [] rest e can = ap (λ (m : ℕ). run world.rows rest (born_first own bs m s)) (omega (arith, e))
+  bears k n (d ∷ ds) rest e can =
       by_place world.rows (own k) d.size (base_in (row_of world.rows (own k))) (object_kind d.constant) d.form
-      (bear_all world f turn (suc k) ds (Give v)) (born_first own bs k s) (has_place (row_of world.rows (own k)) d.size d.align)
+      (bear_all world f turn (suc k) ds rest) (born_first own bs k s) (has_place (row_of world.rows (own k)) d.size d.align)
       ((born_first own bs k s).life (own k)) can.1 refl can.2
-      ∙ ap (λ (b : Option Birth). touched (Born (own k)) (run world.rows (bear_all world f turn (suc k) ds (Give v))
+      ∙ ap (λ (b : Option Birth). touched (Born (own k)) (run world.rows (bear_all world f turn (suc k) ds rest)
       (born_by (born_first own bs k s) (own k) b))) (sym can.0)
-      ∙ ap (touched (Born (own k))) (bears (suc k) n ds v (omega (arith, e)) can.3)
+      ∙ ap (touched (Born (own k))) (bears (suc k) n ds rest (omega (arith, e)) can.3)
 
   -- .. up to one that has no place
   abbrev pub StopsAt : ℕ → ℕ → List Decl → Type 0

@@ -55,7 +55,7 @@ use Rattle.run_state.specs.declared.machine.Machine.{Machine}
 use Rattle.run_events.specs.Acts.{act_script, filled_from, given_by, script_in, stored_by, value_script}
 
 -- ---- scripts that create nothing
-none_bind : {A B : Type 0} (p : Script A) (k : A → Script B) → BearsIn [] p → ((v : A) → BearsIn [] (k v)) → BearsIn [] (p >>= k)
+pub none_bind : {A B : Type 0} (p : Script A) (k : A → Script B) → BearsIn [] p → ((v : A) → BearsIn [] (k v)) → BearsIn [] (p >>= k)
 none_bind (Give v) k b h = h v
 none_bind (Raise c) k b h = tt
 none_bind (Finish n) k b h = tt
@@ -272,7 +272,7 @@ module _ (rows : List Row) where
   none_whole first size align p model.Missing = tt
   none_whole first size align p Nothing = tt
 
-  none_put : (first : Bool) (how : Access) (ty : CType) (p : Pointer) (v : Value) → BearsIn [] (put rows first how ty p v)
+  pub none_put : (first : Bool) (how : Access) (ty : CType) (p : Pointer) (v : Value) → BearsIn [] (put rows first how ty p v)
   none_put first (access.Integer k) ty p v = none_stored first (scalar (int k)) (bytes_of_kind k) p (int_bytes k (integer_of v)) (Give Nothing) tt
   none_put first access.Pointer ty p v =
       none_stored first (scalar ty) 8 p (pointer_bytes 8 0 (pointer_of v).prov (pointer_of v).address) (Give Nothing) tt
@@ -398,7 +398,7 @@ module _ (rows : List Row) where
   none_next Take k b r = b r
   none_next (Print to bs) k b r = b r
 
-  none_run : {V : Type 0} (p : Script V) (s u : Store) (v : V) (is : List Item) → BearsIn [] p → run rows p s ≡ Done v is u → u.created ≡ s.created
+  pub none_run : {V : Type 0} (p : Script V) (s u : Store) (v : V) (is : List Item) → BearsIn [] p → run rows p s ≡ Done v is u → u.created ≡ s.created
   none_run {V} (Give w) s u v is b e = sym (the_store e)
     where
       the_store : {w : V} → Done w [] s ≡ Done v is u → s.created ≡ u.created

@@ -27,7 +27,6 @@ use Rattle.std.proofs.Common.{
   List,
   [],
   ◌∷◌,
-  ◌++◌,
   length,
   map,
   reverse,
@@ -37,13 +36,11 @@ use Rattle.std.proofs.Common.{
   slice_get,
 }
 use Rattle.std.proofs.lemmas.Bool.Decides.{nat_tests}
-use Rattle.std.specs.Prelude.{◌&&◌, ◌||◌, not, is_some, if◌then◌else◌, nat_lt, option_map, Result, Ok, Err}
+use Rattle.std.specs.Prelude.{◌&&◌, is_some, if◌then◌else◌, nat_lt, option_map}
 use Rattle.std.specs.Borrow.{Bor}
 use Rattle.std.proofs.lemmas.List.{length-map}
-use Rattle.std.proofs.lemmas.Option.{slice_get-map, slice_get_within}
-use Rattle.ub_base.specs.declared.clause.Cause.{Cause}
+use Rattle.std.proofs.lemmas.Option.{slice_get-map}
 use Rattle.ub_base.specs.declared.clause.Cause.TheVariants.{Created}
-use Rattle.ub_base.specs.declared.names.Item.{Item}
 use Rattle.ub_base.specs.declared.names.ObjName.{ObjName}
 use Rattle.ub_base.specs.declared.names.ObjName.TheVariants.{Auto}
 use Rattle.addr_map.specs.declared.map.Row.{Row}
@@ -51,99 +48,58 @@ use Rattle.addr_map.specs.Rows.{row_at, row_of}
 use Rattle.exposure.specs.declared.prov.Prov.TheVariants.{Whole}
 use Rattle.c_typed.specs.declared.tree.Place.{Place}
 use Rattle.mem_spec.specs.Acts.{base_in, has_place}
-use Rattle.mem_spec.specs.Script.{Done, Give, Script, Unplaced, run}
 use Rattle.mem_spec.specs.Store.{Store}
 use Rattle.mem_spec.specs.Streams.{Io}
 use Rattle.prov_memory.specs.declared.value.Value.{Value as Kept_value}
 use Rattle.prov_memory.specs.Keeps.{Keeps, RowsStay}
 use Rattle.prov_memory.specs.Made.{IsMade}
-use Rattle.prov_memory.specs.Memory.{Kept, cannot_create, store_of}
+use Rattle.prov_memory.specs.Memory.{store_of}
+use Rattle.prov_memory.proofs.AccessLemmas.{before}
 use Rattle.c_model.specs.Control as todo
 use Rattle.c_model.specs.Control.{Todo, ready_work}
 use Rattle.c_model.specs.Program.{Decl}
-use Rattle.c_model.specs.Runs.{
-  Entry,
-  No_row,
-  Outcome,
-  Over,
-  State,
-  acted,
-  allocation_passes,
-  block_passes,
-  created_after,
-  depth_of,
-  entry_of,
-  limit_passed,
-  pick_allocates,
-  step,
-  too_many,
-  within,
-}
-use Rattle.c_model.specs.Steps.{Begun, Control, Local, Scene, auto_name, bear_all, control_act, does, pass_all}
-use Rattle.c_model.specs.Values.{Value, Nothing}
+use Rattle.c_model.specs.Runs.{Entry, State, created_after, depth_of, limit_passed, too_many}
+use Rattle.c_model.specs.Steps.{Begun, Local, Scene, auto_name}
 use Rattle.c_model.specs.World.{World, Limits}
 use Rattle.run_control.specs.declared.statement.Block.{Block}
-use Rattle.run_control.specs.declared.work.Step.{Step}
 use Rattle.run_control.specs.declared.work.Step.TheVariants as taking
 use Rattle.run_control.specs.declared.work.Work.{Work}
 use Rattle.run_control.specs.View.{Meaning, block_of, todo_of}
 use Rattle.run_code.specs.declared.steps.BlockCode.{BlockCode}
 use Rattle.run_code.specs.declared.steps.ObjectCode.{ObjectCode}
 use Rattle.run_code.specs.InRange.{part_of}
-use Rattle.run_state.specs.declared.halt.Halt.{Halt}
-use Rattle.run_state.specs.declared.halt.Halt.TheVariants as halt
 use Rattle.run_state.specs.declared.machine.Machine.{Machine}
 use Rattle.run_state.specs.declared.machine.Open.{Open}
 use Rattle.run_state.specs.declared.machine.Stage.{Stage}
 use Rattle.run_state.specs.Stands.{IsAbove, SeesLocals, StandLocals, Stands, StandsBegun, StandsControl, StandsFrame, StandsLocal}
-use Rattle.run_machine.specs.Answering.{Answers, AnswersStep, HasTaken, as_before}
-use Rattle.run_machine.specs.Entering.{
-  AreNew,
-  BearsAll,
-  Birth,
-  CanBear,
-  CanEnter,
-  Enters,
-  EntersWithin,
-  HasBirths,
-  HasNoPlace,
-  IsNew,
-  birth_in,
-  birth_of,
-  births,
-  born_by,
-  born_first,
-  new_name,
-  reached_with,
-  turned,
-}
-use Rattle.run_machine.proofs.Births.{CanAll, StopsAt, bears, births_joined, cannot_so, stops}
+use Rattle.run_machine.specs.Answering.{HasTaken, as_before}
+use Rattle.run_machine.specs.Entering.{Birth, CanBear, CanEnter, HasBirths, IsNew, birth_in, birth_of, born_by, born_first, new_name, reached_with, turned}
+use Rattle.run_machine.proofs.Births.{CanAll}
 use Rattle.run_machine.proofs.Growing.{frame_grown, frames_grown, tables_grown, with_objects_of}
-use Rattle.run_machine.proofs.Staying.{by_step, control_stays}
 use Rattle.run_machine.proofs.Still.{depth_same, frame_aside, frames_aside, tables_aside}
 use Rattle.run_machine.proofs.Unwriting.{block_number, capped}
 
 -- ---- the frame inside the block
-abbrev inside : Local → (b turn : ℕ) → Todo → Local
+abbrev pub inside : Local → (b turn : ℕ) → Todo → Local
 inside f b turn rest =
     record f { scene = record f.scene { turn = turn; blocks = (b, turn) ∷ f.scene.blocks }; arguments = []; todo = rest }
 
-abbrev at_turn : Open → ℕ → Open
+abbrev pub at_turn : Open → ℕ → Open
 at_turn o turn = record o { turn = turn }
 
 -- the blocks that were open stand
-locals_inside : (world : World) (m : Machine) (o : Open) (f : Scene) (t turn : ℕ) (inner bs : List (ℕ × ℕ)) → StandLocals world m o f bs →
+pub locals_inside : (world : World) (m : Machine) (o : Open) (f : Scene) (t turn : ℕ) (inner bs : List (ℕ × ℕ)) → StandLocals world m o f bs →
     StandLocals world m (at_turn o t) (record f { turn = turn; blocks = inner }) bs
 locals_inside world m o f t turn inner [] l = tt
 locals_inside world m o f t turn inner (b ∷ bs) l = (l.0, locals_inside world m o f t turn inner bs l.1)
 
-begun_inside : (world : World) (meaning : Meaning) (m : Machine) (height : ℕ) (o p : Open) (stage : Option Stage) (f g : Scene) (e : Option Begun)
+pub begun_inside : (world : World) (meaning : Meaning) (m : Machine) (height : ℕ) (o p : Open) (stage : Option Stage) (f g : Scene) (e : Option Begun)
     (waiting : Option Place) → e ≡ None → StandsBegun world meaning m height o stage f e waiting → StandsBegun world meaning m height p stage g e waiting
 begun_inside world meaning m height o p None f g None waiting none b = b
 begun_inside world meaning m height o p (Some stage) f g None waiting none b = absurd b
 begun_inside world meaning m height o p stage f g (Some e) waiting none b = absurd (cc)
 
-frame_inside : (world : World) (meaning : Meaning) (m : Machine) (height : ℕ) (o : Open) (ws vs : List Work) (left : Option Kept_value) (f : Local)
+pub frame_inside : (world : World) (meaning : Meaning) (m : Machine) (height : ℕ) (o : Open) (ws vs : List Work) (left : Option Kept_value) (f : Local)
     (b t turn : ℕ) (rest : Todo) → t ≡ turn → f.begun ≡ None → StandsControl meaning vs (inside f b turn rest) →
     ((code : BlockCode) × (slice_get m.code.now.tables.blocks.items (o.blocks + b) ≡ Some code)
     × ((k : ℕ) → k < code.objects.count → StandsLocal world m (o.locals + (code.first + k)) f.scene turn k)) →
@@ -161,12 +117,12 @@ frame_inside world meaning m height o ws vs left f b t turn rest is closed contr
 }
 
 -- a function's frame is known to those below by its path
-sees_inside : (n : Option ℕ) (o : Open) (f : Local) (b t turn : ℕ) (rest : Todo) (below : Open) (g : Local) → is_some n ≡ true →
+pub sees_inside : (n : Option ℕ) (o : Open) (f : Local) (b t turn : ℕ) (rest : Todo) (below : Open) (g : Local) → is_some n ≡ true →
     SeesLocals n o f below g → SeesLocals n (at_turn o t) (inside f b turn rest) below g
 sees_inside (Some n) o f b t turn rest below g there s = s
 sees_inside None o f b t turn rest below g there s = absurd (cc)
 
-above_inside : (o : Open) (f : Local) (b t turn : ℕ) (rest : Todo) (opens : List Open) (fs : List (Local × Option Place)) → is_some o.function ≡ true →
+pub above_inside : (o : Open) (f : Local) (b t turn : ℕ) (rest : Todo) (opens : List Open) (fs : List (Local × Option Place)) → is_some o.function ≡ true →
     IsAbove o f opens fs → IsAbove (at_turn o t) (inside f b turn rest) opens fs
 above_inside o f b t turn rest [] [] there a = a
 above_inside o f b t turn rest [] (h ∷ hs) there a = absurd a
@@ -179,11 +135,11 @@ above_inside o f b t turn rest (below ∷ opens) (h ∷ hs) there a = record {
 }
 
 -- a function's frame names its objects by its own number
-sees_home : (n : Option ℕ) (o : Open) (f : Local) (below : Open) (g : Local) → is_some n ≡ true → SeesLocals n o f below g → f.scene.home ≡ f.scene.path
+pub sees_home : (n : Option ℕ) (o : Open) (f : Local) (below : Open) (g : Local) → is_some n ≡ true → SeesLocals n o f below g → f.scene.home ≡ f.scene.path
 sees_home (Some n) o f below g there s = s.1
 sees_home None o f below g there s = absurd (cc)
 
-own_home : (o : Open) (f : Local) (opens : List Open) (fs : List (Local × Option Place)) → is_some o.function ≡ true → IsAbove o f opens fs →
+pub own_home : (o : Open) (f : Local) (opens : List Open) (fs : List (Local × Option Place)) → is_some o.function ≡ true → IsAbove o f opens fs →
     f.scene.home ≡ f.scene.path
 own_home o f [] [] there a = a.1 ∙ sym a.0
 own_home o f [] (h ∷ hs) there a = absurd a
@@ -191,10 +147,10 @@ own_home o f (below ∷ opens) [] there a = absurd a
 own_home o f (below ∷ opens) (h ∷ hs) there a = sees_home o.function o f below h.0 there a.locals
 
 -- ---- created bytes
-counted : (n k d : ℕ) → min (min (n + k) (2 ^ 62) + d) (2 ^ 62) ≡ min (n + min (k + d) (2 ^ 62)) (2 ^ 62)
+pub counted : (n k d : ℕ) → min (min (n + k) (2 ^ 62) + d) (2 ^ 62) ≡ min (n + min (k + d) (2 ^ 62)) (2 ^ 62)
 counted n k d = omega arith
 
-after_more : (n k : ℕ) (ds : List Decl) → n ≤ 2 ^ 62 → k ≤ 2 ^ 62 →
+pub after_more : (n k : ℕ) (ds : List Decl) → n ≤ 2 ^ 62 → k ≤ 2 ^ 62 →
     created_after (min (n + k) (2 ^ 62)) ds ≡ min (n + created_after k ds) (2 ^ 62)
 after_more n k [] low small = refl
 after_more n k (d ∷ ds) low small =
@@ -204,7 +160,7 @@ pub after_block : (n : ℕ) (ds : List Decl) → n ≤ 2 ^ 62 → created_after 
 after_block n ds low = ap (λ (z : ℕ). created_after z ds) (let same : n ≡ min (n + 0) (2 ^ 62) = omega (arith, low) in same)
     ∙ after_more n 0 ds low (omega arith)
 
-born_created : (x : ℕ → ObjName) (bs : List Birth) (k : ℕ) (s : Store) (ds : List Decl) (n : ℕ) → n ≡ k + length ds →
+pub born_created : (x : ℕ → ObjName) (bs : List Birth) (k : ℕ) (s : Store) (ds : List Decl) (n : ℕ) → n ≡ k + length ds →
     ((j : ℕ) (d : Decl) → slice_get ds j ≡ Some d → slice_get bs (k + j) ≡ Some (birth_in d)) →
     (born_first x bs n s).created ≡ created_after (born_first x bs k s).created ds
 born_created x bs k s [] n e at = ap (λ (j : ℕ). (born_first x bs j s).created) (omega (arith, e))
@@ -213,68 +169,63 @@ born_created x bs k s (d ∷ ds) n e at =
     ∙ ap (λ (b : Option Birth). created_after (born_by (born_first x bs k s) (x k) b).created ds)
     (subst (λ (i : ℕ). slice_get bs i ≡ Some (birth_in d)) (omega arith) (at 0 d refl))
 
-written_by : (s : Store) (x : ObjName) (b : Option Birth) → (born_by s x b).output ≡ s.output
+pub written_by : (s : Store) (x : ObjName) (b : Option Birth) → (born_by s x b).output ≡ s.output
 written_by s x None = refl
 written_by s x (Some c) = refl
 
-born_output : (x : ℕ → ObjName) (bs : List Birth) (k : ℕ) (s : Store) → (born_first x bs k s).output ≡ s.output
+pub born_output : (x : ℕ → ObjName) (bs : List Birth) (k : ℕ) (s : Store) → (born_first x bs k s).output ≡ s.output
 born_output x bs zero s = refl
 born_output x bs (suc k) s = written_by (born_first x bs k s) (x k) (slice_get bs k) ∙ born_output x bs k s
 
 -- ---- limits
-not_over : (l n : ℕ) → nat_lt l n ≡ false → n ≤ l
+pub not_over : (l n : ℕ) → nat_lt l n ≡ false → n ≤ l
 not_over l n e = grind (arith, nat_tests, e)
 
-under : (l n : ℕ) → n ≤ l → nat_lt l n ≡ false
+pub under : (l n : ℕ) → n ≤ l → nat_lt l n ≡ false
 under l n le = grind (arith, nat_tests, le)
 
-over : (l n : ℕ) → l < n → nat_lt l n ≡ true
+pub over : (l n : ℕ) → l < n → nat_lt l n ≡ true
 over l n lt = grind (arith, nat_tests, lt)
 
-depth_by : {A : Type 0} (a : Bool) (x : A) (rest : Option A) → (if a then Some x else rest) ≡ None → (a ≡ false) × (rest ≡ None)
+pub depth_by : {A : Type 0} (a : Bool) (x : A) (rest : Option A) → (if a then Some x else rest) ≡ None → (a ≡ false) × (rest ≡ None)
 depth_by true x rest h = absurd (cc)
 depth_by false x rest h = (refl, h)
 
 -- what a state within the limits has created
-created_low : (limits : Limits) (depth : ℕ) (s : Store) → limit_passed limits depth s ≡ None → s.created ≤ limits.created
+pub created_low : (limits : Limits) (depth : ℕ) (s : Store) → limit_passed limits depth s ≡ None → s.created ≤ limits.created
 created_low limits depth s h = not_over limits.created s.created (depth_by _ _ _ (depth_by _ _ _ h).1).0
 
-both_within : {A : Type 0} (a b c : Bool) (x y z : A) → (if a then Some x else (if b then Some y else (if c then Some z else None))) ≡ None →
+pub both_within : {A : Type 0} (a b c : Bool) (x y z : A) → (if a then Some x else (if b then Some y else (if c then Some z else None))) ≡ None →
     (d : Bool) (w : A) → d ≡ false → (if a then Some x else (if d then Some w else (if c then Some z else None))) ≡ None
 both_within true b c x y z h d w e = absurd (cc)
 both_within false true c x y z h d w e = absurd (cc)
 both_within false false c x y z h true w e = absurd (cc)
 both_within false false c x y z h false w e = h
 
-abbrev with_created : Store → ℕ → Store
+abbrev pub with_created : Store → ℕ → Store
 with_created s n = record s { created = n }
 
 -- as much is open and written, and no more was created than may be
-limit_within : (limits : Limits) (depth : ℕ) (s t : Store) → t.output ≡ s.output → t.created ≤ limits.created → limit_passed limits depth s ≡ None →
+pub limit_within : (limits : Limits) (depth : ℕ) (s t : Store) → t.output ≡ s.output → t.created ≤ limits.created → limit_passed limits depth s ≡ None →
     limit_passed limits depth t ≡ None
 limit_within limits depth s t output low h =
     ap (λ o. limit_passed limits depth (record s { created = t.created; output = o })) output
     ∙ both_within _ _ _ _ _ _ h (nat_lt limits.created t.created) (Created, t.created) (under limits.created t.created low)
 
-too_many_not : (limits : Limits) (n : ℕ) → n ≤ limits.created → too_many limits n ≡ None
+pub too_many_not : (limits : Limits) (n : ℕ) → n ≤ limits.created → too_many limits n ≡ None
 too_many_not limits n le = ap (λ (b : Bool). if b then Some (Created, n) else None) (under limits.created n le)
 
-too_many_so : (limits : Limits) (n : ℕ) → limits.created < n → too_many limits n ≡ Some (Created, n)
+pub too_many_so : (limits : Limits) (n : ℕ) → limits.created < n → too_many limits n ≡ Some (Created, n)
 too_many_so limits n lt = ap (λ (b : Bool). if b then Some (Created, n) else None) (over limits.created n lt)
 
--- ---- a block that takes no arguments
-passes_none : (world : World) (f : Scene) (turn k : ℕ) (ds : List Decl) → pass_all world f turn k ds [] ≡ Give Nothing
-passes_none world f turn k [] = refl
-passes_none world f turn k (d ∷ ds) = refl
-
 -- ---- what was created has its rows in the world
-placed_so : (o : Option Row) (x : ObjName) (base size align : ℕ) → o ≡ Some (row_at x base size align) → has_place o size align ≡ true
+pub placed_so : (o : Option Row) (x : ObjName) (base size align : ℕ) → o ≡ Some (row_at x base size align) → has_place o size align ≡ true
 placed_so o x base size align e = ap (λ (r : Option Row). has_place r size align) e ∙ ap₂ ◌&&◌ (same_number size) (same_number align)
   where
     same_number : (n : ℕ) → (n == n) ≡ true
     same_number n = search (rules)
 
-same_birth : (xs : List ObjectCode) (ds : List Decl) (k : ℕ) (o : ObjectCode) (d : Decl) → map birth_of xs ≡ map birth_in ds → slice_get xs k ≡ Some o →
+pub same_birth : (xs : List ObjectCode) (ds : List Decl) (k : ℕ) (o : ObjectCode) (d : Decl) → map birth_of xs ≡ map birth_in ds → slice_get xs k ≡ Some o →
     slice_get ds k ≡ Some d → birth_of o ≡ birth_in d
 same_birth xs ds k o d same at is =
     some_same (birth_of o) (birth_in d)
@@ -290,7 +241,7 @@ module _ (world : World) (f : Scene) (turn : ℕ) (old new : Machine) (objects :
   own = auto_name world f turn
 
   -- of one object
-  can_one : (k : ℕ) (d : Decl) → slice_get ds k ≡ Some d → IsNew old objects first k new →
+  pub can_one : (k : ℕ) (d : Decl) → slice_get ds k ≡ Some d → IsNew old objects first k new →
       (slice_get (map birth_in ds) k ≡ Some (birth_in d)) × (has_place (row_of world.rows (own k)) d.size d.align ≡ true)
       × ((born_first own (map birth_in ds) k (store_of old.memory io)).life (own k) ≡ None)
   can_one k d is i =
@@ -335,7 +286,7 @@ module _ (world : World) (f : Scene) (turn : ℕ) (old new : Machine) (objects :
       )
 
 -- ---- the machine is inside
-abbrev inside_machine : (m new : Machine) → (number turn : ℕ) → Machine
+abbrev pub inside_machine : (m new : Machine) → (number turn : ℕ) → Machine
 inside_machine m new number turn = record m {
   entered = number;
   top = at_turn m.top turn;
@@ -345,9 +296,9 @@ inside_machine m new number turn = record m {
   spare = new.spare;
 }
 
-entered_stands : (world : World) (meaning : Option ℕ → Meaning) (m new : Machine) (before : List Work) (st : State) (b number t turn : ℕ) (rest : Todo)
+pub entered_stands : (world : World) (meaning : Option ℕ → Meaning) (m new : Machine) (before : List Work) (st : State) (b number t turn : ℕ) (rest : Todo)
     (trace : List Entry) (c : BlockCode) (ds : List Decl) → Stands world meaning (as_before m before) st → CanEnter world m st b ds →
-    slice_get m.code.now.tables.blocks.items (m.top.blocks + b) ≡ Some c → HasBirths m.code.now m.top st.top.scene.blocks c ds →
+    slice_get m.code.now.tables.blocks.items (m.top.blocks + b) ≡ Some c → HasBirths m.code.now m.top st.top.scene.blocks c ds st.top.arguments →
     Keeps m.memory new.memory → new.memory.types ≡ m.memory.types → RowsStay new.memory.rows world.rows → t ≡ turn → st.top.begun ≡ None →
     StandsControl (meaning m.top.function) m.work.now (inside st.top b turn rest) →
     ((j : ℕ) → ((k : ℕ) → k < length ds → j ≢ m.top.locals + (c.first + k)) → slice_get new.locals.items j ≡ slice_get m.locals.items j) →
@@ -391,17 +342,17 @@ entered_stands world meaning m new before st b number t turn rest trace c ds s c
     }
 
 -- ---- what is known of the block
-none_begun : {A : Type 0} (o : Option A) → o ≡ None → is_some o ≡ true → ⊥
+pub none_begun : {A : Type 0} (o : Option A) → o ≡ None → is_some o ≡ true → ⊥
 none_begun None n e = cc
 none_begun (Some x) n e = cc
 
-next_turn : (o f : ℕ) → o ≡ f → f + 1 < 2 ^ 64 → min (o + 1) (2 ^ 64 - 1) ≡ suc f
+pub next_turn : (o f : ℕ) → o ≡ f → f + 1 < 2 ^ 64 → min (o + 1) (2 ^ 64 - 1) ≡ suc f
 next_turn o f e lt = omega (arith, e, lt)
 
-record IsKnown (world : World) (meaning : Option ℕ → Meaning) (m : Machine) (number n : ℕ) (ds : List Decl) (st : State) (c : BlockCode) : Type 0 where
+pub record IsKnown (world : World) (meaning : Option ℕ → Meaning) (m : Machine) (number n : ℕ) (ds : List Decl) (st : State) (c : BlockCode) : Type 0 where
   pub can : CanEnter world m st n ds
   pub at : slice_get m.code.now.tables.blocks.items (m.top.blocks + n) ≡ Some c
-  pub has : HasBirths m.code.now m.top st.top.scene.blocks c ds
+  pub has : HasBirths m.code.now m.top st.top.scene.blocks c ds st.top.arguments
   pub turn : min (m.top.turn + 1) (2 ^ 64 - 1) ≡ suc st.top.scene.turn
   pub names : new_name (turned m number) ≡ auto_name world st.top.scene (suc st.top.scene.turn)
   pub count : length (part_of m.code.now.tables.objects.items c.objects) ≡ length ds
@@ -409,7 +360,7 @@ record IsKnown (world : World) (meaning : Option ℕ → Meaning) (m : Machine) 
   pub reached : created_after st.store.created ds ≡ reached_with (turned m number) c
   pub low : st.store.created ≤ 2 ^ 26
 
-known : (world : World) (meaning : Option ℕ → Meaning) (m : Machine) (b : Bor Block) (st : State) (c : BlockCode) →
+pub known : (world : World) (meaning : Option ℕ → Meaning) (m : Machine) (b : Bor Block) (st : State) (c : BlockCode) →
     HasTaken world meaning (taking.Enter b) m st →
     slice_get m.code.now.tables.blocks.items (min (m.top.blocks + b.now.number) (2 ^ 32 - 1)) ≡ Some c →
     IsKnown world meaning m b.now.number (block_of (meaning m.top.function) b.now).number
@@ -448,276 +399,7 @@ known world meaning m b st c h block =
       low = low;
     }
 
-ready_so : (world : World) (meaning : Option ℕ → Meaning) (m : Machine) (b : Bor Block) (st : State) → HasTaken world meaning (taking.Enter b) m st →
+pub ready_so : (world : World) (meaning : Option ℕ → Meaning) (m : Machine) (b : Bor Block) (st : State) → HasTaken world meaning (taking.Enter b) m st →
     ready_work st.top.todo ≡ todo.Enter (block_of (meaning m.top.function) b.now).number
     ((meaning m.top.function).decls (block_of (meaning m.top.function) b.now).number) ∷ todo_of (meaning m.top.function) m.work.now
 ready_so world meaning m b st h = sym (h.next ∙ h.stands.frames.0.control.ready)
-
--- ---- it is entered
-entered_so : (world : World) (meaning : Option ℕ → Meaning) (m new : Machine) (b : Bor Block) (st : State) (c : BlockCode) →
-    HasTaken world meaning (taking.Enter b) m st →
-    (k : IsKnown world meaning m b.now.number (block_of (meaning m.top.function) b.now).number
-    ((meaning m.top.function).decls (block_of (meaning m.top.function) b.now).number) st c) → reached_with (turned m b.now.number) c ≤ 2 ^ 26 →
-    AreNew (turned m b.now.number) (part_of m.code.now.tables.objects.items c.objects) c.first (length (part_of m.code.now.tables.objects.items c.objects))
-    new →
-    Answers world meaning (Ok None) new (step world st Control)
-entered_so world meaning m new b st c h k small d =
-    let mg = meaning m.top.function in
-    let rest = todo_of mg m.work.now in
-    let n = (block_of mg b.now).number in
-    let ds = mg.decls n in
-    let f = st.top in
-    let turn = suc f.scene.turn in
-    let old = turned m b.now.number in
-    let objects = part_of m.code.now.tables.objects.items c.objects in
-    let bs = map birth_in ds in
-    let io = m.streams in
-    let own = auto_name world f.scene turn in
-    let x = new_name old in
-    let s = store_of m.memory io in
-    let t = store_of new.memory io in
-    let many = length ds in
-    let ready = ready_so world meaning m b st h in
-    let fits : created_after st.store.created ds ≤ world.limits.created = omega (arith, k.reached, small, k.can.limit) in
-    let stored : born_first own bs many s ≡ t = ap (λ (y : ℕ → ObjName). born_first y bs many s) (sym k.names)
-    ∙ ap (λ (cs : List Birth). born_first x cs many s) (sym k.has.objects)
-    ∙ ap (λ (j : ℕ). born_first x (map birth_of objects) j s) (sym k.count) ∙ sym (d.store io) in
-    let trace = entry_of world f Control (births own many) ∷ st.trace in
-    let after : State = record { top = inside f n turn rest; held = st.held; store = t; trace = trace } in
-    let each : (j : ℕ) → j < many → IsNew old objects c.first j new = λ j lt. d.each j (subst (λ (q : ℕ). j < q) (sym k.count) lt) in
-    subst (λ (q : Machine). Answers world meaning (Ok None) q (step world st Control)) (sym d.rest)
-    (λ rows. (
-      after,
-      control_stays world st (todo.Enter n ds) rest Nothing (births own many) t h.closed ready
-          (too_many_not world.limits (created_after st.store.created ds) fits)
-          (ap (λ (q : Store). run world.rows (control_act world f (todo.Enter n ds ∷ rest)) q) h.stands.memory.store
-          ∙ ap (λ (vs : List Value). run world.rows (bear_all world f.scene turn 0 ds (pass_all world f.scene turn 0 ds vs)) s) k.can.arguments
-          ∙ ap (λ (p : Script Value). run world.rows (bear_all world f.scene turn 0 ds p) s) (passes_none world f.scene turn 0 ds)
-          ∙ bears world f.scene turn bs s 0 many ds Nothing (omega arith)
-          (can_all world f.scene turn old new objects c.first ds io k.names k.has.objects rows each)
-          ∙ ap (λ (js : List Item). Done Nothing js (born_first own bs many s)) (births_joined own 0 many many (omega arith))
-          ∙ ap (λ (q : Store). Done Nothing (births own many) q) stored)
-          refl
-          (ap (λ (q : ℕ). limit_passed world.limits q t) (depth_same f (inside f n turn rest) st.held refl)
-          ∙ limit_within world.limits (depth_of f st.held) st.store t
-          (ap (λ (q : Store). q.output) (sym stored) ∙ born_output own bs many s ∙ ap (λ (q : Store). q.output) (sym h.stands.memory.store))
-          (subst (λ (q : ℕ). q ≤ world.limits.created) (sym (ap (λ (q : Store). q.created) (sym stored)
-          ∙ born_created own bs 0 s ds many (omega arith)
-          (λ j e is. subst (λ (i : ℕ). slice_get bs i ≡ Some (birth_in e)) (omega arith) (slice_get-map birth_in ds j ∙ ap (option_map birth_in) is))
-          ∙ ap (λ (q : Store). created_after q.created ds) (sym h.stands.memory.store))) fits) h.within),
-      sym (d.items ∙ ap (λ (js : List Item). js ++ births x (length objects)) h.items ∙ ap (births x) k.count
-          ∙ ap (λ (y : ℕ → ObjName). births y many) k.names),
-      entered_stands world meaning m new h.before st n b.now.number (min (m.top.turn + 1) (2 ^ 64 - 1)) turn rest trace c ds h.stands k.can k.at k.has d.kept
-          d.types rows k.turn h.closed (record { ready = refl; behind = λ e. absurd (none_begun f.begun h.closed e) })
-          (λ j apart. d.others j (λ i lt. apart i (subst (λ (q : ℕ). i < q) k.count lt)))
-          (λ i lt. stands_new world f.scene turn old new objects c.first ds io k.names k.has.objects rows m.top i refl
-          (each i (subst (λ (q : ℕ). i < q) k.has.count lt))),
-    ))
-
--- ---- too many bytes would be created
-passes_over : (world : World) (st : State) (b : ℕ) (ds : List Decl) (rest : Todo) (number : ℕ) → st.top.begun ≡ None →
-    ready_work st.top.todo ≡ todo.Enter b ds ∷ rest → created_after st.store.created ds ≡ number → world.limits.created < number →
-    step world st Control ≡ Over Created number
-passes_over world st b ds rest number closed ready reached lt =
-    ap (λ (l : Option (Cause × ℕ)). within l (acted world st Control (run world.rows (does world st.top st.top.begun Control) st.store)))
-    (ap (λ (e : Option Begun). if is_some e then None else block_passes world.limits st.store (ready_work st.top.todo)) closed
-    ∙ ap (block_passes world.limits st.store) ready ∙ ap (too_many world.limits) reached ∙ too_many_so world.limits number lt)
-
--- ---- an object has no place
-no_row : (world : World) (st : State) (b : ℕ) (ds : List Decl) (rest : Todo) → st.top.begun ≡ None → ready_work st.top.todo ≡ todo.Enter b ds ∷ rest →
-    created_after st.store.created ds ≤ world.limits.created → run world.rows (control_act world st.top (todo.Enter b ds ∷ rest)) st.store ≡ Unplaced →
-    step world st Control ≡ No_row
-no_row world st b ds rest closed ready fits runs =
-    ap (λ (l : Option (Cause × ℕ)). within l (acted world st Control (run world.rows (does world st.top st.top.begun Control) st.store)))
-    (ap (λ (e : Option Begun). if is_some e then None else block_passes world.limits st.store (ready_work st.top.todo)) closed
-    ∙ ap (block_passes world.limits st.store) ready ∙ too_many_not world.limits (created_after st.store.created ds) fits)
-    ∙ ap (λ (e : Option Begun). acted world st Control (run world.rows (does world st.top e Control) st.store)) closed
-    ∙ ap (λ (w : Todo). acted world st Control (run world.rows (control_act world st.top w) st.store)) ready
-    ∙ ap (acted world st Control) runs
-    ∙ ap (λ (e : Option Begun). within (allocation_passes world.limits st.store (pick_allocates world st.top e Control)) No_row) closed
-
-birth_there : (xs : List Decl) (k : ℕ) (b : Birth) → option_map birth_in (slice_get xs k) ≡ Some b → (d : Decl) × (slice_get xs k ≡ Some d)
-birth_there xs k b e = by (slice_get xs k) refl e
-  where
-    by : (o : Option Decl) → slice_get xs k ≡ o → option_map birth_in o ≡ Some b → (d : Decl) × (slice_get xs k ≡ Some d)
-    by None is e = absurd (cc)
-    by (Some d) is e = (d, is)
-
-module _ (world : World) (f : Scene) (turn : ℕ) (old mid : Machine) (objects : List ObjectCode) (first : ℕ) (ds : List Decl) (io : Io)
-    (names : new_name old ≡ auto_name world f turn) (same : map birth_of objects ≡ map birth_in ds) (rows : RowsStay mid.memory.rows world.rows) where
-  abbrev here : ℕ → ObjName
-  here = auto_name world f turn
-
-  stops_from : (k j n : ℕ) (ts : List Decl) → n ≡ k + j → j < length ts → ((i : ℕ) (d : Decl) → slice_get ts i ≡ Some d → slice_get ds (k + i) ≡ Some d) →
-      ((i : ℕ) → i < n → IsNew old objects first i mid) →
-      ((d : Decl) → slice_get ds n ≡ Some d → (not (has_place (row_of world.rows (here n)) d.size d.align)
-      || is_some ((born_first here (map birth_in ds) n (store_of old.memory io)).life (here n))) ≡ true) →
-      StopsAt world f turn (map birth_in ds) (store_of old.memory io) k j ts
-  stops_from k j n [] e lt tail each last = absurd (omega (arith, lt))
-  stops_from k zero n (d ∷ ts) e lt tail each last =
-      let at : n ≡ k = omega (arith, e) in
-      let is : slice_get ds k ≡ Some d = subst (λ (i : ℕ). slice_get ds i ≡ Some d) (omega arith) (tail 0 d refl) in
-      subst (λ (i : ℕ). (not (has_place (row_of world.rows (here i)) d.size d.align)
-      || is_some ((born_first here (map birth_in ds) i (store_of old.memory io)).life (here i))) ≡ true) at
-      (last d (subst (λ (i : ℕ). slice_get ds i ≡ Some d) (sym at) is))
-  stops_from k (suc j) n (d ∷ ts) e lt tail each last =
-      let is : slice_get ds k ≡ Some d = subst (λ (i : ℕ). slice_get ds i ≡ Some d) (omega arith) (tail 0 d refl) in
-      let one = can_one world f turn old mid objects first ds io names same rows k d is (each k (omega (arith, e))) in (
-        one.0,
-        one.1,
-        one.2,
-        stops_from (suc k) j n ts (omega (arith, e)) (omega (arith, lt))
-            (λ i c q. subst (λ (p : ℕ). slice_get ds p ≡ Some c) (omega arith) (tail (suc i) c q)) each last,
-      )
-
-  pub stops_so : (n : ℕ) (o : ObjectCode) → slice_get objects n ≡ Some o → AreNew old objects first n mid →
-      ((x : ObjName) → row_of world.rows x ≡ row_of mid.memory.rows x) → cannot_create mid.memory (new_name old n) o.size o.align ≡ true →
-      StopsAt world f turn (map birth_in ds) (store_of old.memory io) 0 n ds
-  stops_so n o at d all cannot =
-      let there = birth_there ds n (birth_of o) (sym (slice_get-map birth_in ds n) ∙ ap (λ (bs : List Birth). slice_get bs n) (sym same)
-      ∙ slice_get-map birth_of objects n ∙ ap (option_map birth_of) at) in
-      stops_from 0 n n ds (omega arith) (slice_get_within ds n there.0 there.1) (λ i e q. subst (λ (p : ℕ). slice_get ds p ≡ Some e) (omega arith) q) d.each
-      (λ c is.
-      let births = same_birth objects ds n o c same at is in
-      ap (λ (s : Store). not (has_place (row_of world.rows (here n)) c.size c.align) || is_some (s.life (here n)))
-      (ap (λ (bs : List Birth). born_first here bs n (store_of old.memory io)) (sym same)
-      ∙ ap (λ (y : ℕ → ObjName). born_first y (map birth_of objects) n (store_of old.memory io)) (sym names) ∙ sym (d.store io))
-      ∙ ap (λ (b : Birth). not (has_place (row_of world.rows (here n)) b.size b.align) || is_some ((store_of mid.memory io).life (here n))) (sym births)
-      ∙ ap (λ (r : Option Row). not (has_place r o.size o.align) || is_some ((store_of mid.memory io).life (here n))) (all (here n))
-      ∙ ap (λ (y : ℕ → ObjName). not (has_place (row_of mid.memory.rows (y n)) o.size o.align) || is_some ((store_of mid.memory io).life (y n))) (sym names)
-      ∙ cannot_so mid.memory (new_name old n) o.size o.align io cannot)
-
-unplaced_so : (world : World) (meaning : Option ℕ → Meaning) (m new : Machine) (b : Bor Block) (st : State) (c : BlockCode) →
-    HasTaken world meaning (taking.Enter b) m st →
-    (k : IsKnown world meaning m b.now.number (block_of (meaning m.top.function) b.now).number
-    ((meaning m.top.function).decls (block_of (meaning m.top.function) b.now).number) st c) → reached_with (turned m b.now.number) c ≤ 2 ^ 26 →
-    HasNoPlace (turned m b.now.number) (part_of m.code.now.tables.objects.items c.objects) c.first new →
-    Answers world meaning (Err halt.Unplaced) new (step world st Control)
-unplaced_so world meaning m new b st c h k small d = λ all.
-    let mg = meaning m.top.function in
-    let rest = todo_of mg m.work.now in
-    let n = (block_of mg b.now).number in
-    let ds = mg.decls n in
-    let f = st.top in
-    let turn = suc f.scene.turn in
-    let old = turned m b.now.number in
-    let objects = part_of m.code.now.tables.objects.items c.objects in
-    let bs = map birth_in ds in
-    let io = m.streams in
-    let s = store_of m.memory io in
-    let mid = d.middle in
-    let same : (x : ObjName) → row_of world.rows x ≡ row_of mid.memory.rows x = λ x. all x ∙ ap (λ (q : Kept). row_of q.rows x) d.same in
-    let rows : RowsStay mid.memory.rows world.rows = λ x r e. same x ∙ e in
-    no_row world st n ds rest h.closed (ready_so world meaning m b st h) (omega (arith, k.reached, small, k.can.limit))
-    (ap (λ (q : Store). run world.rows (control_act world f (todo.Enter n ds ∷ rest)) q) h.stands.memory.store
-    ∙ stops world f.scene turn bs s 0 d.number ds (pass_all world f.scene turn 0 ds f.arguments)
-    (stops_so world f.scene turn old mid objects c.first ds io k.names k.has.objects rows d.number d.object d.at d.before same d.cannot))
-
--- ---- all together
-status_none : (world : World) (meaning : Option ℕ → Meaning) (new : Machine) (o : Outcome) (status : Option ℕ) → status ≡ None →
-    Answers world meaning (Ok None) new o → Answers world meaning (Ok status) new o
-status_none world meaning new o status is a = subst (λ (s : Option ℕ). Answers world meaning (Ok s) new o) (sym is) a
-
-within_so : (world : World) (meaning : Option ℕ → Meaning) (m new : Machine) (b : Bor Block) (st : State) (c : BlockCode) (r : Result (Option ℕ) Halt) →
-    HasTaken world meaning (taking.Enter b) m st →
-    (k : IsKnown world meaning m b.now.number (block_of (meaning m.top.function) b.now).number
-    ((meaning m.top.function).decls (block_of (meaning m.top.function) b.now).number) st c) → EntersWithin (turned m b.now.number) new c r →
-    Answers world meaning r new (step world st Control)
-within_so world meaning m new b st c (Ok status) h k e =
-    status_none world meaning new (step world st Control) status e.0 (entered_so world meaning m new b st c h k e.1 e.2)
-within_so world meaning m new b st c (Err (halt.Over cause number)) h k e =
-    let mg = meaning m.top.function in
-    let n = (block_of mg b.now).number in
-    passes_over world st n (mg.decls n) (todo_of mg m.work.now) number h.closed (ready_so world meaning m b st h) (k.reached ∙ sym e.1)
-    (omega (arith, e.2, k.can.limit)) ∙ ap (λ (q : Cause). Over q number) (sym e.0)
-within_so world meaning m new b st c (Err halt.Unplaced) h k e = unplaced_so world meaning m new b st c h k e.0 e.1
-within_so world meaning m new b st c (Err halt.NoMemory) h k e = tt
-within_so world meaning m new b st c (Err (halt.Raised event line clause)) h k e = absurd e
-
-enters_so : (m new : Machine) (b : Bor Block) (r : Result (Option ℕ) Halt) (c : BlockCode) →
-    slice_get m.code.now.tables.blocks.items (min (m.top.blocks + b.now.number) (2 ^ 32 - 1)) ≡ Some c →
-    (c.arguments ≡ 0 → CanBear (turned m b.now.number) c.first (length (part_of m.code.now.tables.objects.items c.objects)) →
-    EntersWithin (turned m b.now.number) new c r) → AnswersStep (taking.Enter b) m new r
-enters_so m new b r c at e = λ world meaning st h.
-    let k = known world meaning m b st c h at in
-    within_so world meaning m new b st c r h k (e k.has.arguments k.bears)
-
-enter_by : (m new : Machine) (b : Bor Block) (r : Result (Option ℕ) Halt) → Enters m b.now.number new r → AnswersStep (taking.Enter b) m new r
-enter_by m new b (Err halt.NoMemory) e = λ world meaning st h. tt
-enter_by m new b (Ok status) e = enters_so m new b (Ok status) e.0 e.1 e.2
-enter_by m new b (Err (halt.Over cause number)) e = enters_so m new b (Err (halt.Over cause number)) e.0 e.1 e.2
-enter_by m new b (Err halt.Unplaced) e = enters_so m new b (Err halt.Unplaced) e.0 e.1 e.2
-enter_by m new b (Err (halt.Raised event line clause)) e = enters_so m new b (Err (halt.Raised event line clause)) e.0 e.1 e.2
-
-pub enter_answers : (m new : Machine) (s : Step) (b : Bor Block) (number : ℕ) (r : Result (Option ℕ) Halt) → s ≡ taking.Enter b → number ≡ b.now.number →
-    Enters m number new r → AnswersStep s m new r
-enter_answers m new s b number r is same e =
-    by_step s (taking.Enter b) m new r is (enter_by m new b r (subst (λ (n : ℕ). Enters m n new r) same e))
-
--- ---- the code: a block is entered
-abbrev turned_to : Machine → (number turn : ℕ) → Machine
-turned_to m number turn = record m { entered = number; top = record m.top { turn = turn } }
-
-abbrev Bears : (old : Machine) → List ObjectCode → (first : ℕ) → (new : Machine) → Result (Unit {0}) Halt → Type 0
-Bears old objects first new r = CanBear old first (length objects) → BearsAll old objects first new r
-
--- of the block of this number, and its objects
-bears_there : (m mid : Machine) (number t u first : ℕ) (os ps : List ObjectCode) (r : Result (Unit {0}) Halt) → t ≡ u → os ≡ ps →
-    Bears (turned_to m number t) os first mid r → Bears (turned_to m number u) ps first mid r
-bears_there m mid number t u first os ps r is same d =
-    subst (λ (xs : List ObjectCode). Bears (turned_to m number u) xs first mid r) same
-    (subst (λ (k : ℕ). Bears (turned_to m number k) os first mid r) is d)
-
-module _ (m mid : Machine) (number t reached : ℕ) (c : BlockCode) (os : List ObjectCode) (is : t ≡ min (m.top.turn + 1) (2 ^ 64 - 1))
-    (at : slice_get m.code.now.tables.blocks.items (min (m.top.blocks + number) (2 ^ 32 - 1)) ≡ Some c)
-    (there : os ≡ part_of m.code.now.tables.objects.items c.objects) (sum : reached ≡ min (m.memory.created + c.created) (2 ^ 62)) where
-  pub enters_over : 2 ^ 26 < reached → Enters m number mid (Err (halt.Over Created reached))
-  enters_over over = (c, at, λ none can. (refl, sum, over))
-
-  pub enters_ok : (new : Machine) → reached ≤ 2 ^ 26 → Bears (turned_to m number t) os c.first mid (Ok tt) → (c.arguments ≡ 0 → new ≡ mid) →
-      Enters m number new (Ok None)
-  enters_ok new small d stays = (
-    c,
-    at,
-    λ none can.
-        let objects = part_of m.code.now.tables.objects.items c.objects in (
-          refl,
-          subst (λ (k : ℕ). k ≤ 2 ^ 26) sum small,
-          subst (λ (q : Machine). AreNew (turned m number) objects c.first (length objects) q) (sym (stays none))
-              (bears_there m mid number t (min (m.top.turn + 1) (2 ^ 64 - 1)) c.first os objects (Ok tt) is there d can),
-        ),
-  )
-
-  by_fault : (e : Halt) → reached ≤ 2 ^ 26 → Bears (turned_to m number t) os c.first mid (Err e) → Enters m number mid (Err e)
-  by_fault halt.NoMemory small d = tt
-  by_fault halt.Unplaced small d = (
-    c,
-    at,
-    λ none can. (
-      subst (λ (k : ℕ). k ≤ 2 ^ 26) sum small,
-      bears_there m mid number t (min (m.top.turn + 1) (2 ^ 64 - 1)) c.first os (part_of m.code.now.tables.objects.items c.objects)
-          (Err halt.Unplaced) is there d
-          can,
-    ),
-  )
-  by_fault (halt.Over cause count) small d = (
-    c,
-    at,
-    λ none can. absurd (bears_there m mid number t (min (m.top.turn + 1) (2 ^ 64 - 1)) c.first os (part_of m.code.now.tables.objects.items c.objects)
-        (Err (halt.Over cause count)) is there d can),
-  )
-  by_fault (halt.Raised event line clause) small d = (
-    c,
-    at,
-    λ none can. absurd (bears_there m mid number t (min (m.top.turn + 1) (2 ^ 64 - 1)) c.first os (part_of m.code.now.tables.objects.items c.objects)
-        (Err (halt.Raised event line clause)) is there d can),
-  )
-
-  pub enters_not : (r : Result (Option ℕ) Halt) (y e : Halt) → r ≡ Err y → y ≡ e → reached ≤ 2 ^ 26 →
-      Bears (turned_to m number t) os c.first mid (Err e) → Enters m number mid r
-  enters_not r y e fails fault small d =
-      subst (λ (q : Result (Option ℕ) Halt). Enters m number mid q) (sym (fails ∙ ap Err fault)) (by_fault e small d)
-
--- the bytes that are created by then, by the count of those so far
-pub reached_so : (x a b y : ℕ) → x ≡ min (a + y) (2 ^ 62) → a ≡ b → x ≡ min (b + y) (2 ^ 62)
-reached_so x a b y e f = e ∙ ap (λ (k : ℕ). min (k + y) (2 ^ 62)) f

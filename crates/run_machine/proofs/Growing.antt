@@ -217,7 +217,7 @@ module _ (world : World) (m n : Machine) (limit : ℕ) (keeps : Keeps m.memory n
   holds_grown rooms room v h =
       (h.0, h.1, values_stay m.memory n.memory h.0 keeps h.2, value_grown m.memory n.memory h.0 keeps types h.2 ∙ h.3)
 
-  held_grown : (rooms : List Kept_value) (room : ℕ) (vs : List Value) → HoldsAll m.memory rooms room vs → HoldsAll n.memory rooms room vs
+  pub held_grown : (rooms : List Kept_value) (room : ℕ) (vs : List Value) → HoldsAll m.memory rooms room vs → HoldsAll n.memory rooms room vs
   held_grown rooms room [] h = h
   held_grown rooms room (v ∷ vs) h = (holds_grown rooms room v h.0, held_grown rooms (suc room) vs h.1)
 

@@ -10,6 +10,7 @@ mod Calling
 mod Creating
 mod Deciding
 mod Entered
+mod Entering
 mod Finished
 mod Given
 mod Giving
@@ -23,6 +24,8 @@ mod Objects
 mod Onward
 mod Opened
 mod Parts
+mod Passed
+mod Passing
 mod Picked
 mod Results
 mod Returning
@@ -35,6 +38,7 @@ mod Started
 mod Staying
 mod Steering
 mod Still
+mod Storing
 mod Taken
 mod Unwriting
 mod Waiting

@@ -206,12 +206,14 @@ enters_as world m below now st [] c = tt
 enters_as world m below now st (Enter b ds ∷ rest) c = record {
   function = c.function;
   result = c.result;
-  arguments = c.arguments;
   limit = c.limit;
   turn = c.turn;
   number = c.number;
   block = c.block;
   below = c.below;
+  rooms = c.rooms;
+  rows = c.rows;
+  takes = c.takes;
 }
 enters_as world m below now st (w ∷ rest) c = tt
 
@@ -221,12 +223,14 @@ enters_cleared world m is st [] c = tt
 enters_cleared world m is st (Enter b ds ∷ rest) c = record {
   function = c.function;
   result = c.result;
-  arguments = c.arguments;
   limit = c.limit;
   turn = c.turn;
   number = c.number;
   block = c.block;
   below = c.below;
+  rooms = c.rooms;
+  rows = c.rows;
+  takes = c.takes;
 }
 enters_cleared world m is st (w ∷ rest) c = tt
 

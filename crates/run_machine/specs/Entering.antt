@@ -38,6 +38,7 @@ use Rattle.ub_base.specs.declared.names.ObjName.{ObjName}
 use Rattle.ub_base.specs.declared.names.ObjName.TheVariants.{Auto}
 use Rattle.exposure.specs.declared.prov.Prov.TheVariants.{Whole}
 use Rattle.c_types.specs.Shapes.{Form, form_of}
+use Rattle.c_types.specs.Types.{type_of}
 use Rattle.mem_spec.specs.Store.{Store, born}
 use Rattle.mem_spec.specs.Streams.{Io}
 use Rattle.prov_memory.specs.Keeps.{Keeps}
@@ -48,17 +49,20 @@ use Rattle.c_typed.specs.declared.tree.Place.{Place}
 use Rattle.c_model.specs.Control.{Todo, Enter}
 use Rattle.c_model.specs.Program.{Decl}
 use Rattle.c_model.specs.Runs.{State, created_after}
-use Rattle.c_model.specs.Steps.{Local, object_kind}
+use Rattle.c_model.specs.Steps.{Local, auto_name, object_kind}
+use Rattle.c_model.specs.Values.{Value}
 use Rattle.c_model.specs.World.{World}
 use Rattle.run_code.specs.declared.steps.BlockCode.{BlockCode}
 use Rattle.run_code.specs.declared.steps.ObjectCode.{ObjectCode}
+use Rattle.run_code.specs.declared.steps.StoreCode.{StoreCode}
 use Rattle.run_code.specs.declared.whole.Code.{Code}
 use Rattle.run_code.specs.InRange.{part_of}
 use Rattle.run_state.specs.declared.halt.Halt.{Halt}
 use Rattle.run_state.specs.declared.halt.Halt.TheVariants as halt
 use Rattle.run_state.specs.declared.machine.Machine.{Machine}
 use Rattle.run_state.specs.declared.machine.Open.{Open}
-use Rattle.run_machine.specs.Ending.{IsResultOf}
+use Rattle.run_machine.specs.Ending.{IsResultOf, KeepToRooms}
+use Rattle.run_machine.specs.Passing.{PassesAll, RowsAreLawful, TakesValue, with_arguments}
 
 -- 1. What the code does.
 
@@ -165,11 +169,12 @@ turned m number = record m { entered = number; top = record m.top { turn = min (
 abbrev pub reached_with : Machine → BlockCode → ℕ
 reached_with m c = min (m.memory.created + c.created) (2 ^ 62)
 
--- a block that takes no arguments is entered at this turn: within the limit on created bytes its objects are created
+-- a block is entered at this turn: within the limit on created bytes its objects are created, and then the first of them take the arguments
 abbrev pub EntersWithin : (old new : Machine) → BlockCode → Result (Option ℕ) Halt → Type 0
 EntersWithin old new c (Ok status) =
-    (status ≡ None) × (reached_with old c ≤ 2 ^ 26)
-    × AreNew old (part_of old.code.now.tables.objects.items c.objects) c.first (length (part_of old.code.now.tables.objects.items c.objects)) new
+    (status ≡ None) × (reached_with old c ≤ 2 ^ 26) × (middle : Machine)
+    × AreNew old (part_of old.code.now.tables.objects.items c.objects) c.first (length (part_of old.code.now.tables.objects.items c.objects)) middle
+    × PassesAll middle (with_arguments (part_of old.code.now.tables.objects.items c.objects) c.arguments) c.first new
 EntersWithin old new c (Err (halt.Over cause number)) = (cause ≡ Created) × (number ≡ reached_with old c) × (2 ^ 26 < number)
 EntersWithin old new c (Err halt.Unplaced) =
     (reached_with old c ≤ 2 ^ 26) × HasNoPlace old (part_of old.code.now.tables.objects.items c.objects) c.first new
@@ -180,7 +185,7 @@ abbrev pub Enters : (old : Machine) → ℕ → (new : Machine) → Result (Opti
 Enters old number new (Err halt.NoMemory) = Unit {0}
 Enters old number new r =
     (c : BlockCode) × (slice_get old.code.now.tables.blocks.items (min (old.top.blocks + number) (2 ^ 32 - 1)) ≡ Some c)
-    × (c.arguments ≡ 0 → CanBear (turned old number) c.first (length (part_of old.code.now.tables.objects.items c.objects))
+    × (CanBear (turned old number) c.first (length (part_of old.code.now.tables.objects.items c.objects))
     → EntersWithin (turned old number) new c r)
 
 -- 2. What is asked of a machine, and of the state that it stands for.
@@ -197,10 +202,21 @@ abbrev pub KeepPlaces : Code → (limit : ℕ) → List Open → List (Local × 
 KeepPlaces code limit (o ∷ os) (h ∷ hs) = AreBelow code o limit h.0.scene.blocks × KeepPlaces code limit os hs
 KeepPlaces code limit _ _ = Unit {0}
 
+-- the object takes an argument by the store of its declaration, which is its first (6.9.1p10)
+pub record TakesAs (code : Code) (o : ObjectCode) (d : Decl) : Type 0 where
+  pub store : StoreCode
+  pub at : slice_get code.tables.stores.items o.store ≡ Some store
+  pub first : store.initializing ≡ true
+  pub access : store.access ≡ d.access
+  pub ty : type_of store.ty.now ≡ d.ty
+
 -- The code has the objects of the block that the definitions create, and how many bytes they count; they stand behind those of open blocks, with numbers
--- below 2^32 and places below 2^64; none takes an argument.
-pub record HasBirths (code : Code) (o : Open) (bs : List (ℕ × ℕ)) (c : BlockCode) (ds : List Decl) : Type 0 where
-  pub arguments : c.arguments ≡ 0
+-- below 2^32 and places below 2^64. As many take an argument as the frame has arguments.
+pub record HasBirths (code : Code) (o : Open) (bs : List (ℕ × ℕ)) (c : BlockCode) (ds : List Decl) (vs : List Value) : Type 0 where
+  pub arguments : c.arguments ≡ length vs
+  pub enough : length vs ≤ length ds
+  pub stores : (k : ℕ) (x : ObjectCode) (d : Decl) → k < length vs → slice_get (part_of code.tables.objects.items c.objects) k ≡ Some x
+      → slice_get ds k ≡ Some d → TakesAs code x d
   pub objects : map birth_of (part_of code.tables.objects.items c.objects) ≡ map birth_in ds
   pub count : c.objects.count ≡ length ds
   pub created : c.created ≡ created_after 0 ds
@@ -208,18 +224,22 @@ pub record HasBirths (code : Code) (o : Open) (bs : List (ℕ × ℕ)) (c : Bloc
   pub numbers : c.first + length ds < 2 ^ 32
   pub places : o.locals + (c.first + length ds) < 2 ^ 64
 
--- Of the block that a frame of a function enters, which takes no arguments: its number is below 2^32, and so many turns are still to come; the limit on
--- created bytes is that of the profile. The frames below have their objects below those of this one.
+-- Of the block that a frame of a function enters: its number is below 2^32, and so many turns are still to come; the limit on created bytes is that of the
+-- profile. The frames below have their objects below those of this one, and keep their values in their rooms. Rows keep the rules of an address map, and each
+-- argument is one that its object takes.
 pub record CanEnter (world : World) (m : Machine) (st : State) (b : ℕ) (ds : List Decl) : Type 0 where
   pub function : is_some m.top.function ≡ true
   pub result : IsResultOf m.memory m.left
-  pub arguments : st.top.arguments ≡ []
   pub limit : world.limits.created ≡ 2 ^ 26
   pub turn : st.top.scene.turn + 1 < 2 ^ 64
   pub number : m.top.blocks + b < 2 ^ 32
   pub block : (c : BlockCode) → slice_get m.code.now.tables.blocks.items (m.top.blocks + b) ≡ Some c
-      → HasBirths m.code.now m.top st.top.scene.blocks c ds
+      → HasBirths m.code.now m.top st.top.scene.blocks c ds st.top.arguments
   pub below : KeepPlaces m.code.now m.top.locals (reverse m.below.items) st.held
+  pub rooms : KeepToRooms m.code.now (reverse m.below.items) st.held
+  pub rows : RowsAreLawful world.rows
+  pub takes : (k : ℕ) (d : Decl) (v : Value) → slice_get ds k ≡ Some d → slice_get st.top.arguments k ≡ Some v
+      → TakesValue world.rows (auto_name world st.top.scene (suc st.top.scene.turn) k) d v
 
 abbrev pub CanEnterFirst : World → Machine → State → Todo → Type 0
 CanEnterFirst world m st (Enter b ds ∷ rest) = CanEnter world m st b ds

@@ -5,6 +5,7 @@ pub mod Answering
 pub mod Leaving
 pub mod Beginning
 pub mod Ending
+pub mod Passing
 pub mod Entering
 pub mod Ended
 pub mod Taking

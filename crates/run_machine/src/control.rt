@@ -13,6 +13,7 @@ ghost use Rattle.run_machine.specs.Beginning.{HasShown};
 ghost use Rattle.run_machine.specs.Ended.{AnswersEnd};
 ghost use Rattle.run_machine.specs.Entering.{BearsAll, CanBear, CreatesOne, Enters};
 ghost use Rattle.run_machine.specs.Leaving.{GoesStill, LeavesBlock};
+ghost use Rattle.run_machine.specs.Passing.{IsOnePassed, PassesAll, with_arguments};
 ghost use Rattle.run_machine.specs.Moving.{GoesOn, IsGone, StepLeaves, TakesStep};
 ghost use Rattle.run_machine.specs.Settling.{HasSelected, HasUsed, left_by};
 ghost use Rattle.run_state.specs.Operands.{operand_in};
@@ -136,7 +137,7 @@ fn enter(machine: &mut Machine, number: u32) -> Result<Option<u8>, Halt>
         return Err(Halt::Over(Cause::Created, reached));
     }
     create_objects(machine, objects, block.first)?;
-    store_arguments(machine, objects, block)?;
+    store_arguments(machine, taking(objects, block.arguments), block.first)?;
     Ok(None)
 }
 
@@ -153,18 +154,28 @@ fn create_objects(machine: &mut Machine, objects: &[ObjectCode], first: u32) -> 
     Ok(())
 }
 
-// The first objects of a block take the arguments.
+// The first of a block's objects, which take the arguments.
+#[inline(always)]
+fn taking(objects: &[ObjectCode], arguments: u32) -> &[ObjectCode]
+    ensures { result.now ≡ with_arguments objects.now arguments }
+{
+    let count = objects.len().min(arguments as usize);
+    let (taking, _) = objects.split_at(count);
+    taking
+}
+
+// These objects of a block, of which the first has this number in the function, take the arguments.
 fn store_arguments(
     machine: &mut Machine,
     objects: &[ObjectCode],
-    block: BlockCode,
+    first: u32,
 ) -> Result<(), NoMemory>
     ensures work { machine.new.work ≡ machine.old.work }
-    ensures none { block.arguments ≡ 0 → OnOk result (machine.new ≡ machine.old) }
+    ensures passes { OnOk result (PassesAll machine.old objects.now first machine.new) }
 {
     let mut number: u32 = 0;
-    for object in objects.iter().take(block.arguments as usize) {
-        store_argument(machine, object, block.first, number)?;
+    for object in objects {
+        store_argument(machine, object, first, number)?;
         number = number.saturating_add(1);
     }
     Ok(())
@@ -231,7 +242,8 @@ fn store_argument(
     first: u32,
     number: u32,
 ) -> Result<(), NoMemory>
-    ensures { machine.new.work ≡ machine.old.work }
+    ensures work { machine.new.work ≡ machine.old.work }
+    ensures passes { OnOk result (IsOnePassed machine.old object.now first number machine.new) }
 {
     let place = machine.local(first.saturating_add(number), 0);
     let value = machine.take(number);

@@ -1,6 +1,6 @@
 use Rattle.std.proofs.Common.{None, Ok, refl}
 use Rattle.run_control.specs.declared.work.Step.TheVariants as taking
-use Rattle.run_machine.proofs.Entered.{enter_answers}
+use Rattle.run_machine.proofs.Entering.{enter_answers}
 use Rattle.run_machine.proofs.Left.{block_answers}
 use Rattle.run_machine.proofs.Staying.{by_step, nothing_answers}
 use Rattle.run_machine.proofs.Steering.{block_left, gone_back, gone_on, gone_out, label_gone}
