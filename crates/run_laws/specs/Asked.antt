@@ -14,7 +14,7 @@ use Rattle.run_code.specs.LaidOut.{LaidOutBy}
 use Rattle.run_code.specs.OfTrees.{ListsTrees, listing_in}
 use Rattle.run_statements.specs.declared.jumps.Jumps.{Jumps}
 use Rattle.run_statements.specs.declared.numbers.Numbers.{Numbers}
-use Rattle.run_machine.specs.Answering.{HasLabels}
+use Rattle.run_machine.specs.Jumps.{HasLabels}
 use Rattle.run_machine.specs.Taking.{AreLawful, HasRooms, IsEventOf}
 use Rattle.code_view.specs.Events.{IsEventOfCode}
 use Rattle.code_view.specs.Labels.{KeepsLabelsOf}
