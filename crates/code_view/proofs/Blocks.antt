@@ -1,5 +1,5 @@
 -- The blocks of a lawful program as the code has them.
-use Rattle.std.proofs.Common.{arith, ◌≡◌, ℕ, zero, suc, ◌+◌, ◌^◌, ◌<◌, ◌≤◌, Bool, true, false, List, [], ◌∷◌, length, map, take, drop, Option, Some, None}
+use Rattle.std.proofs.Common.{rules, arith, ◌≡◌, ℕ, zero, suc, ◌+◌, ◌^◌, ◌<◌, ◌≤◌, Bool, true, false, List, [], ◌∷◌, length, map, take, drop, Option, Some, None}
 use Rattle.std.proofs.Common.{slice_get, min, max, refl, sym, ap, ap₂, subst, ◌∙◌}
 use Rattle.std.specs.Prelude.{◌||◌}
 use Rattle.std.proofs.lemmas.List.{length-drop, length-map, length-take}
@@ -16,6 +16,7 @@ use Rattle.c_typed.specs.declared.statement.Body.{Body}
 use Rattle.c_typed.specs.declared.tree.Typed.{Typed}
 use Rattle.c_types.specs.declared.ty.FuncTy.{out-FuncTy}
 use Rattle.elaborate.specs.Expressions.{block_trees}
+use Rattle.c_typed.specs.declared.statement.Body.TheFolds as typed
 use Rattle.c_typed.specs.declared.statement.Body.TheVariants as body
 use Rattle.c_typed.specs.Sites.{BlockRow, summary}
 use Rattle.c_model.specs.Program.{Decl}
@@ -31,15 +32,20 @@ use Rattle.run_code.specs.declared.steps.Range.{Range}
 use Rattle.run_code.specs.declared.tables.Tables.{Tables}
 use Rattle.run_code.specs.declared.whole.Code.{Code}
 use Rattle.run_code.specs.Blocks.{AreBlocksFrom, AreObjectsFrom, IsBlockAt, IsBlockOf, IsObjectAt, IsObjectOf}
-use Rattle.run_code.specs.Blocks.{access_by, counted_by, firsts_from, objects_in, pointer_access, rows_of_block}
+use Rattle.run_code.specs.Blocks.{access_by, counted_by, firsts_from, objects_in, pointer_access, rows_of, rows_of_block}
 use Rattle.run_code.specs.Functions.{AreLaidFrom, HasBlocks, IsLaidAt, laid_in}
 use Rattle.run_code.specs.InRange.{IsBlock, part_of}
-use Rattle.run_code.proofs.Blocked.{of_block}
-use Rattle.run_code.proofs.Collected.{same_some}
 use Rattle.code_view.specs.Blocks.{BlocksStandInCode, ExpressionsStandInCode, OpenBlocksAreThere}
 use Rattle.code_view.specs.Blocks.{HasBlockAt, Made, StandsBlock, StandsObject, made_by, made_of, taken_at}
 use Rattle.code_view.specs.Numbering.{body_decls, decls_in, function_decls, row_decls}
 use Rattle.code_view.proofs.Whole.{body_there, each_at}
+
+same_some : {A : Type 0} (o : Option A) (x y : A) → o ≡ Some x → o ≡ Some y → x ≡ y
+same_some o x y e f = cc
+
+-- the blocks of a body that is a block
+of_block : (b : Block) → rows_of (body.Block b) ≡ rows_of_block b
+of_block b = search (rules, typed.the_lemmas)
 
 -- ---- an object
 extent_as : (o : Option Extent) → extent_or_byte o ≡ view.extent_or_byte o
@@ -270,7 +276,7 @@ of_function p n f x at is = ap (λ o k. function_decls p.tags o k) at ∙ ap (λ
 
 pub blocks_stand : BlocksStandInCode
 blocks_stand p code have n f b c at is there k less =
-    let whole = of_block (body.Block b) b refl in
+    let whole = of_block b in
     let row = there_some (rows_of_block b) k less in
     let decls : decls_in p (Some n) k ≡ map (decl_of p.tags) row.0.objects =
     ap (λ (g : ℕ → List Decl). g k) (of_function p n f (body.Block b) at (body_there f.body b is))
