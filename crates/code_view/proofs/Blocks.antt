@@ -1,5 +1,29 @@
 -- The blocks of a lawful program as the code has them.
-use Rattle.std.proofs.Common.{rules, arith, ◌≡◌, ℕ, zero, suc, ◌+◌, ◌^◌, ◌<◌, ◌≤◌, Bool, true, false, List, [], ◌∷◌, length, map, take, drop, Option, Some, None}
+use Rattle.std.proofs.Common.{
+  rules,
+  arith,
+  ◌≡◌,
+  ℕ,
+  zero,
+  suc,
+  ◌+◌,
+  ◌^◌,
+  ◌<◌,
+  ◌≤◌,
+  Bool,
+  true,
+  false,
+  List,
+  [],
+  ◌∷◌,
+  length,
+  map,
+  take,
+  drop,
+  Option,
+  Some,
+  None,
+}
 use Rattle.std.proofs.Common.{slice_get, min, max, refl, sym, ap, ap₂, subst, ◌∙◌}
 use Rattle.std.specs.Prelude.{◌||◌}
 use Rattle.std.proofs.lemmas.List.{length-drop, length-map, length-take}
@@ -30,7 +54,6 @@ use Rattle.run_code.specs.declared.steps.FunctionCode.{FunctionCode}
 use Rattle.run_code.specs.declared.steps.ObjectCode.{ObjectCode}
 use Rattle.run_code.specs.declared.steps.Range.{Range}
 use Rattle.run_code.specs.declared.tables.Tables.{Tables}
-use Rattle.run_code.specs.declared.whole.Code.{Code}
 use Rattle.run_code.specs.Blocks.{AreBlocksFrom, AreObjectsFrom, IsBlockAt, IsBlockOf, IsObjectAt, IsObjectOf}
 use Rattle.run_code.specs.Blocks.{access_by, counted_by, firsts_from, objects_in, pointer_access, rows_of, rows_of_block}
 use Rattle.run_code.specs.Functions.{AreLaidFrom, HasBlocks, IsLaidAt, laid_in}
@@ -162,7 +185,7 @@ all_alike f g [] (y ∷ ys) l h = absurd (omega (arith, l))
 all_alike f g (x ∷ xs) [] l h = absurd (omega (arith, l))
 all_alike f g (x ∷ xs) (y ∷ ys) l h =
     let first = h 0 y refl in
-    let same : first.0 ≡ x = same_some (Some x) first.0 x (sym first.1) refl in
+    let same : first.0 ≡ x = same_some (Some x) first.0 x first.1 refl in
     ap₂ (λ z zs. z ∷ zs) (ap f (sym same) ∙ first.2) (all_alike f g xs ys (omega (arith, l)) (λ k z e. h (suc k) z e))
 
 part_length : {A : Type 0} (table : List A) (r : Range) → r.first + r.count ≤ length table → length (part_of table r) ≡ r.count
