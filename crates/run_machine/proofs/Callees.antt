@@ -47,7 +47,6 @@ use Rattle.ub_base.specs.declared.names.Event.{Event}
 use Rattle.ub_base.specs.declared.names.Item.{Item}
 use Rattle.c_types.specs.declared.library.LibFunc.{LibFunc}
 use Rattle.c_types.specs.declared.tags.Tag.{Tag}
-use Rattle.c_types.specs.Same.{compatible}
 use Rattle.c_types.specs.Types.{CType}
 use Rattle.c_typed.specs.declared.program.Function.{Function as Typed}
 use Rattle.c_typed.specs.declared.program.Program.{Program}
