@@ -1,8 +1,12 @@
 pub mod Applied
 pub mod Assigning
 pub mod Calling
+pub mod Constants
 pub mod Folding
+pub mod Measured
+pub mod Naming
 pub mod Operating
+pub mod Reading
 pub mod Standing
 pub mod Told
 pub mod Values

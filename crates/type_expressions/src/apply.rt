@@ -12,14 +12,15 @@ ghost use Rattle.type_conversions.specs.Casts as casts;
 ghost use Rattle.type_assignments.specs.Assignments as assignments;
 ghost use Rattle.type_calls.specs.Calls as calls;
 ghost use Rattle.type_calls.specs.Choices as choices;
-ghost use Rattle.typing_env.specs.Env.{Env, if_found};
+ghost use Rattle.typing_env.specs.Env.{Env, if_found, symbol_of};
 ghost use Rattle.typing_env.specs.Names.{meaning_of};
 ghost use Rattle.typing_spec.specs.Expressions as spec;
 ghost use Rattle.type_scope.specs.Known.{Naming, known_by, slot_seen, meaning_seen};
-ghost use Rattle.type_scope.specs.Reads.{Follows};
+ghost use Rattle.type_scope.specs.Reads.{Follows, Reads};
 ghost use Rattle.type_scope.specs.Tagged.{has_constant};
 ghost use Rattle.type_declarators.specs.Finds.{Finds};
 ghost use Rattle.type_expressions.specs.Forms.{by_form, assigned_by, member_by, measured_by, in_expression, name_seen};
+ghost use Rattle.type_expressions.specs.Plain.{IsAutomatic, IsUnused, Stands, ReadsAlone};
 ghost use Rattle.type_expressions.specs.Seen.{Namings, operand_seen};
 ghost use Rattle.type_expressions.specs.Standing.{layouts_in, extent_of};
 
@@ -28,9 +29,13 @@ use c_typed::{EqOp, Node, RelOp, Slot};
 use c_types::{BinOp, IntKind, Qual, Shared, Ty, copied, copied_qual};
 use std::alloc::Global;
 use type_calls::is_void;
+use type_constants::integer_constant;
+use type_declarators::constants;
+use type_declarators::declarator::is_value;
 use type_operands::{Form, Operand, integer, leaf, object_of, place, value};
 use type_reasons::{Reason, Refused};
 use type_scope::{Meaning, Source, State, TypeFault, placed, placed_for, placed_unless};
+use type_values::enumerator;
 use ub_base::NoMemory;
 
 // An object, which is used where it has static storage (6.9p3).
@@ -41,7 +46,8 @@ fn object_operand(
     register: bool,
     line: u32,
 ) -> Result<Operand, TypeFault>
-    ensures { (n : Namings) → let q = qualified_of qual in Finds (operand_seen n) (Some (as_place register (leaf_term (shape.Obj (slot_seen n.objects slot)) (pointer q.constant q.ty) line))) result }
+    ensures kept { IsAutomatic slot → state.new ≡ state.old }
+    ensures made { (n : Namings) → let q = qualified_of qual in Finds (operand_seen n) (Some (as_place register (leaf_term (shape.Obj (slot_seen n.objects slot)) (pointer q.constant q.ty) line))) result }
 {
     if let Slot::Static(number) = slot {
         state.use_object(number, &qual.ty, line);
@@ -107,7 +113,8 @@ fn copied_meaning(alloc: Global, meaning: &Meaning) -> Result<NameMeaning, NoMem
 /// An identifier: an object, a function or an enumeration constant that is in scope (6.5.1p2, 6.7.2.2p3).
 #[inline(never)]
 pub fn named(source: &Source<'_>, state: &mut State, at: u32) -> Result<Operand, TypeFault>
-    ensures { (n : Namings) (env : Env) → Follows (operand_seen n) (λ _. Unit {0}) (spec.named at (known_by n.objects source.now state.old env)) result }
+    ensures operand { (n : Namings) (env : Env) → Follows (operand_seen n) (λ _. Unit {0}) (spec.named at (known_by n.objects source.now state.old env)) result }
+    ensures alone { (n : Namings) (env : Env) → Stands n source.now state.old env → IsUnused (meaning_of env (symbol_of env at)) → ReadsAlone n source.now env (spec.named at) state.new result }
 {
     let line = source.line(at);
     match meaning_of(state.alloc, state, source.symbol(at))? {
@@ -501,4 +508,41 @@ pub fn cast(state: &State, a: Operand, to: &Ty, line: u32) -> Result<Operand, Ty
 {
     let made = type_conversions::cast(state.alloc, &state.tags, a, to, line);
     placed_for(line, cast_reason(to), made)
+}
+
+/// The value of an operand that is an integer constant expression (6.6p6); `at` is its first token. Another one is refused for this
+/// reason, or for one of its own.
+pub fn constant_of(
+    source: &Source<'_>,
+    operand: &Operand,
+    at: u32,
+    reason: Reason,
+) -> Result<i128, TypeFault>
+    ensures { (n : Namings) → Finds (λ z. z) (spec.constant_of (operand_seen n operand.now)) result }
+{
+    match integer_constant(&operand.tree) {
+        Some(number) if is_value(operand) => Ok(number),
+        _ => Err(source.fault(at, constants::refusal(operand, reason))),
+    }
+}
+
+/// An enumeration constant with this value, or without one, behind one with the value `before`; the answer is its value. It is
+/// in scope behind itself (6.2.1p7, 6.7.2.2p3).
+pub fn enumeration_constant(
+    source: &Source<'_>,
+    state: &mut State,
+    at: u32,
+    value: Option<i128>,
+    before: Option<i32>,
+) -> Result<i32, TypeFault>
+    ensures reads { (n : Naming) (env : Env) → Reads (λ z. z) (spec.enumerated at value before (known_by n source.now state.old env)) result (known_by n source.now state.new env) }
+    ensures rest { state.new ≡ record state.old { names = state.new.names } }
+{
+    let Some(number) = enumerator(value, before) else {
+        return Err(source.fault(at, constants::enumerator_refusal(value)));
+    };
+    match state.declare(source, at, Meaning::Constant(i128::from(number))) {
+        Ok(()) => Ok(number),
+        Err(fault) => Err(fault),
+    }
 }

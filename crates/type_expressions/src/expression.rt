@@ -1,26 +1,35 @@
 // Expressions, and the declarations inside them: type names, specifiers and declarators (6.5, 6.7.2 to 6.7.7).
 
+ghost use Rattle.std.specs.Prelude.{◌≡◌, ℕ};
+ghost use Rattle.type_calls.specs.Choices.{chosen};
+ghost use Rattle.type_operators.specs.Operators.{indexed};
+ghost use Rattle.typing_env.specs.Env.{Env, ◌>>=◌, known, line_of, spelling};
+ghost use Rattle.typing_spec.specs.Expressions as spec;
+ghost use Rattle.type_expressions.specs.Forms.{member_by};
+ghost use Rattle.type_expressions.specs.Plain.{UsesNothing, Stands, ReadsAlone};
+ghost use Rattle.type_expressions.specs.Seen.{Namings, operand_seen};
+
 use crate::apply;
 use c_ast::{
     AssignOp, Base, BinaryOp, Declarator, Enumerator, Expr, ExprNode, MemberEntry, Param, PostOp,
     Specs, TypeName, UnaryOp,
 };
 use c_types::Qual;
-use type_constants::integer_constant;
 use type_declarators::declarator::{Declared, Derivation};
 use type_declarators::tag::MemberList;
 use type_declarators::words::{Storage, Words, read_words};
-use type_declarators::{constants, declarator, literal, tag};
+use type_declarators::{declarator, literal, tag};
 use type_operands::Operand;
 use type_reasons::Reason;
-use type_scope::{Meaning, Source, State, TypeFault};
-use type_values::enumerator;
+use type_scope::{Source, State, TypeFault};
 use ub_base::Items;
 
 /// An expression (6.5). What follows a first operand is read by a function of its own that isn't inlined, so that a level of
 /// nesting costs the host's stack little.
 #[cycle(expression)]
-pub fn expression(source: &Source<'_>, state: &mut State, e: &Expr) -> Result<Operand, TypeFault> {
+pub fn expression(source: &Source<'_>, state: &mut State, e: &Expr) -> Result<Operand, TypeFault>
+    ensures { (n : Namings) (env : Env) → Stands n source.now state.old env → UsesNothing env e.now.node → ReadsAlone n source.now env (spec.expr e.now) state.new result }
+{
     let line = source.line(e.at);
     match &e.node {
         ExprNode::Name(at) => apply::named(source, state, *at),
@@ -76,7 +85,9 @@ fn unary(
     a: &Expr,
     op: UnaryOp,
     line: u32,
-) -> Result<Operand, TypeFault> {
+) -> Result<Operand, TypeFault>
+    ensures { (n : Namings) (env : Env) (at : ℕ) → line ≡ line_of env at → Stands n source.now state.old env → UsesNothing env a.now.node → ReadsAlone n source.now env (spec.expr a.now >>= λ y. spec.made_modifying at (spec.unary op y)) state.new result }
+{
     let a = expression(source, state, a)?;
     apply::unary(state, op, a, line)
 }
@@ -90,7 +101,9 @@ fn postfix(
     a: &Expr,
     op: PostOp,
     line: u32,
-) -> Result<Operand, TypeFault> {
+) -> Result<Operand, TypeFault>
+    ensures { (n : Namings) (env : Env) (at : ℕ) → line ≡ line_of env at → Stands n source.now state.old env → UsesNothing env a.now.node → ReadsAlone n source.now env (spec.expr a.now >>= λ y. spec.made_modifying at (spec.postfix op y)) state.new result }
+{
     let a = expression(source, state, a)?;
     apply::postfix(state, op, a, line)
 }
@@ -105,7 +118,9 @@ fn binary(
     op: BinaryOp,
     a: Operand,
     line: u32,
-) -> Result<Operand, TypeFault> {
+) -> Result<Operand, TypeFault>
+    ensures { (n : Namings) (env : Env) (at : ℕ) → line ≡ line_of env at → Stands n source.now state.old env → UsesNothing env b.now.node → ReadsAlone n source.now env (spec.expr b.now >>= λ w. spec.made at (spec.binary op (operand_seen n a) w)) state.new result }
+{
     let b = expression(source, state, b)?;
     apply::binary(state, op, a, b, line)
 }
@@ -120,7 +135,9 @@ fn assignment(
     op: AssignOp,
     a: Operand,
     line: u32,
-) -> Result<Operand, TypeFault> {
+) -> Result<Operand, TypeFault>
+    ensures { (n : Namings) (env : Env) (at : ℕ) → line ≡ line_of env at → Stands n source.now state.old env → UsesNothing env b.now.node → ReadsAlone n source.now env (spec.expr b.now >>= λ w. spec.made_modifying at (spec.assigned op (operand_seen n a) w)) state.new result }
+{
     let b = expression(source, state, b)?;
     apply::assignment(state, op, a, b, line)
 }
@@ -135,7 +152,9 @@ fn conditional(
     a: Operand,
     b: Operand,
     line: u32,
-) -> Result<Operand, TypeFault> {
+) -> Result<Operand, TypeFault>
+    ensures { (n : Namings) (env : Env) (at : ℕ) → line ≡ line_of env at → Stands n source.now state.old env → UsesNothing env c.now.node → ReadsAlone n source.now env (spec.expr c.now >>= λ z. spec.made at (λ tags. chosen tags (operand_seen n a) (operand_seen n b) z)) state.new result }
+{
     let c = expression(source, state, c)?;
     apply::conditional(state, a, b, c, line)
 }
@@ -149,7 +168,9 @@ fn subscript(
     b: &Expr,
     a: Operand,
     line: u32,
-) -> Result<Operand, TypeFault> {
+) -> Result<Operand, TypeFault>
+    ensures { (n : Namings) (env : Env) (at : ℕ) → line ≡ line_of env at → Stands n source.now state.old env → UsesNothing env b.now.node → ReadsAlone n source.now env (spec.expr b.now >>= λ w. spec.made at (λ tags. indexed tags (operand_seen n a) w)) state.new result }
+{
     let b = expression(source, state, b)?;
     apply::subscript(state, a, b, line)
 }
@@ -164,7 +185,9 @@ fn member(
     arrow: bool,
     name: u32,
     line: u32,
-) -> Result<Operand, TypeFault> {
+) -> Result<Operand, TypeFault>
+    ensures { (n : Namings) (env : Env) (at : ℕ) → line ≡ line_of env at → Stands n source.now state.old env → UsesNothing env a.now.node → ReadsAlone n source.now env (spec.expr a.now >>= λ y. known >>= λ k. spec.made at (λ tags. member_by arrow tags y (spelling k name))) state.new result }
+{
     let a = expression(source, state, a)?;
     apply::member(source, state, arrow, a, name, line)
 }
@@ -249,10 +272,7 @@ pub fn constant(
     let mark = state.mark();
     let operand = expression(source, state, e)?;
     state.forget_literals(mark);
-    match integer_constant(&operand.tree) {
-        Some(number) if declarator::is_value(&operand) => Ok(number),
-        _ => Err(source.fault(e.at, constants::refusal(&operand, reason))),
-    }
+    apply::constant_of(source, &operand, e.at, reason)
 }
 
 /// A type name; `at` is a token near it (6.7.7).
@@ -390,11 +410,7 @@ fn enumerated(
             None => None,
             Some(value) => Some(constant(source, state, value, Reason::EnumeratorValue)?),
         };
-        let Some(number) = enumerator(value, before) else {
-            return Err(source.fault(e.name, constants::enumerator_refusal(value)));
-        };
-        state.declare(source, e.name, Meaning::Constant(i128::from(number)))?;
-        before = Some(number);
+        before = Some(apply::enumeration_constant(source, state, e.name, value, before)?);
     }
     Ok(())
 }
