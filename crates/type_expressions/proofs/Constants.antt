@@ -34,7 +34,7 @@ pub no_value : (n : Namings) (o : Operand) (value : Bool) (number : Option ℤ) 
     → number ≡ integer_constant (term_of o.tree) → value ≡ false → constant_of (operand_seen n o) ≡ None
 no_value n o value number e is so = constant_by n o value number e is ∙ ap (λ b. if b then number else None) so
 
-none_either : (b : Bool) → (if b then None else None) ≡ None {A = ℤ}
+none_either : (b : Bool) → (let o : Option ℤ = if b then None else None in o) ≡ None
 none_either true = refl
 none_either false = refl
 

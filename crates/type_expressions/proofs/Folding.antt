@@ -23,10 +23,10 @@ use Rattle.c_typed.specs.Sites.{Head}
 use Rattle.type_operands.specs.declared.operand.Form.{Form}
 use Rattle.type_operands.specs.declared.operand.Form.TheVariants as form
 use Rattle.type_operands.specs.Terms.{Term, Terms, term, none, more, type_at, ◌>>=◌}
+use Rattle.type_operands.specs.Conversions.{is_pointer}
 use Rattle.type_reasons.specs.Places.{nowhere}
 use Rattle.type_constants.specs.declared.constant.Folded.{Folded}
 use Rattle.type_constants.specs.declared.constant.Folded.TheVariants.{Unknown, Valueless, Number, Address}
-use Rattle.type_constants.specs.declared.constant.Part.{Part}
 use Rattle.type_constants.specs.Constants.{is_zero, outcome, truth, of_unary, of_binary, in_order, are_equal, with_number, with_numbers, decided}
 use Rattle.type_constants.specs.Constants.{is_constant, picked, chosen, is_aligned, number_as, realigned, function_at, address_in, converted}
 use Rattle.type_constants.specs.Constants.{is_within, moved, member, stepped, element, never_constant, is_comma, extent_behind, part_of, integer}
@@ -42,9 +42,6 @@ target_named n (target.Function number) = target.Function number
 abbrev pub worth_named : Namings → Folded → Folded
 worth_named n (Address named at) = Address (target_named n named) at
 worth_named n w = w
-
-abbrev pub part_named : Namings → Part → Part
-part_named n p = record p { worth = worth_named n p.worth }
 
 -- 1. Operators on numbers.
 
@@ -194,8 +191,15 @@ integer_by : (n : Namings) (b : Bool) (w : Folded) → (if b then Unknown else w
 integer_by n true w = refl
 integer_by n false w = refl
 
-integer_same : (n : Namings) (p : Part) → integer (part_named n p) ≡ worth_named n (integer p)
-integer_same n p = integer_by n p.pointer p.worth
+integer_same : (n : Namings) (ty : CType) (w : Folded)
+    → integer (part_of nowhere ty (worth_named n w)) ≡ worth_named n (integer (part_of nowhere ty w))
+integer_same n ty w = integer_by n (is_pointer ty) w
+
+no_extent : (n : Namings) (w : Folded) → extent_behind nowhere (worth_named n w) ≡ extent_behind nowhere w
+no_extent n (Address named at) = refl
+no_extent n (Number z) = refl
+no_extent n Valueless = refl
+no_extent n Unknown = refl
 
 -- 3. Nodes.
 
@@ -210,47 +214,66 @@ none_same n (shape.Func number) = refl
 none_same n (shape.Str number) = refl
 none_same n _ = refl
 
-one_same : (n : Namings) (head : Head) (a : Part) → of_one (head_seen n head) (part_named n a) ≡ worth_named n (of_one head a)
-one_same n (shape.Conv c) a = converted_same n c a.worth a.extent
-one_same n (shape.Un op) a = ap (with_number (of_unary op)) (integer_same n a) ∙ number_same n (of_unary op) (integer a) (unary_plain n op)
-one_same n (shape.Member offset) a = member_same n offset a.worth a.extent
-one_same n _ a = refl
+one_same : (n : Namings) (head : Head) (ty : CType) (w : Folded)
+    → of_one (head_seen n head) (part_of nowhere ty (worth_named n w)) ≡ worth_named n (of_one head (part_of nowhere ty w))
+one_same n (shape.Conv c) ty w = ap (converted c (worth_named n w)) (no_extent n w) ∙ converted_same n c w (extent_behind nowhere w)
+one_same n (shape.Un op) ty w =
+    ap (with_number (of_unary op)) (integer_same n ty w) ∙ number_same n (of_unary op) (integer (part_of nowhere ty w)) (unary_plain n op)
+one_same n (shape.Member offset) ty w = ap (member offset (worth_named n w)) (no_extent n w) ∙ member_same n offset w (extent_behind nowhere w)
+one_same n _ ty w = refl
 
-both_integers : (n : Namings) (f : Folded → Folded → Folded) (a b : Part)
-    → ((v w : Folded) → f (worth_named n v) (worth_named n w) ≡ worth_named n (f v w))
-    → f (integer (part_named n a)) (integer (part_named n b)) ≡ worth_named n (f (integer a) (integer b))
-both_integers n f a b same =
-    ap (λ v. f v (integer (part_named n b))) (integer_same n a) ∙ ap (f (worth_named n (integer a))) (integer_same n b) ∙ same (integer a) (integer b)
+both_integers : (n : Namings) (f : Folded → Folded → Folded) (a : CType) (v : Folded) (b : CType) (w : Folded)
+    → ((x y : Folded) → f (worth_named n x) (worth_named n y) ≡ worth_named n (f x y))
+    → f (integer (part_of nowhere a (worth_named n v))) (integer (part_of nowhere b (worth_named n w)))
+    ≡ worth_named n (f (integer (part_of nowhere a v)) (integer (part_of nowhere b w)))
+both_integers n f a v b w same =
+    ap (λ x. f x (integer (part_of nowhere b (worth_named n w)))) (integer_same n a v)
+    ∙ ap (f (worth_named n (integer (part_of nowhere a v)))) (integer_same n b w)
+    ∙ same (integer (part_of nowhere a v)) (integer (part_of nowhere b w))
 
-two_same : (n : Namings) (head : Head) (a b : Part) → of_two (head_seen n head) (part_named n a) (part_named n b) ≡ worth_named n (of_two head a b)
-two_same n (shape.Bin op kind) a b = numbers_same n (of_binary op kind) a.worth b.worth (binary_plain n op kind)
-two_same n (shape.Rel op false) a b = numbers_same n (λ x y. truth (in_order op x y)) a.worth b.worth (λ x y. refl)
-two_same n (shape.Rel op true) a b = refl
-two_same n (shape.Eq op) a b =
-    both_integers n (with_numbers (λ x y. truth (are_equal op x y))) a b (λ v w. numbers_same n (λ x y. truth (are_equal op x y)) v w (λ x y. refl))
-two_same n shape.And a b = both_integers n (decided false) a b (decided_same n false)
-two_same n shape.Or a b = both_integers n (decided true) a b (decided_same n true)
-two_same n (shape.PtrAdd size subtract) a b = element_same n size subtract a.worth a.extent b.worth
-two_same n _ a b = refl
+two_same : (n : Namings) (head : Head) (a : CType) (v : Folded) (b : CType) (w : Folded)
+    → of_two (head_seen n head) (part_of nowhere a (worth_named n v)) (part_of nowhere b (worth_named n w))
+    ≡ worth_named n (of_two head (part_of nowhere a v) (part_of nowhere b w))
+two_same n (shape.Bin op kind) a v b w = numbers_same n (of_binary op kind) v w (binary_plain n op kind)
+two_same n (shape.Rel op false) a v b w = numbers_same n (λ x y. truth (in_order op x y)) v w (λ x y. refl)
+two_same n (shape.Rel op true) a v b w = refl
+two_same n (shape.Eq op) a v b w =
+    both_integers n (with_numbers (λ x y. truth (are_equal op x y))) a v b w
+    (λ p q. numbers_same n (λ x y. truth (are_equal op x y)) p q (λ x y. refl))
+two_same n shape.And a v b w = both_integers n (decided false) a v b w (decided_same n false)
+two_same n shape.Or a v b w = both_integers n (decided true) a v b w (decided_same n true)
+two_same n (shape.PtrAdd size subtract) a v b w =
+    ap (λ e. element size subtract (worth_named n v) e (worth_named n w)) (no_extent n v) ∙ element_same n size subtract v (extent_behind nowhere v) w
+two_same n _ a v b w = refl
 
-three_same : (n : Namings) (head : Head) (a b c : Part)
-    → of_three (head_seen n head) (part_named n a) (part_named n b) (part_named n c) ≡ worth_named n (of_three head a b c)
-three_same n shape.Cond a b c = ap (λ v. chosen v (worth_named n b.worth) (worth_named n c.worth)) (integer_same n a) ∙ chosen_same n (integer a) b.worth c.worth
-three_same n _ a b c = refl
+three_same : (n : Namings) (head : Head) (a : CType) (v : Folded) (b : CType) (w : Folded) (d : CType) (x : Folded)
+    → of_three (head_seen n head) (part_of nowhere a (worth_named n v)) (part_of nowhere b (worth_named n w)) (part_of nowhere d (worth_named n x))
+    ≡ worth_named n (of_three head (part_of nowhere a v) (part_of nowhere b w) (part_of nowhere d x))
+three_same n shape.Cond a v b w d x =
+    ap (λ y. chosen y (worth_named n w) (worth_named n x)) (integer_same n a v) ∙ chosen_same n (integer (part_of nowhere a v)) w x
+three_same n _ a v b w d x = refl
 
-operands_same : (n : Namings) (head : Head) (ps : List Part) → of_operands (head_seen n head) (map (part_named n) ps) ≡ worth_named n (of_operands head ps)
+operands_same : (n : Namings) (head : Head) (ps : List (CType × Folded))
+    → of_operands (head_seen n head) (map (λ p. part_of nowhere p.0 (worth_named n p.1)) ps)
+    ≡ worth_named n (of_operands head (map (λ p. part_of nowhere p.0 p.1) ps))
 operands_same n head [] = none_same n head
-operands_same n head (a ∷ []) = one_same n head a
-operands_same n head (a ∷ b ∷ []) = two_same n head a b
-operands_same n head (a ∷ b ∷ c ∷ []) = three_same n head a b c
+operands_same n head (a ∷ []) = one_same n head a.0 a.1
+operands_same n head (a ∷ b ∷ []) = two_same n head a.0 a.1 b.0 b.1
+operands_same n head (a ∷ b ∷ c ∷ []) = three_same n head a.0 a.1 b.0 b.1 c.0 c.1
 operands_same n head (a ∷ b ∷ c ∷ d ∷ ps) = refl
 
-all_same : (n : Namings) (ps : List Part) → all_constant (map (part_named n) ps) ≡ all_constant ps
+all_same : (n : Namings) (ps : List (CType × Folded))
+    → all_constant (map (λ p. part_of nowhere p.0 (worth_named n p.1)) ps) ≡ all_constant (map (λ p. part_of nowhere p.0 p.1) ps)
 all_same n [] = refl
-all_same n (a ∷ ps) = ap (λ b. b && all_constant (map (part_named n) ps)) (constant_same n a.worth) ∙ ap (λ b. is_constant a.worth && b) (all_same n ps)
+all_same n (a ∷ ps) =
+    ap (λ b. b && all_constant (map (λ p. part_of nowhere p.0 (worth_named n p.1)) ps)) (constant_same n a.1)
+    ∙ ap (λ b. is_constant a.1 && b) (all_same n ps)
 
-comma_same : (n : Namings) (ps : List Part) → of_comma (map (part_named n) ps) ≡ worth_named n (of_comma ps)
-comma_same n ps = ap (λ b. if b then Valueless else Unknown) (all_same n ps) ∙ sym (if_plain n (all_constant ps) Valueless Unknown refl refl)
+comma_same : (n : Namings) (ps : List (CType × Folded))
+    → of_comma (map (λ p. part_of nowhere p.0 (worth_named n p.1)) ps) ≡ worth_named n (of_comma (map (λ p. part_of nowhere p.0 p.1) ps))
+comma_same n ps =
+    ap (λ b. if b then Valueless else Unknown) (all_same n ps)
+    ∙ sym (if_plain n (all_constant (map (λ p. part_of nowhere p.0 p.1) ps)) Valueless Unknown refl refl)
 
 never_same : (n : Namings) (head : Head) → never_constant (head_seen n head) ≡ never_constant head
 never_same n (shape.Obj s) = refl
@@ -266,41 +289,43 @@ node_by n true b v w x y e f = refl
 node_by n false true v w x y e f = e
 node_by n false false v w x y e f = f
 
-node_same : (n : Namings) (head : Head) (ps : List Part) → of_node (head_seen n head) (map (part_named n) ps) ≡ worth_named n (of_node head ps)
+node_same : (n : Namings) (head : Head) (ps : List (CType × Folded))
+    → of_node (head_seen n head) (map (λ p. part_of nowhere p.0 (worth_named n p.1)) ps)
+    ≡ worth_named n (of_node head (map (λ p. part_of nowhere p.0 p.1) ps))
 node_same n head ps =
-    let all = map (part_named n) ps in
+    let all = map (λ p. part_of nowhere p.0 (worth_named n p.1)) ps in
+    let own = map (λ p. part_of nowhere p.0 p.1) ps in
     ap (λ a. if a then Unknown else if is_comma (head_seen n head) then of_comma all else of_operands (head_seen n head) all) (never_same n head)
     ∙ ap (λ b. if never_constant head then Unknown else if b then of_comma all else of_operands (head_seen n head) all) (is_comma_same n head)
-    ∙ node_by n (never_constant head) (is_comma head) (of_comma all) (of_operands (head_seen n head) all) (of_comma ps) (of_operands head ps)
+    ∙ node_by n (never_constant head) (is_comma head) (of_comma all) (of_operands (head_seen n head) all) (of_comma own) (of_operands head own)
     (comma_same n ps) (operands_same n head ps)
 
 -- 4. Trees.
 
-no_extent : (n : Namings) (w : Folded) → extent_behind nowhere (worth_named n w) ≡ extent_behind nowhere w
-no_extent n (Address named at) = refl
-no_extent n (Number z) = refl
-no_extent n Valueless = refl
-no_extent n Unknown = refl
-
-part_by : (n : Namings) (ty : CType) (v w : Folded) → v ≡ worth_named n w → part_of nowhere ty v ≡ part_named n (part_of nowhere ty w)
-part_by n ty v w e =
-    ap (part_of nowhere ty) e ∙ ap (λ x. record (part_of nowhere ty (worth_named n w)) { extent = x }) (no_extent n w)
-
 type_same : (n : Namings) (t : Term) → type_at (term_seen n t) ≡ type_at t
 type_same n (term head own ty line operands) = refl
+
+-- the operands with their types and what they are worth
+abbrev pairs : Terms → List (CType × Folded)
+pairs none = []
+pairs (more t ts) = (type_at t, worth nowhere t) ∷ pairs ts
+
+own_parts : (ts : Terms) → parts nowhere ts ≡ map (λ p. part_of nowhere p.0 p.1) (pairs ts)
+own_parts none = refl
+own_parts (more t ts) = ap (λ ps. part_of nowhere (type_at t) (worth nowhere t) ∷ ps) (own_parts ts)
 
 mutual
   pub worth_same : (n : Namings) (t : Term) → worth nowhere (term_seen n t) ≡ worth_named n (worth nowhere t)
   worth_same n (term head own ty line operands) =
-      ap (of_node (head_seen n head)) (parts_same n operands) ∙ node_same n head (parts nowhere operands)
+      ap (of_node (head_seen n head)) (parts_same n operands) ∙ node_same n head (pairs operands)
+      ∙ ap (λ ps. worth_named n (of_node head ps)) (sym (own_parts operands))
 
-  pub parts_same : (n : Namings) (ts : Terms) → parts nowhere (terms_seen n ts) ≡ map (part_named n) (parts nowhere ts)
+  parts_same : (n : Namings) (ts : Terms) → parts nowhere (terms_seen n ts) ≡ map (λ p. part_of nowhere p.0 (worth_named n p.1)) (pairs ts)
   parts_same n none = refl
   parts_same n (more t ts) =
       ap (λ ty. part_of nowhere ty (worth nowhere (term_seen n t)) ∷ parts nowhere (terms_seen n ts)) (type_same n t)
-      ∙ ap (λ p. p ∷ parts nowhere (terms_seen n ts))
-      (part_by n (type_at t) (worth nowhere (term_seen n t)) (worth nowhere t) (worth_same n t))
-      ∙ ap (λ ps. part_named n (part_of nowhere (type_at t) (worth nowhere t)) ∷ ps) (parts_same n ts)
+      ∙ ap (λ w. part_of nowhere (type_at t) w ∷ parts nowhere (terms_seen n ts)) (worth_same n t)
+      ∙ ap (λ ps. part_of nowhere (type_at t) (worth_named n (worth nowhere t)) ∷ ps) (parts_same n ts)
 
 number_of_same : (n : Namings) (w : Folded) → number_of (worth_named n w) ≡ number_of w
 number_of_same n (Number z) = refl

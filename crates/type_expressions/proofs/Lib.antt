@@ -3,6 +3,7 @@ pub mod Assigning
 pub mod Calling
 pub mod Constants
 pub mod Folding
+pub mod Literal
 pub mod Measured
 pub mod Naming
 pub mod Operating

@@ -15,8 +15,8 @@ told_by : (n : Namings) (tell : Refused → TypeFault) (made : Result Operand Re
     → tell refused.NoMemory ≡ fault.NoMemory → Gives expression_of made before → after ≡ map_option (expression_seen n) before
     → Finds (operand_seen n) after (result_map_both (λ o. o) tell made)
 told_by n tell (Ok o) before after e g is = is ∙ ap (map_option (expression_seen n)) g
-told_by n tell (Err (refused.Constraint reason)) before after e g is other = is ∙ ap (map_option (expression_seen n)) g
-told_by n tell (Err refused.NoMemory) before after e g is other = absurd (other e)
+told_by n tell (Err (refused.Constraint reason)) before after e g is = λ other. is ∙ ap (map_option (expression_seen n)) g
+told_by n tell (Err refused.NoMemory) before after e g is = λ other. absurd (other e)
 
 -- the operand by the names of the definition, and a refusal just where there is none
 pub told : (n : Namings) (tell : Refused → TypeFault) (made : Result Operand Refused) (result : Result Operand TypeFault) (before after : Option Expression)

@@ -1,5 +1,5 @@
 // Each form of expression, from its operands (6.5).
-ghost use Rattle.std.specs.Prelude.{◌≡◌, ℕ, Bool, map, Option, Some, IfOk};
+ghost use Rattle.std.specs.Prelude.{◌≡◌, ℕ, Bool, false, map, Option, Some, IfOk};
 ghost use Rattle.std.specs.Option.{option_map, option_copied};
 ghost use Rattle.c_lex.specs.TokenText.{TokenText, text_at};
 ghost use Rattle.c_types.specs.Types.{type_of, qualified_of, pointer};
@@ -521,8 +521,14 @@ pub fn constant_of(
     ensures { (n : Namings) → Finds (λ z. z) (spec.constant_of (operand_seen n operand.now)) result }
 {
     match integer_constant(&operand.tree) {
-        Some(number) if is_value(operand) => Ok(number),
-        _ => Err(source.fault(at, constants::refusal(operand, reason))),
+        Some(number) => {
+            if is_value(operand) {
+                Ok(number)
+            } else {
+                Err(source.fault(at, constants::refusal(operand, reason)))
+            }
+        }
+        None => Err(source.fault(at, constants::refusal(operand, reason))),
     }
 }
 
