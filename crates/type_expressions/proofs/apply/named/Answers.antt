@@ -1,6 +1,12 @@
-use Rattle.std.proofs.Common.{refl, sym, ap, ◌∙◌}
-use Rattle.std.specs.Prelude.{Some, None}
-use Rattle.c_types.specs.Types.{qualified_of, type_of}
+use Rattle.std.proofs.Common.{refl, sym, ap, ◌∙◌, rules}
+use Rattle.std.specs.Int.{w128}
+use Rattle.std.proofs.lemmas.Int.{to_z-of_z}
+use Rattle.c_types.specs.declared.kind.IntKind.TheVariants.{Int}
+use Rattle.type_operands.specs.Terms.{constant}
+use Rattle.type_reasons.specs.declared.reason.Reason.TheVariants.{UndeclaredName}
+use Rattle.type_scope.specs.declared.fault.TypeFault.TheVariants as fault
+use Rattle.std.specs.Prelude.{ℤ, Some, None, Ok, Err}
+use Rattle.c_types.specs.Types.{int, qualified_of, type_of}
 use Rattle.typing_env.specs.Env.{symbol_of, a_constant, a_function, an_object}
 use Rattle.typing_env.specs.Names.{meaning_of}
 use Rattle.typing_spec.specs.Expressions.{named}
@@ -69,11 +75,12 @@ returns-in-Constant-clause-operand c n env =
     let s = c.args.state.now in
     let at = c.args.at in
     let line = c.line-line.result in
-    follows_by n _ _ (named at (known_by n.objects t s env)) _
+    follows_by n _ _ (named at (known_by n.objects t s env)) (Ok c.value.result)
     (constant_named (known_by n.objects t s env) at line c.in-Constant.number (line_known n.objects t s env at line c.line-line.ensures)
     (means n.objects t s env at c.symbol.result _ _ (Some (a_constant c.in-Constant.number)) c.symbol.ensures c.in-Constant.is refl
     c.in_ok-slot.ensures))
-    (ap (λ x. Some x) (sym (constant_seen n c.value.result _ _ c.value.ensures c.integer.ensures)))
+    (ap (λ x. Some x) (sym (constant_seen n c.value.result _ _ c.value.ensures
+    (c.integer.ensures ∙ ap (λ (z : ℤ). constant z (int Int) line) (to_z-of_z w128 c.in-Constant.number (search rules))))))
 
 pub returns-in-Constant-clause-alone : goal.returns-in-Constant-clause-alone
 returns-in-Constant-clause-alone c n env h unused =
@@ -82,11 +89,12 @@ returns-in-Constant-clause-alone c n env h unused =
     let at = c.args.at in
     let line = c.line-line.result in
     let here = known_by n.objects t s env in
-    (from_known n t s env at _ h (reads_by n _ here (named at here) _
+    (from_known n t s env at (Ok c.value.result) h (reads_by n _ here (named at here) (Ok c.value.result)
     (constant_named here at line c.in-Constant.number (line_known n.objects t s env at line c.line-line.ensures)
     (means n.objects t s env at c.symbol.result _ _ (Some (a_constant c.in-Constant.number)) c.symbol.ensures c.in-Constant.is refl
     c.in_ok-slot.ensures))
-    (ap (λ x. Some x) (sym (constant_seen n c.value.result _ _ c.value.ensures c.integer.ensures)))), h)
+    (ap (λ x. Some x) (sym (constant_seen n c.value.result _ _ c.value.ensures
+    (c.integer.ensures ∙ ap (λ (z : ℤ). constant z (int Int) line) (to_z-of_z w128 c.in-Constant.number (search rules))))))), h)
 
 pub returns-in-Nothing-clause-operand : goal.returns-in-Nothing-clause-operand
 returns-in-Nothing-clause-operand c n env other =
@@ -99,5 +107,5 @@ pub returns-in-Nothing-clause-alone : goal.returns-in-Nothing-clause-alone
 returns-in-Nothing-clause-alone c n env h unused =
     let t = c.args.source.now in
     let s = c.args.state.now in
-    (from_known n t s env c.args.at _ h (λ other. name_refused (known_by n.objects t s env) c.args.at
+    (from_known n t s env c.args.at (Err (fault.NotTyped c.line-line.result UndeclaredName)) h (λ other. name_refused (known_by n.objects t s env) c.args.at
     (means n.objects t s env c.args.at c.symbol.result _ _ None c.symbol.ensures c.in-Nothing.is refl c.in_ok-slot.ensures)), h)

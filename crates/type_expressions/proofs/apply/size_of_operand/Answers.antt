@@ -16,7 +16,7 @@ returns-in-Some c n =
     (ap (operand_type c.args.a.form) (type_is n (term_of c.args.a.tree)) ∙ sym c.in-Some.ensures))
     (c.size_of_type.ensures n)
 
-pub returns-in-None : goal.returns-in-None
-returns-in-None c n other =
+pub returns : goal.returns
+returns c n other =
     ap (λ o. measured_by c.args.line (λ e. e.size) (if_found o (extent_of c.args.state.now)))
     (ap (operand_type c.args.a.form) (type_is n (term_of c.args.a.tree)) ∙ sym c.in-None.ensures)
