@@ -3,11 +3,9 @@ pub mod Assigning
 pub mod Calling
 pub mod Constants
 pub mod Folding
-pub mod Literal
 pub mod Measured
 pub mod Naming
 pub mod Operating
-pub mod Reading
 pub mod Standing
 pub mod Told
 pub mod Values

@@ -121,9 +121,9 @@ promoted_is n (term head own ty line operands) =
 
 balanced_by : (n : Namings) (o : Option IntKind) (a b : Term)
     → (o >>= λ kind. to_kind kind (term_seen n a) >>= λ x. to_kind kind (term_seen n b) >>= λ y.
-      (let p : Balanced = record { left = x; right = y; kind = kind } in Some p))
+    (let p : Balanced = record { left = x; right = y; kind = kind } in Some p))
     ≡ map_option (balanced_seen n) (o >>= λ kind. to_kind kind a >>= λ x. to_kind kind b >>= λ y.
-      (let p : Balanced = record { left = x; right = y; kind = kind } in Some p))
+    (let p : Balanced = record { left = x; right = y; kind = kind } in Some p))
 balanced_by n None a b = refl
 balanced_by n (Some kind) a b =
     then_is (term_seen n) (balanced_seen n) (to_kind kind a) (to_kind kind (term_seen n a)) _ _ (to_kind_is n kind a)

@@ -57,12 +57,7 @@ fn object_operand(
 }
 
 // A function, which is used (6.9p3).
-fn function_operand(
-    state: &mut State,
-    number: u32,
-    ty: Ty,
-    line: u32,
-) -> Result<Operand, TypeFault>
+fn function_operand(state: &mut State, number: u32, ty: Ty, line: u32) -> Result<Operand, TypeFault>
     ensures { (n : Namings) → Finds (operand_seen n) (Some (record { tree = leaf_term (shape.Func number) (pointer false (type_of ty)) line; form = form.Designator; line = line })) result }
 {
     state.use_function(number, line);
@@ -157,12 +152,8 @@ fn unary_made(state: &State, op: UnaryOp, a: Operand, line: u32) -> Result<Opera
         UnaryOp::Minus => type_operators::negated(alloc, tags, a, line),
         UnaryOp::Tilde => type_operators::complemented(alloc, tags, a, line),
         UnaryOp::Not => type_operators::inverted(alloc, tags, a, line),
-        UnaryOp::Increment => {
-            type_assignments::stepped(alloc, tags, state, BinOp::Add, a, line)
-        }
-        UnaryOp::Decrement => {
-            type_assignments::stepped(alloc, tags, state, BinOp::Sub, a, line)
-        }
+        UnaryOp::Increment => { type_assignments::stepped(alloc, tags, state, BinOp::Add, a, line) }
+        UnaryOp::Decrement => { type_assignments::stepped(alloc, tags, state, BinOp::Sub, a, line) }
     }
 }
 

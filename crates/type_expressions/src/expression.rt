@@ -1,14 +1,5 @@
 // Expressions, and the declarations inside them: type names, specifiers and declarators (6.5, 6.7.2 to 6.7.7).
 
-ghost use Rattle.std.specs.Prelude.{◌≡◌, ℕ};
-ghost use Rattle.type_calls.specs.Choices.{chosen};
-ghost use Rattle.type_operators.specs.Operators.{indexed};
-ghost use Rattle.typing_env.specs.Env.{Env, ◌>>=◌, known, line_of, spelling};
-ghost use Rattle.typing_spec.specs.Expressions as spec;
-ghost use Rattle.type_expressions.specs.Forms.{member_by};
-ghost use Rattle.type_expressions.specs.Plain.{UsesNothing, Stands, ReadsAlone};
-ghost use Rattle.type_expressions.specs.Seen.{Namings, operand_seen};
-
 use crate::apply;
 use c_ast::{
     AssignOp, Base, BinaryOp, Declarator, Enumerator, Expr, ExprNode, MemberEntry, Param, PostOp,
@@ -27,9 +18,7 @@ use ub_base::Items;
 /// An expression (6.5). What follows a first operand is read by a function of its own that isn't inlined, so that a level of
 /// nesting costs the host's stack little.
 #[cycle(expression)]
-pub fn expression(source: &Source<'_>, state: &mut State, e: &Expr) -> Result<Operand, TypeFault>
-    ensures { (n : Namings) (env : Env) → Stands n source.now state.old env → UsesNothing env e.now.node → ReadsAlone n source.now env (spec.expr e.now) state.new result }
-{
+pub fn expression(source: &Source<'_>, state: &mut State, e: &Expr) -> Result<Operand, TypeFault> {
     let line = source.line(e.at);
     match &e.node {
         ExprNode::Name(at) => apply::named(source, state, *at),
@@ -85,9 +74,7 @@ fn unary(
     a: &Expr,
     op: UnaryOp,
     line: u32,
-) -> Result<Operand, TypeFault>
-    ensures { (n : Namings) (env : Env) (at : ℕ) → line ≡ line_of env at → Stands n source.now state.old env → UsesNothing env a.now.node → ReadsAlone n source.now env (spec.expr a.now >>= λ y. spec.made_modifying at (spec.unary op y)) state.new result }
-{
+) -> Result<Operand, TypeFault> {
     let a = expression(source, state, a)?;
     apply::unary(state, op, a, line)
 }
@@ -101,9 +88,7 @@ fn postfix(
     a: &Expr,
     op: PostOp,
     line: u32,
-) -> Result<Operand, TypeFault>
-    ensures { (n : Namings) (env : Env) (at : ℕ) → line ≡ line_of env at → Stands n source.now state.old env → UsesNothing env a.now.node → ReadsAlone n source.now env (spec.expr a.now >>= λ y. spec.made_modifying at (spec.postfix op y)) state.new result }
-{
+) -> Result<Operand, TypeFault> {
     let a = expression(source, state, a)?;
     apply::postfix(state, op, a, line)
 }
@@ -118,9 +103,7 @@ fn binary(
     op: BinaryOp,
     a: Operand,
     line: u32,
-) -> Result<Operand, TypeFault>
-    ensures { (n : Namings) (env : Env) (at : ℕ) → line ≡ line_of env at → Stands n source.now state.old env → UsesNothing env b.now.node → ReadsAlone n source.now env (spec.expr b.now >>= λ w. spec.made at (spec.binary op (operand_seen n a) w)) state.new result }
-{
+) -> Result<Operand, TypeFault> {
     let b = expression(source, state, b)?;
     apply::binary(state, op, a, b, line)
 }
@@ -135,9 +118,7 @@ fn assignment(
     op: AssignOp,
     a: Operand,
     line: u32,
-) -> Result<Operand, TypeFault>
-    ensures { (n : Namings) (env : Env) (at : ℕ) → line ≡ line_of env at → Stands n source.now state.old env → UsesNothing env b.now.node → ReadsAlone n source.now env (spec.expr b.now >>= λ w. spec.made_modifying at (spec.assigned op (operand_seen n a) w)) state.new result }
-{
+) -> Result<Operand, TypeFault> {
     let b = expression(source, state, b)?;
     apply::assignment(state, op, a, b, line)
 }
@@ -152,9 +133,7 @@ fn conditional(
     a: Operand,
     b: Operand,
     line: u32,
-) -> Result<Operand, TypeFault>
-    ensures { (n : Namings) (env : Env) (at : ℕ) → line ≡ line_of env at → Stands n source.now state.old env → UsesNothing env c.now.node → ReadsAlone n source.now env (spec.expr c.now >>= λ z. spec.made at (λ tags. chosen tags (operand_seen n a) (operand_seen n b) z)) state.new result }
-{
+) -> Result<Operand, TypeFault> {
     let c = expression(source, state, c)?;
     apply::conditional(state, a, b, c, line)
 }
@@ -168,9 +147,7 @@ fn subscript(
     b: &Expr,
     a: Operand,
     line: u32,
-) -> Result<Operand, TypeFault>
-    ensures { (n : Namings) (env : Env) (at : ℕ) → line ≡ line_of env at → Stands n source.now state.old env → UsesNothing env b.now.node → ReadsAlone n source.now env (spec.expr b.now >>= λ w. spec.made at (λ tags. indexed tags (operand_seen n a) w)) state.new result }
-{
+) -> Result<Operand, TypeFault> {
     let b = expression(source, state, b)?;
     apply::subscript(state, a, b, line)
 }
@@ -185,9 +162,7 @@ fn member(
     arrow: bool,
     name: u32,
     line: u32,
-) -> Result<Operand, TypeFault>
-    ensures { (n : Namings) (env : Env) (at : ℕ) → line ≡ line_of env at → Stands n source.now state.old env → UsesNothing env a.now.node → ReadsAlone n source.now env (spec.expr a.now >>= λ y. known >>= λ k. spec.made at (λ tags. member_by arrow tags y (spelling k name))) state.new result }
-{
+) -> Result<Operand, TypeFault> {
     let a = expression(source, state, a)?;
     apply::member(source, state, arrow, a, name, line)
 }

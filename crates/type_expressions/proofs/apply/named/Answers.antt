@@ -39,11 +39,12 @@ returns-in-Object-clause-alone c n env h unused =
     let o = an_object (slot_seen n.objects c.in-Object.slot) (qualified_of c.in-Object.qual) c.in-Object.register in
     let m = means n.objects t s env at c.symbol.result _ _ (Some o) c.symbol.ensures c.in-Object.is refl c.in_ok-slot.ensures in
     let a = is_automatic c.in-Object.slot n.objects (qualified_of c.in-Object.qual) c.in-Object.register (meaning_of here (symbol_of here at)) m
-    (unused_known n t s env at h unused) in
-    (from_known n t s env at c.object_operand.result h
-    (automatic_read n here at line c.in-Object.slot (qualified_of c.in-Object.qual) c.in-Object.register c.object_operand.result
-    (line_known n.objects t s env at line c.line-line.ensures) m a (c.object_operand.ensures.made n)),
-    stays n t s c.object_operand.new.state env h (c.object_operand.ensures.kept a))
+    (unused_known n t s env at h unused) in (
+      from_known n t s env at c.object_operand.result h
+          (automatic_read n here at line c.in-Object.slot (qualified_of c.in-Object.qual) c.in-Object.register c.object_operand.result
+          (line_known n.objects t s env at line c.line-line.ensures) m a (c.object_operand.ensures.made n)),
+      stays n t s c.object_operand.new.state env h (c.object_operand.ensures.kept a),
+    )
 
 pub returns-in-Function-clause-operand : goal.returns-in-Function-clause-operand
 returns-in-Function-clause-operand c n env =
@@ -88,13 +89,15 @@ returns-in-Constant-clause-alone c n env h unused =
     let s = c.args.state.now in
     let at = c.args.at in
     let line = c.line-line.result in
-    let here = known_by n.objects t s env in
-    (from_known n t s env at (Ok c.value.result) h (reads_by n _ here (named at here) (Ok c.value.result)
-    (constant_named here at line c.in-Constant.number (line_known n.objects t s env at line c.line-line.ensures)
-    (means n.objects t s env at c.symbol.result _ _ (Some (a_constant c.in-Constant.number)) c.symbol.ensures c.in-Constant.is refl
-    c.in_ok-slot.ensures))
-    (ap (λ x. Some x) (sym (constant_seen n c.value.result _ _ c.value.ensures
-    (c.integer.ensures ∙ ap (λ (z : ℤ). constant z (int Int) line) (to_z-of_z w128 c.in-Constant.number (search rules))))))), h)
+    let here = known_by n.objects t s env in (
+      from_known n t s env at (Ok c.value.result) h (reads_by n _ here (named at here) (Ok c.value.result)
+          (constant_named here at line c.in-Constant.number (line_known n.objects t s env at line c.line-line.ensures)
+          (means n.objects t s env at c.symbol.result _ _ (Some (a_constant c.in-Constant.number)) c.symbol.ensures c.in-Constant.is refl
+          c.in_ok-slot.ensures))
+          (ap (λ x. Some x) (sym (constant_seen n c.value.result _ _ c.value.ensures
+          (c.integer.ensures ∙ ap (λ (z : ℤ). constant z (int Int) line) (to_z-of_z w128 c.in-Constant.number (search rules))))))),
+      h,
+    )
 
 pub returns-in-Nothing-clause-operand : goal.returns-in-Nothing-clause-operand
 returns-in-Nothing-clause-operand c n env other =
@@ -106,6 +109,8 @@ returns-in-Nothing-clause-operand c n env other =
 pub returns-in-Nothing-clause-alone : goal.returns-in-Nothing-clause-alone
 returns-in-Nothing-clause-alone c n env h unused =
     let t = c.args.source.now in
-    let s = c.args.state.now in
-    (from_known n t s env c.args.at (Err (fault.NotTyped c.line-line.result UndeclaredName)) h (λ other. name_refused (known_by n.objects t s env) c.args.at
-    (means n.objects t s env c.args.at c.symbol.result _ _ None c.symbol.ensures c.in-Nothing.is refl c.in_ok-slot.ensures)), h)
+    let s = c.args.state.now in (
+      from_known n t s env c.args.at (Err (fault.NotTyped c.line-line.result UndeclaredName)) h (λ other. name_refused (known_by n.objects t s env) c.args.at
+          (means n.objects t s env c.args.at c.symbol.result _ _ None c.symbol.ensures c.in-Nothing.is refl c.in_ok-slot.ensures)),
+      h,
+    )
