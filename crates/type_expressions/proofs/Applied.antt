@@ -1,12 +1,10 @@
 -- Each form of expression is the same under other names of objects and literals (6.5).
-use Rattle.std.proofs.Common.{◌≡◌, ◌∙◌, refl, ap, sym, ℕ, Bool, true, false, List, [], ◌∷◌, map}
+use Rattle.std.proofs.Common.{◌≡◌, refl, ap, ℕ, Bool, true, false, List, [], ◌∷◌, map}
 use Rattle.std.specs.Prelude.{Option, Some, None}
-use Rattle.std.specs.Option.{option_map}
 use Rattle.c_ast.specs.declared.expression.UnaryOp.{UnaryOp}
 use Rattle.c_ast.specs.declared.expression.UnaryOp.TheVariants as u
 use Rattle.c_types.specs.declared.kind.BinOp.{BinOp}
 use Rattle.c_types.specs.declared.kind.BinOp.TheVariants.{Add, Sub}
-use Rattle.c_types.specs.declared.tags.Extent.{Extent}
 use Rattle.c_typed.specs.declared.tree.UnOp.TheVariants as unary_op
 use Rattle.type_operands.specs.Layouts.{Layouts}
 use Rattle.type_operands.specs.declared.operand.Operand.{Operand}

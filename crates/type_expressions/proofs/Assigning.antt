@@ -1,18 +1,16 @@
 -- Assignments, increments and decrements are the same under other names of objects and literals (6.5.16, 6.5.2.4, 6.5.3.1).
-use Rattle.std.proofs.Common.{◌≡◌, ◌∙◌, refl, ap, sym, ℕ, Bool, true, false}
-use Rattle.std.specs.Prelude.{not, ◌&&◌, if◌then◌else◌, pos, Option, Some, None}
+use Rattle.std.proofs.Common.{◌≡◌, ◌∙◌, refl, ap, ℕ, Bool, false}
+use Rattle.std.specs.Prelude.{not, ◌&&◌, if◌then◌else◌, Some, None}
 use Rattle.c_types.specs.declared.kind.IntKind.{IntKind}
 use Rattle.c_types.specs.declared.kind.BinOp.{BinOp}
 use Rattle.c_types.specs.Types.{CType, void, int, enumeration, pointer, array, struct, union, function, Qualified, kind_of}
 use Rattle.c_types.specs.Same.{same}
 use Rattle.c_typed.specs.Lawful.{is_shift}
-use Rattle.c_typed.specs.declared.tree.Change.TheVariants as change
-use Rattle.c_typed.specs.declared.tree.Node.TheOpen as shape
 use Rattle.type_operands.specs.Layouts.{Layouts}
 use Rattle.type_operands.specs.declared.operand.Form.{Form}
 use Rattle.type_operands.specs.declared.operand.Form.TheVariants as form
-use Rattle.type_operands.specs.Terms.{Term, term, type_at, line_at, constant, unary, binary, Expression, as_value, ◌>>=◌, map_option, unless_refused}
-use Rattle.type_operands.specs.Conversions.{target_of, is_pointer, value, promoted, access_of, to_kind, converted, converted_on}
+use Rattle.type_operands.specs.Terms.{Term, term, type_at, line_at, Expression, ◌>>=◌, map_option}
+use Rattle.type_operands.specs.Conversions.{target_of, is_pointer, value, promoted, access_of, to_kind}
 use Rattle.type_constants.specs.Constants.{is_null, null_pointer}
 use Rattle.type_conversions.specs.Assigned.{may_assign, assigned_value, takes_null, put_as, as_if_assigned, promoted_type, default_promoted}
 use Rattle.type_assignments.specs.Assignments.{Constants, Place, is_modifiable, modifiable_object, modifiable_as, modifiable, working_kind, right_operand}

@@ -1,20 +1,19 @@
 -- Calls, conditional expressions and commas are the same under other names of objects and literals (6.5.2.2, 6.5.15, 6.5.17).
-use Rattle.std.proofs.Common.{◌≡◌, ◌∙◌, refl, ap, sym, ℕ, Bool, true, false, List, [], ◌∷◌, map}
+use Rattle.std.proofs.Common.{◌≡◌, ◌∙◌, refl, ap, ℕ, Bool, true, false, List, [], ◌∷◌, map}
 use Rattle.std.specs.Prelude.{if◌then◌else◌, Option, Some, None}
-use Rattle.c_types.specs.Types.{CType, Params, none as no_parameter, more as parameter, void, int, enumeration, pointer, array, struct, union, function}
+use Rattle.c_types.specs.Types.{CType, Params, none as no_parameter, more as parameter, void, pointer, struct, union}
 use Rattle.c_types.specs.Same.{compatible}
 use Rattle.c_typed.specs.declared.tree.Node.TheOpen as shape
 use Rattle.type_operands.specs.Layouts.{Layouts}
-use Rattle.type_operands.specs.declared.operand.Form.{Form}
-use Rattle.type_operands.specs.Terms.{Term, Terms, term, none, more, type_at, before, Expression, as_value, ◌>>=◌, map_option, unless_refused}
+use Rattle.type_operands.specs.Terms.{Term, term, none, type_at, Expression, as_value, ◌>>=◌, map_option, unless_refused}
 use Rattle.type_operands.specs.Conversions.{value, balanced, converted, discarded, is_void_expression}
 use Rattle.type_conversions.specs.Casts.{truth}
 use Rattle.type_conversions.specs.Pairs.{matched}
 use Rattle.type_calls.specs.Calls.{argument, rest, where_none, arguments, callee, may_return, operands, called}
 use Rattle.type_calls.specs.Choices.{joint_pointer, choice, chosen_pointer, chosen_integer, chosen_whole, chosen_by, chosen_value, chosen_values}
-use Rattle.type_calls.specs.Choices.{chosen_as, chosen, Last, last, Sequence, alone, after, in_sequence, comma, sequenced}
+use Rattle.type_calls.specs.Choices.{chosen_as, chosen, Last, last, Sequence, alone, after, in_sequence, sequenced}
 use Rattle.type_expressions.specs.Seen.{Namings, term_seen, terms_seen, expression_seen}
-use Rattle.type_expressions.proofs.Values.{then_is, same_then, if_is, unless_is, type_is, as_value_is, before_is, value_is, balanced_seen, balanced_is}
+use Rattle.type_expressions.proofs.Values.{then_is, same_then, if_is, unless_is, type_is, before_is, value_is, balanced_seen, balanced_is}
 use Rattle.type_expressions.proofs.Values.{converted_is, discarded_is, is_void_is, truth_is, pair_seen, matched_is}
 use Rattle.type_expressions.proofs.Assigning.{as_if_assigned_is, default_promoted_is}
 

@@ -7,7 +7,7 @@ use Rattle.type_operands.specs.declared.operand.Operand.{Operand}
 use Rattle.type_operands.specs.Terms.{term_of}
 use Rattle.type_constants.specs.Constants.{integer_constant}
 use Rattle.type_values.specs.Enumerators.{enumerator}
-use Rattle.typing_env.specs.Env.{Env, Typing, and_then, found_in, a_constant}
+use Rattle.typing_env.specs.Env.{Env, and_then, found_in, a_constant}
 use Rattle.typing_env.specs.Names.{declare}
 use Rattle.typing_spec.specs.Expressions.{constant_of, enumerated}
 use Rattle.typing_spec.specs.Expressions as spec

@@ -10,8 +10,6 @@ use Rattle.c_types.specs.Types.{CType, kind_of}
 use Rattle.c_arith.specs.Operators as arithmetic
 use Rattle.c_typed.specs.declared.tree.Conversion.{Conversion}
 use Rattle.c_typed.specs.declared.tree.Conversion.TheVariants as conversion
-use Rattle.c_typed.specs.declared.tree.RelOp.{RelOp}
-use Rattle.c_typed.specs.declared.tree.EqOp.{EqOp}
 use Rattle.c_typed.specs.declared.tree.UnOp.{UnOp}
 use Rattle.c_typed.specs.declared.tree.UnOp.TheVariants as unary_op
 use Rattle.c_typed.specs.declared.tree.Slot.{Slot}

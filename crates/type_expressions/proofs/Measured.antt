@@ -1,15 +1,12 @@
 -- `sizeof` and `_Alignof` (6.5.3.4).
-use Rattle.std.proofs.Common.{◌≡◌, ◌∙◌, refl, sym, ap, ℕ}
-use Rattle.std.specs.Prelude.{pos, Option, Some, None}
+use Rattle.std.proofs.Common.{◌≡◌, ◌∙◌, sym, ap, ℕ}
+use Rattle.std.specs.Prelude.{Option, Some, None}
 use Rattle.c_types.specs.Layout as below
-use Rattle.c_types.specs.Types.{CType, int}
-use Rattle.c_types.specs.declared.kind.IntKind.TheVariants.{ULong}
+use Rattle.c_types.specs.Types.{CType}
 use Rattle.c_types.specs.declared.tags.Extent.{Extent}
-use Rattle.c_types.specs.declared.tags.Tag.{Tag}
-use Rattle.type_operands.specs.Terms.{Term, constant, as_value, expression_of}
+use Rattle.type_operands.specs.Terms.{Term, as_value, expression_of}
 use Rattle.type_operands.specs.declared.operand.Operand.{Operand}
-use Rattle.typing_env.specs.Env.{if_found}
-use Rattle.typing_spec.specs.Expressions.{unsigned_long, operand_type}
+use Rattle.typing_spec.specs.Expressions.{unsigned_long}
 use Rattle.type_scope.specs.declared.state.State.{State}
 use Rattle.type_expressions.specs.Forms.{measured_by}
 use Rattle.type_expressions.specs.Seen.{Namings, expression_seen, operand_seen}

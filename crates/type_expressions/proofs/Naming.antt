@@ -1,12 +1,12 @@
 -- What an identifier stands for in an expression (6.5.1p2, 6.7.2.2p3).
-use Rattle.std.proofs.Common.{◌≡◌, ◌≢◌, ◌∙◌, refl, sym, ap, subst, ℕ, Bool, false, List, [], append-nil}
-use Rattle.std.specs.Prelude.{ℤ, ◌++◌, slice_get, Option, Some, None, Result, Ok, Err, IfOk}
+use Rattle.std.proofs.Common.{◌≡◌, ◌∙◌, refl, sym, ap, subst, ℕ, Bool, false, List, [], append-nil}
+use Rattle.std.specs.Prelude.{ℤ, slice_get, Option, Some, None, Result, Ok, Err, IfOk}
 use Rattle.std.specs.Option.{option_map}
 use Rattle.std.proofs.lemmas.Option.{same_Some, none-some}
 use Rattle.ub_base.specs.declared.clause.NoMemory.{NoMemory}
 use Rattle.c_lex.specs.TokenText.{TokenText, line_at}
 use Rattle.c_types.specs.declared.kind.IntKind.TheVariants.{Int}
-use Rattle.c_types.specs.Types.{CType, Qualified, int, pointer, qualified_of, type_of}
+use Rattle.c_types.specs.Types.{CType, Qualified, int, pointer}
 use Rattle.c_typed.specs.declared.tree.Slot.{Slot}
 use Rattle.c_typed.specs.declared.tree.Slot.TheVariants as slot
 use Rattle.c_typed.specs.declared.tree.Node.TheOpen as shape
@@ -20,16 +20,14 @@ use Rattle.typing_spec.specs.Expressions.{named, named_as, using, use_of_object,
 use Rattle.type_scope.specs.Known.{Naming, known_by, with_tables, slot_seen, meaning_seen}
 use Rattle.type_scope.specs.Reads.{Reads, Follows}
 use Rattle.type_scope.specs.declared.fault.TypeFault.{TypeFault}
-use Rattle.type_scope.specs.declared.fault.TypeFault.TheVariants as fault
 use Rattle.type_scope.specs.declared.rows.Meaning as held
 use Rattle.type_scope.specs.declared.state.State.{State}
 use Rattle.type_scope.proofs.Seen.{symbol_is, meaning_is}
 use Rattle.type_declarators.specs.Finds.{Finds}
 use Rattle.type_expressions.specs.declared.apply.NameMeaning.{NameMeaning}
-use Rattle.type_expressions.specs.declared.apply.NameMeaning.TheVariants as name
 use Rattle.type_expressions.specs.Forms.{in_expression, name_seen}
 use Rattle.type_expressions.specs.Plain.{IsAutomatic, IsUnused, Stands}
-use Rattle.type_expressions.specs.Seen.{Namings, expression_seen, operand_seen}
+use Rattle.type_expressions.specs.Seen.{Namings, operand_seen}
 
 -- 1. What is found among the declarations in scope.
 

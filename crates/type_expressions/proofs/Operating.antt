@@ -1,23 +1,22 @@
 -- Operators on operands are the same under other names of objects and literals (6.5.2.1, 6.5.2.3, 6.5.3, 6.5.5 to 6.5.14).
-use Rattle.std.proofs.Common.{◌≡◌, ◌∙◌, refl, ap, sym, ℕ, Bool, true, false, List}
+use Rattle.std.proofs.Common.{◌≡◌, ◌∙◌, refl, ap, ℕ, Bool, true, false, List}
 use Rattle.std.specs.Prelude.{not, ◌||◌, if◌then◌else◌, Option, Some, None}
 use Rattle.c_types.specs.declared.kind.IntKind.{IntKind}
-use Rattle.c_types.specs.declared.kind.IntKind.TheVariants.{Int, Long}
+use Rattle.c_types.specs.declared.kind.IntKind.TheVariants.{Int}
 use Rattle.c_types.specs.declared.kind.BinOp.{BinOp}
 use Rattle.c_types.specs.declared.kind.BinOp.TheVariants.{Add, Sub}
 use Rattle.c_types.specs.Layout.{extent}
-use Rattle.c_types.specs.Types.{CType, int, pointer, Qualified, kind_of}
+use Rattle.c_types.specs.Types.{int, Qualified, kind_of}
 use Rattle.c_types.specs.Same.{compatible}
 use Rattle.c_typed.specs.declared.tree.RelOp.{RelOp}
 use Rattle.c_typed.specs.declared.tree.EqOp.{EqOp}
 use Rattle.c_typed.specs.declared.tree.UnOp.{UnOp}
-use Rattle.c_typed.specs.declared.tree.UnOp.TheVariants as unary_op
 use Rattle.c_typed.specs.declared.tree.Node.TheOpen as shape
 use Rattle.type_operands.specs.Layouts.{Layouts}
 use Rattle.type_operands.specs.declared.operand.Form.{Form}
 use Rattle.type_operands.specs.declared.operand.Form.TheVariants as form
-use Rattle.type_operands.specs.Terms.{Term, term, type_at, unary, binary, Expression, as_value, as_place, ◌>>=◌, map_option, unless_refused}
-use Rattle.type_operands.specs.Conversions.{target_of, is_pointer, may_meet, value, promoted, Integer, balanced, step}
+use Rattle.type_operands.specs.Terms.{Term, term, type_at, binary, Expression, as_value, as_place, ◌>>=◌, map_option, unless_refused}
+use Rattle.type_operands.specs.Conversions.{target_of, is_pointer, may_meet, value, promoted, balanced, step}
 use Rattle.type_conversions.specs.Casts.{truth}
 use Rattle.type_conversions.specs.Pairs.{matched}
 use Rattle.type_operators.specs.Operators.{in_common, arithmetic, multiplied, shifted, plus, of_promoted, inverted, moved, moved_value, sum, added}

@@ -1,6 +1,6 @@
 -- What an operator makes, and how its refusal is told of the text.
-use Rattle.std.proofs.Common.{◌≡◌, ◌≢◌, refl, sym, ap, ◌∙◌, subst}
-use Rattle.std.specs.Prelude.{Option, Some, None, Result, Ok, Err}
+use Rattle.std.proofs.Common.{◌≡◌, sym, ap, ◌∙◌, subst}
+use Rattle.std.specs.Prelude.{Option, Result, Ok, Err}
 use Rattle.std.specs.Result.{result_map_both}
 use Rattle.type_reasons.specs.declared.refused.Refused.{Refused}
 use Rattle.type_reasons.specs.declared.refused.Refused.TheVariants as refused

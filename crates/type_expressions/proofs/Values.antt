@@ -1,24 +1,23 @@
 -- Conversions are the same under other names of objects and literals (6.3).
-use Rattle.std.proofs.Common.{◌≡◌, ◌∙◌, refl, ap, sym, ℕ, Bool, true, false}
-use Rattle.std.specs.Prelude.{not, ◌&&◌, if◌then◌else◌, Option, Some, None}
+use Rattle.std.proofs.Common.{◌≡◌, ◌∙◌, refl, ap, ℕ, Bool, true, false}
+use Rattle.std.specs.Prelude.{◌&&◌, if◌then◌else◌, Option, Some, None}
 use Rattle.c_types.specs.declared.kind.IntKind.{IntKind}
 use Rattle.c_types.specs.Kinds as kinds
-use Rattle.c_types.specs.Types.{CType, void, int, enumeration, pointer, array, struct, union, function, kind_of}
+use Rattle.c_types.specs.Types.{CType, int, kind_of}
 use Rattle.c_types.specs.Same.{same}
-use Rattle.c_typed.specs.declared.tree.Conversion.{Conversion}
 use Rattle.c_typed.specs.declared.tree.Conversion.TheVariants as conversion
 use Rattle.c_typed.specs.declared.tree.Node.TheOpen as shape
 use Rattle.c_typed.specs.Sites.{Head}
 use Rattle.type_operands.specs.Layouts.{Layouts}
 use Rattle.type_operands.specs.declared.operand.Form.{Form}
 use Rattle.type_operands.specs.declared.operand.Form.TheVariants as form
-use Rattle.type_operands.specs.Terms.{Term, Terms, term, none, more, before, type_at, line_at, retyped, unary, Expression, as_value, as_place}
+use Rattle.type_operands.specs.Terms.{Term, Terms, term, before, type_at, line_at, retyped, unary, Expression, as_value, as_place}
 use Rattle.type_operands.specs.Terms.{◌>>=◌, map_option, unless_refused}
 use Rattle.type_operands.specs.Conversions.{target_of, is_pointer, is_scalar, is_void_target, Use, loads, decays, use_behind, put_to_use, value_as}
 use Rattle.type_operands.specs.Conversions.{value, as_kind, to_kind, Integer, in_kind, promoted, Balanced, usual_kind, balanced, conversion_to}
 use Rattle.type_operands.specs.Conversions.{converted_on, unused, without_use, discarded_value, discarded_as, discarded, void_as, is_void_expression}
 use Rattle.type_constants.specs.Constants.{null_as, is_null, null_pointer}
-use Rattle.type_conversions.specs.Casts.{truth, null_form, null_cast, scalar_cast, void_cast, cast, is_void_pointer}
+use Rattle.type_conversions.specs.Casts.{truth, null_cast, scalar_cast, void_cast, cast}
 use Rattle.type_conversions.specs.Pairs.{beside, matched}
 use Rattle.type_operands.specs.Conversions.{is_void}
 use Rattle.type_expressions.specs.Seen.{Namings, head_seen, term_seen, terms_seen, expression_seen}

@@ -1,6 +1,6 @@
 use Rattle.type_scope.specs.Known.{known_by}
 use Rattle.type_expressions.proofs.Constants.{no_enumerator, enumerated_found, not_declared}
-use Rattle.std.proofs.Common.{◌≡◌, sym, ap, ◌∙◌, rules}
+use Rattle.std.proofs.Common.{sym, ap, ◌∙◌, rules}
 use Rattle.std.specs.Prelude.{ℤ, Some}
 use Rattle.std.specs.Int.{w32, w128}
 use Rattle.std.proofs.lemmas.Int.{to_z-of_z}

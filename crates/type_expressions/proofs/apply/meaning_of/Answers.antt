@@ -1,4 +1,3 @@
-use Rattle.std.proofs.Common.{◌∙◌}
 use Rattle.type_expressions.proofs.Naming.{copied_is, none_is}
 use Rattle.type_expressions.proofs.apply.meaning_of.Goals as goal
 
