@@ -1,0 +1,11 @@
+pub mod Applied
+pub mod Assigning
+pub mod Calling
+pub mod Constants
+pub mod Folding
+pub mod Measured
+pub mod Naming
+pub mod Operating
+pub mod Standing
+pub mod Told
+pub mod Values

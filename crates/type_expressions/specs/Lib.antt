@@ -1,0 +1,4 @@
+pub mod Forms
+pub mod Plain
+pub mod Seen
+pub mod Standing

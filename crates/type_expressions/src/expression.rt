@@ -6,15 +6,13 @@ use c_ast::{
     Specs, TypeName, UnaryOp,
 };
 use c_types::Qual;
-use type_constants::integer_constant;
 use type_declarators::declarator::{Declared, Derivation};
 use type_declarators::tag::MemberList;
 use type_declarators::words::{Storage, Words, read_words};
-use type_declarators::{constants, declarator, literal, tag};
+use type_declarators::{declarator, literal, tag};
 use type_operands::Operand;
 use type_reasons::Reason;
-use type_scope::{Meaning, Source, State, TypeFault};
-use type_values::enumerator;
+use type_scope::{Source, State, TypeFault};
 use ub_base::Items;
 
 /// An expression (6.5). What follows a first operand is read by a function of its own that isn't inlined, so that a level of
@@ -249,10 +247,7 @@ pub fn constant(
     let mark = state.mark();
     let operand = expression(source, state, e)?;
     state.forget_literals(mark);
-    match integer_constant(&operand.tree) {
-        Some(number) if declarator::is_value(&operand) => Ok(number),
-        _ => Err(source.fault(e.at, constants::refusal(&operand, reason))),
-    }
+    apply::constant_of(source, &operand, e.at, reason)
 }
 
 /// A type name; `at` is a token near it (6.7.7).
@@ -390,11 +385,7 @@ fn enumerated(
             None => None,
             Some(value) => Some(constant(source, state, value, Reason::EnumeratorValue)?),
         };
-        let Some(number) = enumerator(value, before) else {
-            return Err(source.fault(e.name, constants::enumerator_refusal(value)));
-        };
-        state.declare(source, e.name, Meaning::Constant(i128::from(number)))?;
-        before = Some(number);
+        before = Some(apply::enumeration_constant(source, state, e.name, value, before)?);
     }
     Ok(())
 }

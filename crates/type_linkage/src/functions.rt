@@ -1,15 +1,16 @@
 // Declarations of functions (6.2.2, 6.7p3, 6.7.6.3p15, 7.1.3).
-ghost use Rattle.std.specs.Prelude.{◌≡◌, None, true, vec_len, slice_get, Some, IfOk, OnOk};
+ghost use Rattle.std.specs.Prelude.{◌≡◌, ◌≢◌, ℕ, List, None, true, false, vec_len, slice_get, Some, IfOk, OnOk};
 ghost use Rattle.std.specs.Option.{option_map};
 ghost use Rattle.c_lex.specs.TokenText.{TokenText, text_at};
 ghost use Rattle.c_types.specs.Types.{qualified_of, signature_of, composite_signature};
 ghost use Rattle.c_types.specs.declared.ty.FuncTy.{FuncTy};
 ghost use Rattle.c_typed.specs.declared.tree.Target.TheVariants as target;
-ghost use Rattle.typing_env.specs.Env.{Env, a_function, symbol_in};
+ghost use Rattle.typing_env.specs.Env.{Env, Use, a_function, symbol_in};
 ghost use Rattle.typing_env.specs.Names as names;
 ghost use Rattle.type_scope.specs.Known.{Naming, known_by, linked_seen, routine_by, routine_seen};
 ghost use Rattle.type_scope.specs.Reads.{Reads};
 ghost use Rattle.type_scope.specs.Objects.{IsOneToOne};
+ghost use Rattle.type_scope.specs.Uses.{is_used, HasUses};
 ghost use Rattle.type_linkage.specs.Linkage.{given_of, prior_in};
 
 use crate::library::{library_function, library_type};
@@ -74,7 +75,8 @@ fn new_row(
     internal: bool,
     library: Option<LibFunc>,
 ) -> Result<FunctionRow, NoMemory>
-    ensures { IfOk result (λ row. routine_seen row ≡ names.new_function (signature_of ty.now) library) }
+    ensures seen { IfOk result (λ row. routine_seen row ≡ names.new_function (signature_of ty.now) library) }
+    ensures unused { IfOk result (λ row. row.used ≡ None) }
 {
     let copy = copied_function(alloc, ty)?;
     let definition = first_definition(library);
@@ -89,6 +91,8 @@ fn new_row(
 fn add_function(state: &mut State, row: FunctionRow) -> Result<u32, NoMemory>
     ensures number { IfOk result (λ number. number ≡ vec_len state.old.functions) }
     ensures known { OnOk result ((n : Naming) (t : TokenText) (env : Env) → known_by n t state.new env ≡ names.with_function (routine_seen row) (known_by n t state.old env)) }
+    ensures uses { OnOk result (row.used ≡ None → (n : Naming) (us : List Use) → is_used (target.Function (vec_len state.old.functions)) us ≡ false → HasUses n state.old us → HasUses n state.new us) }
+    ensures rest { state.new ≡ record state.old { functions = state.new.functions } }
 {
     let Ok(number) = u32::try_from(state.functions.len()) else {
         return Err(NoMemory);
@@ -107,6 +111,8 @@ fn new_function(
 ) -> Result<u32, NoMemory>
     ensures number { IfOk result (λ number. number ≡ vec_len state.old.functions) }
     ensures known { IfOk result (λ number. (n : Naming) (t : TokenText) (env : Env) → known_by n t state.new env ≡ names.with_link symbol internal (target.Function number) (qualified_of qual.now) (names.with_function (names.new_function (signature_of ty.now) library) (known_by n t state.old env))) }
+    ensures uses { OnOk result ((n : Naming) (us : List Use) → is_used (target.Function (vec_len state.old.functions)) us ≡ false → HasUses n state.old us → HasUses n state.new us) }
+    ensures rest { state.new ≡ record state.old { linked = state.new.linked; functions = state.new.functions } }
 {
     let row = new_row(state.alloc, ty, internal, library)?;
     let number = add_function(state, row)?;
@@ -129,7 +135,8 @@ fn joined_functions(alloc: Global, old: &FuncTy, new: &FuncTy) -> Result<FuncTy,
 
 // Gives the function the composite of its type so far and this one.
 fn join_row(alloc: Global, row: &mut FunctionRow, ty: &FuncTy) -> Result<(), NoMemory>
-    ensures { OnOk result (routine_seen row.new ≡ names.further_type (signature_of ty.now) (routine_seen row.old)) }
+    ensures seen { OnOk result (routine_seen row.new ≡ names.further_type (signature_of ty.now) (routine_seen row.old)) }
+    ensures used { row.new.used ≡ row.old.used }
 {
     let joined = joined_functions(alloc, &row.ty, ty)?;
     row.ty = joined;
@@ -137,7 +144,9 @@ fn join_row(alloc: Global, row: &mut FunctionRow, ty: &FuncTy) -> Result<(), NoM
 }
 
 fn join_function(state: &mut State, number: u32, ty: &FuncTy) -> Result<(), NoMemory>
-    ensures { OnOk result ((n : Naming) (t : TokenText) (env : Env) → known_by n t state.new env ≡ names.changing_function number (names.further_type (signature_of ty.now)) (known_by n t state.old env)) }
+    ensures uses { OnOk result ((n : Naming) (us : List Use) → HasUses n state.old us → HasUses n state.new us) }
+    ensures rest { state.new ≡ record state.old { functions = state.new.functions } }
+    ensures known { OnOk result ((n : Naming) (t : TokenText) (env : Env) → known_by n t state.new env ≡ names.changing_function number (names.further_type (signature_of ty.now)) (known_by n t state.old env)) }
 {
     let alloc = state.alloc;
     match state.functions.get_mut(number as usize) {
@@ -154,14 +163,17 @@ fn further_function(
     ty: &FuncTy,
     qual: &Qual,
 ) -> Result<(), NoMemory>
-    ensures { OnOk result ((n : Naming) (t : TokenText) (env : Env) → known_by n t state.new env ≡ names.changing_function number (names.further_type (signature_of ty.now)) (names.with_further symbol (qualified_of qual.now) (known_by n t state.old env))) }
+    ensures uses { OnOk result ((n : Naming) (us : List Use) → HasUses n state.old us → HasUses n state.new us) }
+    ensures rest { state.new ≡ record state.old { linked = state.new.linked; functions = state.new.functions } }
+    ensures known { OnOk result ((n : Naming) (t : TokenText) (env : Env) → known_by n t state.new env ≡ names.changing_function number (names.further_type (signature_of ty.now)) (names.with_further symbol (qualified_of qual.now) (known_by n t state.old env))) }
 {
     note_type(state, symbol, qual)?;
     join_function(state, number, ty)
 }
 
 fn bind_function(state: &mut State, symbol: u32, number: u32, seen: Qual) -> Result<(), NoMemory>
-    ensures { OnOk result ((n : Naming) (t : TokenText) (env : Env) → known_by n t state.new env ≡ names.bound symbol (a_function number (qualified_of seen).ty) (known_by n t state.old env)) }
+    ensures rest { state.new ≡ record state.old { names = state.new.names } }
+    ensures known { OnOk result ((n : Naming) (t : TokenText) (env : Env) → known_by n t state.new env ≡ names.bound symbol (a_function number (qualified_of seen).ty) (known_by n t state.old env)) }
 {
     let meaning = Meaning::Function {
         number,
@@ -179,7 +191,9 @@ fn function_number(
     linkage: Linkage,
     library: Option<LibFunc>,
 ) -> Result<u32, TypeFault>
-    ensures { (n : Naming) → IsOneToOne n → (env : Env) → library ≡ names.library_of (names.is_internal (given_of linkage) (option_map (linked_seen n) (prior_in state.old (symbol_in source.now (slice_get source.now.list at))))) (text_at source.now at) → names.fits_library (signature_of ty.now) library ≡ true → Reads (λ number. number) (names.declare_function at (signature_of ty.now) (given_of linkage) (known_by n source.now state.old env)) result (known_by n source.now state.new env) }
+    ensures uses { OnOk result ((n : Naming) (us : List Use) → is_used (target.Function (vec_len state.old.functions)) us ≡ false → HasUses n state.old us → HasUses n state.new us) }
+    ensures rest { state.new ≡ record state.old { names = state.new.names; linked = state.new.linked; functions = state.new.functions } }
+    ensures reads { (n : Naming) → IsOneToOne n → (env : Env) → library ≡ names.library_of (names.is_internal (given_of linkage) (option_map (linked_seen n) (prior_in state.old (symbol_in source.now (slice_get source.now.list at))))) (text_at source.now at) → names.fits_library (signature_of ty.now) library ≡ true → Reads (λ number. number) (names.declare_function at (signature_of ty.now) (given_of linkage) (known_by n source.now state.old env)) result (known_by n source.now state.new env) }
 {
     let qual = function_qual(state.alloc, ty)?;
     let found = match redeclared(state, source, at, &qual, linkage) {
@@ -212,7 +226,9 @@ pub fn declare_function(
     ty: FuncTy,
     linkage: Linkage,
 ) -> Result<u32, TypeFault>
-    ensures { (n : Naming) → IsOneToOne n → (env : Env) → Reads (λ number. number) (names.declare_function at (signature_of ty) (given_of linkage) (known_by n source.now state.old env)) result (known_by n source.now state.new env) }
+    ensures uses { OnOk result ((n : Naming) (us : List Use) → is_used (target.Function (vec_len state.old.functions)) us ≡ false → HasUses n state.old us → HasUses n state.new us) }
+    ensures rest { state.new ≡ record state.old { names = state.new.names; linked = state.new.linked; functions = state.new.functions } }
+    ensures reads { (n : Naming) → IsOneToOne n → (env : Env) → Reads (λ number. number) (names.declare_function at (signature_of ty) (given_of linkage) (known_by n source.now state.old env)) result (known_by n source.now state.new env) }
 {
     let internal = is_internal(linkage, prior(state, source.symbol(at)));
     let library = library_of(source.spelling(at), internal);

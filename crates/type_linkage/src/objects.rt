@@ -1,14 +1,16 @@
 // Declarations of objects whose identifiers have linkage, and static objects of blocks (6.2.2, 6.7p3, 6.9.2).
-ghost use Rattle.std.specs.Prelude.{◌≡◌, ◌≢◌, ℕ, None, false, true, Some, IfOk, OnOk, is_some};
+ghost use Rattle.std.specs.Prelude.{◌≡◌, ◌≢◌, ℕ, List, None, false, true, Some, IfOk, OnOk, is_some};
 ghost use Rattle.c_lex.specs.TokenText.{TokenText};
 ghost use Rattle.c_types.specs.Types.{qualified_of};
 ghost use Rattle.c_typed.specs.declared.tree.Slot.TheVariants as slot;
+ghost use Rattle.c_typed.specs.declared.tree.Target.{Target as TheTarget};
 ghost use Rattle.c_typed.specs.declared.tree.Target.TheVariants as target;
-ghost use Rattle.typing_env.specs.Env.{Env, Object, an_object};
+ghost use Rattle.typing_env.specs.Env.{Env, Object, Use, an_object};
 ghost use Rattle.typing_env.specs.Names as names;
 ghost use Rattle.type_scope.specs.Known.{Naming, known_by, target_seen, IsKnown};
 ghost use Rattle.type_scope.specs.Reads.{Follows};
 ghost use Rattle.type_scope.specs.Objects.{IsOneToOne, IsRowOf, HasPlaces, HasObjects, row_in};
+ghost use Rattle.type_scope.specs.Uses.{is_used, IsUsedObject, HasUses};
 ghost use Rattle.type_linkage.specs.Linkage.{given_of, if_held, entity_in, IsNamedOk, IsNamed, static_declared};
 
 use crate::linkage::{
@@ -34,6 +36,7 @@ fn put_object_type(state: &mut State, number: u32, qual: Qual)
     ensures row { (o : Object) → IsRowOf o (row_in state.old number) → IsRowOf (record o { qual = qualified_of qual }) (row_in state.new number) }
     ensures others { (m : ℕ) → m ≢ number → row_in state.new m ≡ row_in state.old m }
     ensures places { HasPlaces state.old → HasPlaces state.new }
+    ensures used { (t : TheTarget) (us : List Use) → IsUsedObject t us (row_in state.old number) → IsUsedObject t us (row_in state.new number) }
 {
     if let Some(row) = state.objects.get_mut(number as usize) {
         row.qual = qual;
@@ -44,6 +47,7 @@ fn put_object_type(state: &mut State, number: u32, qual: Qual)
 fn set_object_type(state: &mut State, number: u32, qual: Qual)
     ensures rest { state.new ≡ record state.old { objects = state.new.objects } }
     ensures rows { (n : Naming) → IsOneToOne n → (env : Env) → HasObjects n state.old env → HasObjects n state.new (names.changing_object (n number) (λ o. record o { qual = qualified_of qual }) env) }
+    ensures uses { (n : Naming) (us : List Use) → HasUses n state.old us → HasUses n state.new us }
 {
     put_object_type(state, number, qual);
 }
@@ -51,6 +55,8 @@ fn set_object_type(state: &mut State, number: u32, qual: Qual)
 fn new_object(state: &mut State, symbol: u32, qual: &Qual, internal: bool) -> Result<u32, NoMemory>
     ensures known { IfOk result (λ number. (n : Naming) (t : TokenText) (env : Env) → known_by n t state.new env ≡ names.with_link symbol internal (target_seen n (target.Static number)) (qualified_of qual.now) (known_by n t state.old env)) }
     ensures rows { IfOk result (λ number. (n : Naming) → IsOneToOne n → (env : Env) (at : ℕ) → HasObjects n state.old env → names.object_named at env.objects ≡ None → n number ≡ at → HasObjects n state.new (names.with_object (names.new_object at (qualified_of qual.now)) env)) }
+    ensures uses { IfOk result (λ number. (n : Naming) (us : List Use) → HasPlaces state.old → is_used (target.Static (n number)) us ≡ false → HasUses n state.old us → HasUses n state.new us) }
+    ensures rest { state.new ≡ record state.old { linked = state.new.linked; objects = state.new.objects; declared = state.new.declared } }
 {
     let alloc = state.alloc;
     let number = state.add_object(ObjectRow::new(alloc, copied_qual(alloc, qual)?, internal))?;
@@ -68,6 +74,8 @@ fn further_object(
 ) -> Result<(), NoMemory>
     ensures known { OnOk result ((n : Naming) (t : TokenText) (env : Env) → known_by n t state.new env ≡ names.with_further symbol (qualified_of qual.now) (known_by n t state.old env)) }
     ensures rows { OnOk result ((n : Naming) → IsOneToOne n → (env : Env) → env.depth ≡ state.old.names.depth → HasObjects n state.old env → HasObjects n state.new (names.file_type (n number) (qualified_of seen.now) env)) }
+    ensures uses { OnOk result ((n : Naming) (us : List Use) → HasUses n state.old us → HasUses n state.new us) }
+    ensures rest { state.new ≡ record state.old { linked = state.new.linked; objects = state.new.objects } }
 {
     note_type(state, symbol, qual)?;
     if state.names.is_file() {
@@ -99,6 +107,8 @@ fn object_number(
 ) -> Result<u32, TypeFault>
     ensures reads { (n : Naming) → IsOneToOne n → IsNamed n source.now at state.old result → (env : Env) → IsKnown n source.now state.old env → Follows n (IsKnown n source.now state.new) (names.declare_object at (qualified_of qual.now) (given_of linkage) env) result }
     ensures rows { (n : Naming) → IsOneToOne n → IsNamed n source.now at state.old result → (env : Env) → IsKnown n source.now state.old env → HasObjects n state.old env → names.object_named at env.objects ≡ None → Follows n (HasObjects n state.new) (names.declare_object at (qualified_of qual.now) (given_of linkage) env) result }
+    ensures uses { OnOk result ((n : Naming) → IsNamed n source.now at state.old result → (us : List Use) → HasPlaces state.old → is_used (target.Static at) us ≡ false → HasUses n state.old us → HasUses n state.new us) }
+    ensures rest { state.new ≡ record state.old { names = state.new.names; linked = state.new.linked; objects = state.new.objects; declared = state.new.declared } }
 {
     let found = match redeclared(state, source, at, qual, linkage) {
         Ok(found) => found,
@@ -132,6 +142,8 @@ pub fn declare_object(
 ) -> Result<u32, TypeFault>
     ensures reads { (n : Naming) → IsOneToOne n → IsNamed n source.now at state.old result → (env : Env) → IsKnown n source.now state.old env → Follows n (IsKnown n source.now state.new) (names.declare_object at (qualified_of qual) (given_of linkage) env) result }
     ensures rows { (n : Naming) → IsOneToOne n → IsNamed n source.now at state.old result → (env : Env) → IsKnown n source.now state.old env → HasObjects n state.old env → names.object_named at env.objects ≡ None → Follows n (HasObjects n state.new) (names.declare_object at (qualified_of qual) (given_of linkage) env) result }
+    ensures uses { OnOk result ((n : Naming) → IsNamed n source.now at state.old result → (us : List Use) → HasPlaces state.old → is_used (target.Static at) us ≡ false → HasUses n state.old us → HasUses n state.new us) }
+    ensures rest { state.new ≡ record state.old { names = state.new.names; linked = state.new.linked; objects = state.new.objects; declared = state.new.declared } }
 {
     object_number(state, source, at, &qual, linkage)
 }
@@ -169,6 +181,8 @@ pub fn complete_object(
 ) -> Result<(), NoMemory>
     ensures known { OnOk result ((n : Naming) → IsOneToOne n → (t : TokenText) (env : Env) → known_by n t state.new env ≡ names.renamed symbol (an_object (slot.Static (n number)) (qualified_of qual.now) false) (names.with_further_of (target.Static (n number)) symbol (qualified_of qual.now) (known_by n t state.old env))) }
     ensures rows { OnOk result ((n : Naming) → IsOneToOne n → (env : Env) → HasObjects n state.old env → HasObjects n state.new (names.changing_object (n number) (λ o. record o { qual = qualified_of qual.now }) env)) }
+    ensures uses { OnOk result ((n : Naming) (us : List Use) → HasUses n state.old us → HasUses n state.new us) }
+    ensures rest { state.new ≡ record state.old { names = state.new.names; linked = state.new.linked; objects = state.new.objects } }
 {
     let alloc = state.alloc;
     set_object_type(state, number, copied_qual(alloc, qual)?);
@@ -191,6 +205,8 @@ pub fn declare_local_static(
 ) -> Result<u32, TypeFault>
     ensures reads { (n : Naming) → IsNamedOk n at result → (env : Env) → IsKnown n source.now state.old env → Follows (λ number. tt) (IsKnown n source.now state.new) (static_declared at (qualified_of qual) env) result }
     ensures rows { (n : Naming) → IsOneToOne n → IsNamedOk n at result → (env : Env) → IsKnown n source.now state.old env → HasObjects n state.old env → names.object_named at env.objects ≡ None → Follows (λ number. tt) (HasObjects n state.new) (static_declared at (qualified_of qual) env) result }
+    ensures uses { OnOk result ((n : Naming) → IsNamedOk n at result → (us : List Use) → HasPlaces state.old → is_used (target.Static at) us ≡ false → HasUses n state.old us → HasUses n state.new us) }
+    ensures rest { state.new ≡ record state.old { names = state.new.names; objects = state.new.objects; declared = state.new.declared; defined = state.new.defined } }
 {
     let alloc = state.alloc;
     let copy = copied_qual(alloc, &qual)?;

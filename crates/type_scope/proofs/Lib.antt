@@ -1,7 +1,9 @@
 pub mod Blocks
 pub mod Labels
 pub mod Nested
+pub mod Numbered
 pub mod Objects
 pub mod Seen
 pub mod Strings
 pub mod Symbols
+pub mod Uses

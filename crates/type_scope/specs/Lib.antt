@@ -2,8 +2,10 @@ pub mod Faults
 pub mod InScope
 pub mod Known
 pub mod Labels
+pub mod Numbered
 pub mod Objects
 pub mod Reads
 pub mod Strings
 pub mod Tagged
+pub mod Uses
 pub mod Working

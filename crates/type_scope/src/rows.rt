@@ -1,8 +1,11 @@
 // What names stand for.
-ghost use Rattle.std.specs.Prelude.{ℕ, Some};
+ghost use Rattle.std.specs.Prelude.{ℕ, ◌≡◌, ◌&&◌, true, is_some, List, [], ◌∷◌, ◌++◌, Option, Some};
 ghost use Rattle.c_types.specs.Types.{qualified_of};
+ghost use Rattle.c_typed.specs.declared.tree.Target.{Target as TheTarget};
+ghost use Rattle.typing_env.specs.Env.{Use};
 ghost use Rattle.typing_env.specs.Names.{new_object};
 ghost use Rattle.type_scope.specs.Objects.{IsRowOf};
+ghost use Rattle.type_scope.specs.Uses.{has_count, fits_noted, IsUsedObject, IsUnused};
 
 use c_typed::{Body, Constant, Slot, Target};
 use c_types::{FuncTy, LibFunc, Qual, TagKind, Ty};
@@ -72,11 +75,30 @@ pub struct ObjectRow {
     pub counted: Option<CountedUse>,
 }
 
-/// A use of an object as an array of so many elements, and its line.
+/// The first use of an object as an array of so many elements, its line, and whether a later use says another number.
 #[derive(Clone, Copy, Debug, PartialEq, Eq)]
 pub struct CountedUse {
     pub count: u64,
     pub line: u32,
+    pub others: bool,
+}
+
+// A use as an array of so many elements, behind the uses before.
+fn counted_with(before: Option<CountedUse>, count: u64, line: u32) -> CountedUse
+    ensures { (n : Option ℕ) → fits_noted (Some result) n ≡ (fits_noted before n && has_count (Some count) n) }
+{
+    match before {
+        None => CountedUse {
+            count,
+            line,
+            others: false,
+        },
+        Some(first) => CountedUse {
+            count: first.count,
+            line: first.line,
+            others: first.others || first.count != count,
+        },
+    }
 }
 
 /// Where a function is defined.
@@ -101,10 +123,31 @@ pub struct FunctionRow {
     pub used: Option<u32>,
 }
 
+// The line of the first use, with one more on this line.
+fn used_on(before: Option<u32>, line: u32) -> Option<u32>
+    ensures { is_some result ≡ true }
+{
+    match before {
+        Some(first) => Some(first),
+        None => Some(line),
+    }
+}
+
+// The first use as an array of known size, with a use behind those before.
+fn counted_on(before: Option<CountedUse>, count: Option<u64>, line: u32) -> Option<CountedUse>
+    ensures { (n : Option ℕ) → fits_noted result n ≡ (fits_noted before n && has_count count n) }
+{
+    match count {
+        Some(count) => Some(counted_with(before, count, line)),
+        None => before,
+    }
+}
+
 impl ObjectRow {
     /// An object of this type that isn't defined yet.
     pub fn new(alloc: Global, qual: Qual, internal: bool) -> ObjectRow
-        ensures { (name : ℕ) → IsRowOf (new_object name (qualified_of qual)) (Some result) }
+        ensures row { (name : ℕ) → IsRowOf (new_object name (qualified_of qual)) (Some result) }
+        ensures unused { IsUnused result }
     {
         ObjectRow {
             qual,
@@ -119,14 +162,21 @@ impl ObjectRow {
     }
 
     /// Notes a use on this line, as an array of so many elements where that is known.
-    pub fn use_on(&mut self, line: u32, count: Option<u64>) {
-        if self.used.is_none() {
-            self.used = Some(line);
-        }
-        if let Some(count) = count
-            && self.counted.is_none()
-        {
-            self.counted = Some(CountedUse { count, line });
-        }
+    pub fn use_on(&mut self, line: u32, count: Option<u64>)
+        ensures rest { self.new ≡ record self.old { used = self.new.used; counted = self.new.counted } }
+        ensures uses { (t : TheTarget) (us : List Use) → IsUsedObject t us (Some self.old) → IsUsedObject t (us ++ record { target = t; count = count } ∷ []) (Some self.new) }
+    {
+        self.used = used_on(self.used, line);
+        self.counted = counted_on(self.counted, count, line);
+    }
+}
+
+impl FunctionRow {
+    /// Notes a use on this line.
+    pub fn use_on(&mut self, line: u32)
+        ensures rest { self.new ≡ record self.old { used = self.new.used } }
+        ensures used { is_some self.new.used ≡ true }
+    {
+        self.used = used_on(self.used, line);
     }
 }

@@ -1,11 +1,18 @@
 // All that is declared so far.
-ghost use Rattle.std.specs.Prelude.{◌≡◌, ◌≢◌, ℕ, ◌<◌, length, vec_len, Some, None, IfOk, OnOk, OnErr};
+ghost use Rattle.std.specs.Prelude.{◌≡◌, ◌≢◌, ℕ, ◌<◌, ◌≤◌, ◌∷◌, ◌++◌, [], true, false, List, Option, length, map, take, slice_get, vec_len, Some, None, IfOk, OnOk, OnErr};
+ghost use Rattle.std.specs.List.{All};
 ghost use Rattle.c_lex.specs.TokenText.{TokenText};
+ghost use Rattle.c_types.specs.Types.{type_of};
 ghost use Rattle.c_typed.specs.Lawful.{HasBytes};
-ghost use Rattle.typing_env.specs.Env.{Env, Object, start_of};
+ghost use Rattle.c_typed.specs.declared.tree.Target.{Target as TheTarget};
+ghost use Rattle.c_typed.specs.declared.tree.Target.TheVariants as target;
+ghost use Rattle.typing_env.specs.Env.{Env, Object, Use, start_of};
 ghost use Rattle.typing_env.specs.Names.{entered, left_scope, kept_prototype, with_parameters, with_new_tag, with_new_enumeration, object_named, with_object, changing_object, first_of};
-ghost use Rattle.type_scope.specs.Known.{Naming, known_by};
+ghost use Rattle.type_scope.specs.declared.rows.TagRow.{TagRow};
+ghost use Rattle.type_scope.specs.Known.{Naming, known_by, routine_seen};
+ghost use Rattle.type_scope.specs.Numbered.{literal_bytes, HasLiterals};
 ghost use Rattle.type_scope.specs.Objects.{IsOneToOne, IsRowOf, HasPlaces, HasObjects, row_in};
+ghost use Rattle.type_scope.specs.Uses.{is_used, count_of, with_use, IsUsedObject, IsUsedFunction, IsUnused, HasUses, function_row_in};
 
 use crate::literals::Literal;
 use crate::rows::{FunctionRow, Linked, ObjectRow, TagRow};
@@ -36,27 +43,44 @@ pub struct State {
     /// The identifiers with linkage, each declared once, at depth 0.
     pub linked: Space<Linked>,
     pub literals: Vec<Literal>,
-    /// How many operands that aren't evaluated are open.
-    pub unevaluated: u32,
+    /// Whether what is read is in an operand that isn't evaluated.
+    pub unevaluated: bool,
     /// The function that is called at program startup (5.1.2.2.1).
     pub main: Option<u32>,
     pub task: Task,
 }
 
-/// How many string literals were there before an operand that isn't evaluated.
+/// A place of the text: how many string literals stood before it, and whether it is in an operand that isn't evaluated.
 #[derive(Clone, Copy, Debug, PartialEq, Eq)]
-pub struct Mark(usize);
+pub struct Mark {
+    pub literals: usize,
+    pub unevaluated: bool,
+}
+
+// So many rows of objects that aren't declared yet.
+#[tactic(auto, using(crate::proofs::Uses::unused_more))]
+fn empty_rows(alloc: Global, count: usize) -> Result<Vec<ObjectRow>, NoMemory>
+    ensures count { IfOk result (λ rows. length rows.items ≡ count) }
+    ensures unused { IfOk result (λ rows. All IsUnused rows.items) }
+{
+    let mut rows = Vec::new(alloc);
+    for _turn in 0..count {
+        rows.push(ObjectRow::new(alloc, no_type(), false))?;
+    }
+    Ok(rows)
+}
 
 impl State {
     /// Nothing declared; `order` as the field says.
     pub fn new(alloc: Global, source: &Source<'_>, order: Vec<u32>) -> Result<State, NoMemory>
         ensures known { IfOk result (λ s. (n : Naming) → known_by n source.now s (start_of source.now) ≡ start_of source.now) }
+        ensures rows { IfOk result (λ s. ((k place : ℕ) → slice_get order.items k ≡ Some place → place < length order.items) → (n : Naming) → HasObjects n s (start_of source.now)) }
+        ensures uses { IfOk result (λ s. (n : Naming) → HasUses n s []) }
+        ensures evaluated { IfOk result (λ s. s.unevaluated ≡ false) }
+        ensures literals { IfOk result (λ s. literal_bytes s ≡ []) }
     {
         let symbols = source.symbol_count();
-        let mut objects = Vec::new(alloc);
-        for _ in 0..order.len() {
-            objects.push(ObjectRow::new(alloc, no_type(), false))?;
-        }
+        let objects = empty_rows(alloc, order.len())?;
         Ok(State {
             alloc,
             names: Scopes::new(alloc, symbols)?,
@@ -70,7 +94,7 @@ impl State {
             functions: Vec::new(alloc),
             linked: Space::new(alloc, symbols)?,
             literals: Vec::new(alloc),
-            unevaluated: 0,
+            unevaluated: false,
             main: None,
             task: Task::new(alloc, Ty::Void),
         })
@@ -111,41 +135,77 @@ impl State {
     }
 
     /// Begins an operand that isn't evaluated: its literals are no objects, and it uses no name (6.9p3).
-    pub fn suspend(&mut self) -> Mark {
-        self.unevaluated = self.unevaluated.saturating_add(1);
-        Mark(self.literals.len())
+    pub fn suspend(&mut self) -> Mark
+        ensures mark { result ≡ record { literals = length (literal_bytes self.old); unevaluated = self.old.unevaluated } }
+        ensures rest { self.new ≡ record self.old { unevaluated = true } }
+    {
+        let mark = self.mark();
+        self.unevaluated = true;
+        mark
     }
 
     /// Ends it.
-    pub fn resume(&mut self, mark: Mark) {
-        self.unevaluated = self.unevaluated.saturating_sub(1);
+    pub fn resume(&mut self, mark: Mark)
+        ensures literals { literal_bytes self.new ≡ take mark.literals (literal_bytes self.old) }
+        ensures named { (bytes_at : ℕ → Option (List ℕ)) (names : List ℕ) → HasLiterals bytes_at names self.old → HasLiterals bytes_at (take mark.literals names) self.new }
+        ensures rest { self.new ≡ record self.old { literals = self.new.literals; unevaluated = mark.unevaluated } }
+    {
+        self.unevaluated = mark.unevaluated;
         self.forget_literals(mark);
     }
 
-    /// The literals so far.
-    pub fn mark(&self) -> Mark {
-        Mark(self.literals.len())
+    /// This place of the text.
+    pub fn mark(&self) -> Mark
+        ensures { result ≡ record { literals = length (literal_bytes self.now); unevaluated = self.now.unevaluated } }
+    {
+        Mark {
+            literals: self.literals.len(),
+            unevaluated: self.unevaluated,
+        }
     }
 
     /// Forgets the literals since then.
-    pub fn forget_literals(&mut self, mark: Mark) {
-        for _ in mark.0..self.literals.len() {
-            let _last = self.literals.pop();
-        }
+    pub fn forget_literals(&mut self, mark: Mark)
+        ensures literals { literal_bytes self.new ≡ take mark.literals (literal_bytes self.old) }
+        ensures named { (bytes_at : ℕ → Option (List ℕ)) (names : List ℕ) → HasLiterals bytes_at names self.old → HasLiterals bytes_at (take mark.literals names) self.new }
+        ensures rest { self.new ≡ record self.old { literals = self.new.literals } }
+    {
+        self.literals.truncate(mark.literals);
+    }
+
+    // Takes a literal out of those of the unit, and forgets the others since the mark.
+    fn take_literal(&mut self, mark: Mark, number: usize) -> Literal
+        requires { number < length self.old.literals.items }
+        ensures taken { slice_get (literal_bytes self.old) number ≡ Some result.bytes }
+        ensures literals { mark.literals ≤ number → literal_bytes self.new ≡ take mark.literals (literal_bytes self.old) }
+        ensures rest { self.new ≡ record self.old { literals = self.new.literals } }
+    {
+        let taken = self.literals.remove(number);
+        self.forget_literals(mark);
+        taken
     }
 
     /// Forgets the literals since then but this one, which gets the first of their numbers.
-    pub fn keep_literal(&mut self, mark: Mark, number: u32) -> Result<u32, NoMemory> {
+    pub fn keep_literal(&mut self, mark: Mark, number: u32) -> Result<u32, NoMemory>
+        ensures number { IfOk result (λ kept. mark.literals ≤ number → number < length (literal_bytes self.old) → kept ≡ mark.literals) }
+        ensures named { OnOk result (mark.literals ≤ number → (bytes_at : ℕ → Option (List ℕ)) (names : List ℕ) (name : ℕ) → slice_get names number ≡ Some name → HasLiterals bytes_at names self.old → HasLiterals bytes_at (take mark.literals names ++ name ∷ []) self.new) }
+        ensures rest { self.new ≡ record self.old { literals = self.new.literals } }
+    {
         if number as usize >= self.literals.len() {
             return Ok(number);
         }
-        let kept = self.literals.remove(number as usize);
-        self.forget_literals(mark);
+        let kept = self.take_literal(mark, number as usize);
         self.push_literal(kept)
     }
 
-    fn push_literal(&mut self, literal: Literal) -> Result<u32, NoMemory> {
-        let number = u32::try_from(self.literals.len()).unwrap_or(u32::MAX);
+    fn push_literal(&mut self, literal: Literal) -> Result<u32, NoMemory>
+        ensures number { IfOk result (λ number. number ≡ length (literal_bytes self.old)) }
+        ensures literals { OnOk result (literal_bytes self.new ≡ literal_bytes self.old ++ literal.bytes ∷ []) }
+        ensures rest { self.new ≡ record self.old { literals = self.new.literals } }
+    {
+        let Ok(number) = u32::try_from(self.literals.len()) else {
+            return Err(NoMemory);
+        };
         self.literals.push(literal)?;
         Ok(number)
     }
@@ -153,6 +213,9 @@ impl State {
     /// A further string literal; the answer is its number.
     pub fn add_literal(&mut self, bytes: Bytes) -> Result<u32, NoMemory>
         requires { HasBytes bytes }
+        ensures number { IfOk result (λ number. number ≡ length (literal_bytes self.old)) }
+        ensures named { OnOk result ((bytes_at : ℕ → Option (List ℕ)) (names : List ℕ) (name : ℕ) → bytes_at name ≡ Some bytes → HasLiterals bytes_at names self.old → HasLiterals bytes_at (names ++ name ∷ []) self.new) }
+        ensures rest { self.new ≡ record self.old { literals = self.new.literals } }
     {
         self.push_literal(Literal { bytes })
     }
@@ -161,6 +224,7 @@ impl State {
     pub fn add_object(&mut self, row: ObjectRow) -> Result<u32, NoMemory>
         ensures rest { self.new ≡ record self.old { objects = self.new.objects; declared = self.new.declared } }
         ensures rows { IfOk result (λ number. (n : Naming) → IsOneToOne n → (env : Env) (o : Object) → HasObjects n self.old env → object_named o.name env.objects ≡ None → n number ≡ o.name → IsRowOf o (Some row) → HasObjects n self.new (with_object o env)) }
+        ensures uses { IfOk result (λ number. (n : Naming) (us : List Use) → HasPlaces self.old → IsUnused row → is_used (target.Static (n number)) us ≡ false → HasUses n self.old us → HasUses n self.new us) }
     {
         self.add_row(row)
     }
@@ -211,6 +275,7 @@ impl State {
     pub fn define_object(&mut self, number: u32, line: u32)
         ensures rest { self.new ≡ record self.old { objects = self.new.objects; defined = self.new.defined } }
         ensures rows { (n : Naming) → IsOneToOne n → (env : Env) (at : ℕ) → HasObjects n self.old env → HasObjects n self.new (changing_object (n number) (λ o. record o { defined = first_of o.defined at }) env) }
+        ensures uses { (n : Naming) (us : List Use) → HasUses n self.old us → HasUses n self.new us }
     {
         self.define_row(number, line);
     }
@@ -220,6 +285,7 @@ impl State {
         ensures row { (at : ℕ) (o : Object) → IsRowOf o (row_in self.old number) → IsRowOf (record o { defined = first_of o.defined at }) (row_in self.new number) }
         ensures others { (m : ℕ) → m ≢ number → row_in self.new m ≡ row_in self.old m }
         ensures places { HasPlaces self.old → HasPlaces self.new }
+        ensures used { (t : TheTarget) (us : List Use) → IsUsedObject t us (row_in self.old number) → IsUsedObject t us (row_in self.new number) }
     {
         let next = self.defined;
         if let Some(row) = self.objects.get_mut(number as usize)
@@ -232,21 +298,49 @@ impl State {
     }
 
     /// Notes a use of an object by an identifier of this type.
-    pub fn use_object(&mut self, number: u32, ty: &Ty, line: u32) {
-        if self.unevaluated == 0
-            && let Some(row) = self.objects.get_mut(number as usize)
-        {
-            row.use_on(line, known_count(ty));
+    pub fn use_object(&mut self, number: u32, ty: &Ty, line: u32)
+        ensures rest { self.new ≡ record self.old { objects = self.new.objects } }
+        ensures rows { (n : Naming) (env : Env) → HasObjects n self.old env → HasObjects n self.new env }
+        ensures uses { (n : Naming) → IsOneToOne n → (us : List Use) → HasUses n self.old us → HasUses n self.new (with_use self.old.unevaluated (record { target = target.Static (n number); count = count_of (type_of ty.now) }) us) }
+    {
+        if self.unevaluated {
+            return;
+        }
+        self.use_row(number, known_count(ty), line);
+    }
+
+    fn use_row(&mut self, number: u32, count: Option<u64>, line: u32)
+        ensures rest { self.new ≡ record self.old { objects = self.new.objects } }
+        ensures row { (o : Object) → IsRowOf o (row_in self.old number) → IsRowOf o (row_in self.new number) }
+        ensures others { (m : ℕ) → m ≢ number → row_in self.new m ≡ row_in self.old m }
+        ensures places { HasPlaces self.old → HasPlaces self.new }
+        ensures used { (t : TheTarget) (us : List Use) → IsUsedObject t us (row_in self.old number) → IsUsedObject t (us ++ record { target = t; count = count } ∷ []) (row_in self.new number) }
+    {
+        if let Some(row) = self.objects.get_mut(number as usize) {
+            row.use_on(line, count);
         }
     }
 
     /// Notes a use of a function.
-    pub fn use_function(&mut self, number: u32, line: u32) {
-        if self.unevaluated == 0
-            && let Some(row) = self.functions.get_mut(number as usize)
-            && row.used.is_none()
-        {
-            row.used = Some(line);
+    pub fn use_function(&mut self, number: u32, line: u32)
+        ensures rest { self.new ≡ record self.old { functions = self.new.functions } }
+        ensures known { (n : Naming) (t : TokenText) (env : Env) → known_by n t self.new env ≡ known_by n t self.old env }
+        ensures uses { (n : Naming) (us : List Use) → HasUses n self.old us → HasUses n self.new (with_use self.old.unevaluated (record { target = target.Function number; count = None }) us) }
+    {
+        if self.unevaluated {
+            return;
+        }
+        self.use_routine(number, line);
+    }
+
+    fn use_routine(&mut self, number: u32, line: u32)
+        ensures rest { self.new ≡ record self.old { functions = self.new.functions } }
+        ensures same { map routine_seen self.new.functions.items ≡ map routine_seen self.old.functions.items }
+        ensures others { (m : ℕ) → m ≢ number → function_row_in self.new m ≡ function_row_in self.old m }
+        ensures used { (t : TheTarget) (us : List Use) → IsUsedFunction t us (function_row_in self.old number) → IsUsedFunction t (us ++ record { target = t; count = None } ∷ []) (function_row_in self.new number) }
+    {
+        if let Some(row) = self.functions.get_mut(number as usize) {
+            row.use_on(line);
         }
     }
 
@@ -254,6 +348,7 @@ impl State {
     pub fn add_tag(&mut self, kind: TagKind) -> Result<u32, NoMemory>
         ensures number { IfOk result (λ number. number ≡ length self.old.tags) }
         ensures known { OnOk result ((n : Naming) (t : TokenText) (env : Env) → known_by n t self.new env ≡ with_new_tag kind (known_by n t self.old env)) }
+        ensures row { OnOk result ((row : TagRow) × (self.new.tag_rows.items ≡ self.old.tag_rows.items ++ row ∷ [])) }
         ensures rest { self.new ≡ record self.old { tags = self.new.tags; tag_rows = self.new.tag_rows } }
     {
         if self.tags.is_full() {
@@ -303,7 +398,9 @@ impl State {
 }
 
 // The number of elements of an array of known size.
-fn known_count(ty: &Ty) -> Option<u64> {
+fn known_count(ty: &Ty) -> Option<u64>
+    ensures { result ≡ count_of (type_of ty.now) }
+{
     match ty {
         Ty::Array(_, count) => *count,
         _ => None,

@@ -10,6 +10,7 @@ use Rattle.type_scope.specs.Known.{known_by, with_tables}
 use Rattle.type_scope.specs.Objects.{HasObjects}
 use Rattle.type_scope.proofs.Seen.{change_is}
 use Rattle.type_linkage.proofs.ObjectRows.{linked_has}
+use Rattle.type_linkage.proofs.UsedRows.{linked_used}
 use Rattle.type_linkage.proofs.objects.complete_object.Goals as goal
 
 pub returns-clause-known : goal.returns-clause-known
@@ -32,3 +33,7 @@ returns-clause-rows c n one env has =
     c.in_ok-note_object_type.ensures.rest
     (subst (λ p. HasObjects n c.set_object_type.new.state (changing_object (n c.args.number) (λ o. record o { qual = p }) env)) c.in_ok-copied_qual.ensures
     (c.set_object_type.ensures.rows n one env has))
+
+pub returns-clause-uses : goal.returns-clause-uses
+returns-clause-uses c n us has =
+    linked_used n c.set_object_type.new.state c.note_object_type.new.state us c.in_ok-note_object_type.ensures.rest (c.set_object_type.ensures.uses n us has)

@@ -9,6 +9,7 @@ use Rattle.type_scope.specs.Objects.{HasObjects}
 use Rattle.type_linkage.proofs.Declaring.{static_known, static_is, static_refused}
 use Rattle.type_linkage.proofs.Linking.{is_known}
 use Rattle.type_linkage.proofs.ObjectRows.{names_has}
+use Rattle.type_linkage.proofs.UsedRows.{names_used, unused_named}
 use Rattle.type_linkage.proofs.objects.declare_local_static.Goals as goal
 
 pub returns-in-Ok-clause-reads : goal.returns-in-Ok-clause-reads
@@ -46,7 +47,7 @@ returns-in-Ok-clause-rows c n one named env known has new =
       names_has n c.define_object.new.self c.declare.new.self e c.declare.ensures.rest
           (subst (λ m. HasObjects n c.define_object.new.self (changing_object m f (with_object (new_object c.args.at q) env))) named
           (c.define_object.ensures.rows n one (with_object (new_object c.args.at q) env) c.args.at
-          (c.in_ok-number.ensures.rows n one env (new_object c.args.at q) has new named (c.new.ensures c.args.at)))),
+          (c.in_ok-number.ensures.rows n one env (new_object c.args.at q) has new named (c.new.ensures.row c.args.at)))),
     )
 
 pub returns-in-Err-clause-rows : goal.returns-in-Err-clause-rows
@@ -56,3 +57,9 @@ returns-in-Err-clause-rows c n one named env known has new other =
     (λ e. ap (λ (s : State). known_by n c.args.source.now s e) (c.define_object.ensures.rest)
     ∙ ap (λ (s : State). known_by n c.args.source.now s e) c.in_ok-number.ensures.rest)
     (λ e. c.in-Err.ensures.reads n e other)
+
+pub returns-in-Ok-clause-uses : goal.returns-in-Ok-clause-uses
+returns-in-Ok-clause-uses c n named us places unused has =
+    names_used n c.define_object.new.self c.declare.new.self us c.declare.ensures.rest
+    (c.define_object.ensures.uses n us
+    (c.in_ok-number.ensures.uses n us places c.new.ensures.unused (unused_named (n c.in_ok-number.number) c.args.at us named unused) has))

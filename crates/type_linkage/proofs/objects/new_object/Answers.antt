@@ -8,6 +8,7 @@ use Rattle.type_scope.specs.declared.state.State.{State}
 use Rattle.type_scope.specs.Known.{known_by}
 use Rattle.type_scope.specs.Objects.{IsRowOf}
 use Rattle.type_linkage.proofs.ObjectRows.{linked_has}
+use Rattle.type_linkage.proofs.UsedRows.{linked_used}
 use Rattle.type_linkage.proofs.objects.new_object.Goals as goal
 
 pub returns-clause-known : goal.returns-clause-known
@@ -22,4 +23,9 @@ returns-clause-rows c n one env at has none is =
     let o = names.new_object at q in
     linked_has n c.add_object.new.self c.link.new.state (names.with_object o env) c.in_ok-link.ensures.rest
     (c.in_ok-number.ensures.rows n one env o has none is
-    (subst (λ p. IsRowOf (names.new_object at p) (Some c.new.result)) c.in_ok-copied_qual.ensures (c.new.ensures at)))
+    (subst (λ p. IsRowOf (names.new_object at p) (Some c.new.result)) c.in_ok-copied_qual.ensures (c.new.ensures.row at)))
+
+pub returns-clause-uses : goal.returns-clause-uses
+returns-clause-uses c n us places unused has =
+    linked_used n c.add_object.new.self c.link.new.state us c.in_ok-link.ensures.rest
+    (c.in_ok-number.ensures.uses n us places c.new.ensures.unused unused has)

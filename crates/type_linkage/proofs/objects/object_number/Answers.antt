@@ -8,6 +8,7 @@ use Rattle.type_linkage.specs.Linkage.{given_of, entity_in, redeclared_seen}
 use Rattle.type_linkage.proofs.Linking.{nothing_known, something_known, object_seen}
 use Rattle.type_linkage.proofs.Declaring.{object_refused, object_made, object_more, object_other}
 use Rattle.type_linkage.proofs.ObjectRows.{rows_made, rows_more}
+use Rattle.type_linkage.proofs.UsedRows.{names_used, unused_named}
 use Rattle.type_linkage.proofs.objects.object_number.Goals as goal
 
 pub returns-in-Err-clause-reads : goal.returns-in-Err-clause-reads
@@ -84,3 +85,15 @@ returns-in_ok-bind_object-in-Some-clause-rows c n one named env known has none =
     (c.in_ok-further_object-in-Some.ensures.rows n one
     (with_further c.in-Ok.found.symbol (qualified_of c.args.qual.now) (known_by n c.args.source.now c.args.state.now env)) refl has)
     c.in_ok-bind_object-in-Some.ensures.rest
+
+pub returns-in_ok-bind_object-in-None-clause-uses : goal.returns-in_ok-bind_object-in-None-clause-uses
+returns-in_ok-bind_object-in-None-clause-uses c n named us places unused has =
+    let none = nothing_known (λ (l : Linked). l.target) (entity_in c.args.state.now c.in-Ok.found.symbol) (sym c.in-Ok.ensures.target ∙ c.in-None.is) in
+    let is = named (ap (entity_in c.args.state.now) (sym c.in-Ok.ensures.symbol) ∙ none) in
+    names_used n c.new_object.new.state c.bind_object.new.state us c.in_ok-bind_object-in-None.ensures.rest
+    (c.in_ok-number-in-None.ensures.uses n us places (unused_named (n c.in_ok-number-in-None.number) c.args.at us is unused) has)
+
+pub returns-in_ok-bind_object-in-Some-clause-uses : goal.returns-in_ok-bind_object-in-Some-clause-uses
+returns-in_ok-bind_object-in-Some-clause-uses c n named us places unused has =
+    names_used n c.further_object.new.state c.bind_object-in-Some.new.state us c.in_ok-bind_object-in-Some.ensures.rest
+    (c.in_ok-further_object-in-Some.ensures.uses n us has)

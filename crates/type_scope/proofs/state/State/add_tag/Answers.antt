@@ -1,0 +1,9 @@
+use Rattle.std.proofs.Common.{◌≡◌, false, ◌++◌, ◌∷◌, []}
+use Rattle.type_scope.specs.declared.rows.TagRow.{TagRow}
+use Rattle.type_scope.proofs.Uses.{in_any_case}
+use Rattle.type_scope.proofs.state.State.add_tag.Goals as goal
+
+pub returns-clause-row : goal.returns-clause-row
+returns-clause-row c =
+    in_any_case c.declare.result ((x : TagRow) × (c.push.new.self.items ≡ ((c.args.self.now).tag_rows).items ++ x ∷ []))
+    (record { constant = false; symbols = c.new.result }, c.in_ok-push.ensures.items)
