@@ -128,7 +128,7 @@ pub frame_opened : (old grown new : Machine) (number : ℕ) (event : Event) (cod
     slice_get old.code.now.functions.items number ≡ Some (Some code) → body.now ≡ code.body → grown ≡ record old { locals = grown.locals } →
     ((j : ℕ) (l : Local) → slice_get old.locals.items j ≡ Some l → slice_get grown.locals.items j ≡ Some l) →
     above ≡ min (old.top.above + code.objects) (2 ^ 64 - 1) → left.below ≡ grown.work.now ∷ grown.work.below → left.now ≡ work.ToDo body ∷ [] →
-    IsOnTop (record grown { work = left }) (started_on grown.top event (Some number) code.blocks old.top.above above) new →
+    IsOnTop (record grown { work = left }) (started_on grown.top event (Some number) code.blocks code.expressions old.top.above above) new →
     OpensFrame old number event new
 frame_opened old grown new number event code body left above there same rest kept above_is below now on =
     let work_is : new.work ≡ left = ap (λ (k : Machine). k.work) on.rest in
@@ -141,19 +141,19 @@ frame_opened old grown new number event code body left above there same rest kep
       rest = on.rest
           ∙ ap (λ (k : Machine). record k {
             below = new.below;
-            top = started_on k.top event (Some number) code.blocks old.top.above above;
+            top = started_on k.top event (Some number) code.blocks code.expressions old.top.above above;
             work = left;
             locals = grown.locals;
           }) rest
           ∙ ap (λ (n : ℕ). record old {
             below = new.below;
-            top = started_on old.top event (Some number) code.blocks old.top.above n;
+            top = started_on old.top event (Some number) code.blocks code.expressions old.top.above n;
             work = left;
             locals = grown.locals;
           }) above_is
           ∙ (λ i. record old {
             below = new.below;
-            top = started_on old.top event (Some number) code.blocks old.top.above (min (old.top.above + code.objects) (2 ^ 64 - 1));
+            top = started_on old.top event (Some number) code.blocks code.expressions old.top.above (min (old.top.above + code.objects) (2 ^ 64 - 1));
             work = sym work_is i;
             locals = sym locals_is i;
           });

@@ -12,6 +12,7 @@ use Rattle.run_code.specs.declared.steps.Act.TheVariants as act
 use Rattle.run_code.specs.declared.steps.FunctionCode.{FunctionCode}
 use Rattle.run_code.specs.declared.steps.Operand.{Operand}
 use Rattle.run_code.specs.declared.steps.Operand.TheVariants as operand
+use Rattle.run_code.specs.declared.steps.Range.{Range}
 use Rattle.run_state.specs.declared.machine.Local.{Local}
 use Rattle.run_state.specs.declared.machine.Machine.{Machine}
 use Rattle.run_state.specs.declared.machine.Open.{Open}
@@ -25,8 +26,8 @@ use Rattle.run_events.specs.declared.fault.Fault.TheVariants as fault
 
 -- The frame that the event starts on this one: its rooms begin behind those of that one, and it has none yet. It bears the number of that one until it is
 -- given its own.
-abbrev pub started_on : Open → Event → (function : Option ℕ) → (blocks locals above : ℕ) → Open
-started_on below event function blocks locals above = record {
+abbrev pub started_on : Open → Event → (function : Option ℕ) → (blocks : ℕ) → (expressions : Range) → (locals above : ℕ) → Open
+started_on below event function blocks expressions locals above = record {
   frame = event.frame;
   turn = 0;
   stage = None;
@@ -37,6 +38,7 @@ started_on below event function blocks locals above = record {
   above = above;
   function = function;
   blocks = blocks;
+  expressions = expressions;
   node = event.node;
 }
 
@@ -49,7 +51,7 @@ pub record IsOnTop (old : Machine) (top : Open) (new : Machine) : Type 0 where
 pub record StartsInitializer (old : Machine) (number : ℕ) (event : Event) (new : Machine) : Type 0 where
   pub rest : new ≡ record old {
     below = new.below;
-    top = started_on old.top event None old.top.blocks old.top.locals old.top.above;
+    top = started_on old.top event None old.top.blocks old.top.expressions old.top.locals old.top.above;
     work = new.work;
   }
   pub below : new.below.items ≡ old.below.items ++ old.top ∷ []
@@ -96,7 +98,7 @@ pub record OpensFrame (old : Machine) (number : ℕ) (event : Event) (new : Mach
   pub same : body.now ≡ code.body
   pub rest : new ≡ record old {
     below = new.below;
-    top = started_on old.top event (Some number) code.blocks old.top.above (min (old.top.above + code.objects) (2 ^ 64 - 1));
+    top = started_on old.top event (Some number) code.blocks code.expressions old.top.above (min (old.top.above + code.objects) (2 ^ 64 - 1));
     work = new.work;
     locals = new.locals;
   }

@@ -15,7 +15,7 @@ use c_typed::Program;
 use c_types::LibFunc;
 use prov_memory::{LibAnswer, Values};
 use run_acts::{as_function, callee};
-use run_code::{CallCode, FunctionCode, Operand};
+use run_code::{CallCode, FunctionCode, Operand, Range};
 use run_control::Use;
 use run_state::{Machine, Open};
 use ub_base::{Cause, Clause, Event, Items, NoMemory};
@@ -170,8 +170,12 @@ pub fn initialize(machine: &mut Machine, number: u32, event: Event) -> Result<Ou
 {
     machine.work.start_initializer(number)?;
     let locals = (machine.top.locals, machine.top.above);
-    let blocks = machine.top.blocks;
-    open_frame(machine, None, blocks, locals, event)?;
+    let Open {
+        blocks,
+        expressions,
+        ..
+    } = machine.top;
+    open_frame(machine, None, (blocks, expressions), locals, event)?;
     Ok(Outcome::Started)
 }
 
@@ -183,18 +187,24 @@ fn open_function(machine: &mut Machine, function: u32, event: Event) -> Result<(
     let above = locals.saturating_add(code.objects as usize);
     machine.grow_locals(above)?;
     machine.work.start(&code.body)?;
-    open_frame(machine, Some(function), code.blocks, (locals, above), event)
+    open_frame(
+        machine,
+        Some(function),
+        (code.blocks, code.expressions),
+        (locals, above),
+        event,
+    )
 }
 
 // A frame becomes the top one, whose work was started.
 fn open_frame(
     machine: &mut Machine,
     function: Option<u32>,
-    blocks: u32,
+    seen: (u32, Range),
     locals: (usize, usize),
     event: Event,
 ) -> Result<(), NoMemory>
-    ensures { OnOk result (IsOnTop machine.old (started_on machine.old.top event function blocks locals.0 locals.1) machine.new) }
+    ensures { OnOk result (IsOnTop machine.old (started_on machine.old.top event function seen.0 seen.1 locals.0 locals.1) machine.new) }
 {
     machine.below.push(machine.top)?;
     machine.top = Open {
@@ -207,7 +217,8 @@ fn open_frame(
         locals: locals.0,
         above: locals.1,
         function,
-        blocks,
+        blocks: seen.0,
+        expressions: seen.1,
         node: event.node,
     };
     Ok(())

@@ -92,7 +92,7 @@ module _ (world : World) (meaning : Option ℕ → Meaning) (old past : Machine)
 
   module _ (who : Event) (node : who.node ≡ d.place.node) (new : Machine) (opens : StartsInitializer (at_cursor old s w.cursor) event.number who new) where
     abbrev top_then : Frame → Open
-    top_then n = record (started_on there who None there.blocks there.locals there.above) { frame = n }
+    top_then n = record (started_on there who None there.blocks there.expressions there.locals there.above) { frame = n }
 
     abbrev there_then : Frame → Machine
     there_then n = record old { below = new.below; top = top_then n; work = new.work }

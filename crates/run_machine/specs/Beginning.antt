@@ -8,6 +8,7 @@ use Rattle.c_model.specs.Steps.{Scene}
 use Rattle.c_model.specs.World.{World}
 use Rattle.program_view.specs.Trees.{expr_of}
 use Rattle.run_code.specs.declared.steps.Expression.{Expression}
+use Rattle.run_code.specs.declared.steps.Range.{Range}
 use Rattle.run_code.specs.declared.whole.Code.{Code}
 use Rattle.run_code.specs.Chosen.{Views}
 use Rattle.run_state.specs.declared.machine.Machine.{Machine}
@@ -24,6 +25,11 @@ pub record CanBegin (world : World) (code : Code) (o : Open) (st : State) (e : E
   pub turn : o.turn + 1 < 2 ^ 64
   pub known : (n : ℕ) (laid : Expression) (firsts : List ℕ) → slice_get code.expressions.items n ≡ Some laid → expr_of laid.root.now ≡ e
       → Views world (next_turn st.top.scene) firsts 0 laid.root.now e
+
+-- the number is one of a range
+pub record IsAmong (range : Range) (number : ℕ) : Type 0 where
+  pub first : range.first ≤ number
+  pub end : number < range.first + range.count
 
 -- The full expression of this number and root is that of the top frame, in which no operand is chosen yet. Those of other frames stay.
 pub record HasShown (old : Machine) (number : ℕ) (root : Bor Typed) (new : Machine) : Type 0 where

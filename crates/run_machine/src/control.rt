@@ -1,5 +1,5 @@
 // The control steps (6.8).
-ghost use Rattle.std.specs.Prelude.{◌≡◌, ◌≢◌, ◌∷◌, ◌+◌, ◌-◌, ◌^◌, true, false, min, ℕ, ℤ, Bool, Option, None, Some, length, slice_get, IfOk, OnOk, option_map};
+ghost use Rattle.std.specs.Prelude.{◌≡◌, ◌≢◌, ◌∷◌, ◌+◌, ◌-◌, ◌^◌, true, false, min, ℕ, ℤ, Bool, Option, None, Some, length, slice_get, IfOk, IfSome, OnOk, option_map};
 ghost use Rattle.c_types.specs.Shapes.{form_of};
 ghost use Rattle.run_control.specs.Moves.{moved};
 ghost use Rattle.c_model.specs.Control.{Break_here, moved_in, ready_work};
@@ -9,7 +9,7 @@ ghost use Rattle.run_control.specs.Links.{work_at};
 ghost use Rattle.run_control.specs.View.{Meaning, after, is_nothing, todo_of};
 ghost use Rattle.run_machine.specs.Answering.{AnswersControl, AnswersStep, step_of_move};
 ghost use Rattle.run_code.specs.InRange.{part_of};
-ghost use Rattle.run_machine.specs.Beginning.{HasShown};
+ghost use Rattle.run_machine.specs.Beginning.{HasShown, IsAmong};
 ghost use Rattle.run_machine.specs.Ended.{AnswersEnd};
 ghost use Rattle.run_machine.specs.Entering.{BearsAll, CanBear, CreatesOne, Enters};
 ghost use Rattle.run_machine.specs.Leaving.{GoesStill, LeavesBlock};
@@ -24,7 +24,7 @@ use c_typed::Typed;
 use c_types::Shape;
 use program_view::law_view;
 use prov_memory::ObjKind;
-use run_code::{BlockCode, ObjectCode, Operand, law_choices};
+use run_code::{BlockCode, Expression, ObjectCode, Operand, Range, law_choices};
 use run_control::{Move, Step, Use};
 use run_events::{choose_at_once, put_at};
 use run_listing::law_cursor;
@@ -283,14 +283,14 @@ fn declare(machine: &mut Machine, object: u32) -> Result<Option<u8>, Halt>
 fn begin<'c>(machine: &mut Machine<'_, 'c>, number: u32, how: Use<'c>) -> Result<Option<u8>, Halt>
     ensures work { machine.new.work ≡ machine.old.work }
     ensures answers { AnswersStep (steps.Begin number how.entry) machine.old machine.new result }
+    ensures own { OnOk result (IsAmong machine.old.top.expressions number) }
 {
     law_view();
     law_cursor();
     law_choices();
-    let code = machine.code;
     machine.top.how = how;
     machine.top.turn = machine.top.turn.saturating_add(1);
-    let Some((expression, chosen)) = code.expression(number) else {
+    let Some((expression, chosen)) = own_expression(machine, number) else {
         return Err(Halt::NoMemory);
     };
     machine.top.rooms = expression.rooms;
@@ -307,6 +307,28 @@ fn begin<'c>(machine: &mut Machine<'_, 'c>, number: u32, how: Use<'c>) -> Result
     show_begun(machine, number, expression.root)?;
     choose_at_once(machine, chosen)?;
     Ok(None)
+}
+
+// The full expression of this number, where it is one of the function whose objects the top frame sees.
+fn own_expression<'p, 'c>(
+    machine: &Machine<'p, 'c>,
+    number: u32,
+) -> Option<(&'c Expression<'p>, &'c [(u32, u32)])>
+    ensures found { IfSome result (λ e. (slice_get machine.now.code.now.expressions.items number ≡ Some e.0.now)
+        × (e.1.now ≡ part_of machine.now.code.now.tables.chosen.items e.0.now.chosen)) }
+    ensures own { IfSome result (λ e. IsAmong machine.now.top.expressions number) }
+{
+    if !is_among(machine.top.expressions, number) {
+        return None;
+    }
+    let code = machine.code;
+    code.expression(number)
+}
+
+fn is_among(range: Range, number: u32) -> bool
+    ensures { result ≡ true → IsAmong range number }
+{
+    range.first <= number && number - range.first < range.count
 }
 
 // It takes the place of the one that was settled before it at this height.

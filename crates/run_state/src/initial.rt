@@ -127,6 +127,7 @@ fn first_frame<'c>(
         above: main.objects as usize,
         function: Some(program.main),
         blocks: main.blocks,
+        expressions: main.expressions,
         node: 0,
     };
     Ok(First { top, work, jumps })

@@ -14,7 +14,7 @@ use addr_map::AddrMap;
 use c_typed::Program;
 use prov_memory::{Memory, Outputs, Streams, Touched, Value, Via};
 use run_acts::{Filling, Places, Pointer, as_integer, as_pointer, pointer_to, truth};
-use run_code::{Code, Operand};
+use run_code::{Code, Operand, Range};
 use run_control::{Control, Use};
 use run_statements::Jumps;
 use seq_order::Done;
@@ -52,8 +52,9 @@ pub struct Open<'c> {
     pub above: usize,
     // The function, where the frame is no isolated initializer's.
     pub function: Option<u32>,
-    // The first block of that function.
+    // The first block of the function whose objects it sees, and its full expressions.
     pub blocks: u32,
+    pub expressions: Range,
     // The node of the frame below that started it.
     pub node: u32,
 }
