@@ -60,11 +60,12 @@ same_given old m room o h rest kept before is =
     by (operand.Done node) before is = kept (old.top.base + node) h before is
 
 pub none_passed : (old new : Machine) (os : List Operand) (room size at : ℕ) → at ≡ room → size ≡ min (room + length os) (2 ^ 64 - 1) →
-    size ≤ length new.values.items → ((j : ℕ) (h : Value) → slice_get old.values.items j ≡ Some h → slice_get new.values.items j ≡ Some h) →
-    PassesFirst old os room 0 at new
-none_passed old new os room size at is sized le kept few = record {
+    size ≤ length new.values.items → length old.values.items ≤ length new.values.items →
+    ((j : ℕ) (h : Value) → slice_get old.values.items j ≡ Some h → slice_get new.values.items j ≡ Some h) → PassesFirst old os room 0 at new
+none_passed old new os room size at is sized le fewest kept few = record {
   comes = (omega (arith, is));
   there = (omega (arith, sized, le, few));
+  fewest = fewest;
   before = λ j h lt is. kept j h is;
   passed = λ i o h lt there before given. absurd (omega (arith, lt));
 }
@@ -95,6 +96,7 @@ one_passed old m new os room k at next o v rest before here lt gives further cou
     record {
       comes = (let c = p.comes in omega (arith, c, further, lt, few));
       there = (let r = p.there in omega (arith, r, count));
+      fewest = (let r = p.fewest in omega (arith, r, count));
       before = λ j h low is. others_so j (lower room j k low) ∙ p.before j h low is;
       passed = λ i z h less at_i stands is.
           by i z h (i == k) refl less at_i stands is p filled others_so;
@@ -118,7 +120,7 @@ pub all_passed : (old new : Machine) (os : List Operand) (room k at : ℕ) → l
     PassesFirst old os room (length os) (room + length os) new
 all_passed old new os room k at le before few =
     let p = before few in
-    record { comes = refl; there = p.there; before = p.before; passed = λ i o h lt. p.passed i o h (omega (arith, lt, le)) }
+    record { comes = refl; there = p.there; fewest = p.fewest; before = p.before; passed = λ i o h lt. p.passed i o h (omega (arith, lt, le)) }
 
 -- ---- the frame of the function is on top
 abbrev left_by : Bor Statement → Stacked → Stacked

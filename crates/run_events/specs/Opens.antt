@@ -75,10 +75,11 @@ IsBefore base room (operand.Done node) = base + node < room
 IsBefore base room o = Unit {0}
 
 -- The values of so many first ones of these operands stand in the rooms from this one on, the next of which is known, and all of which are there. What
--- stood before them stays.
+-- stood before them stays, and there are no fewer rooms.
 pub record HasPassed (old : Machine) (os : List Operand) (room k next : ℕ) (new : Machine) : Type 0 where
   pub comes : next ≡ room + k
   pub there : room + length os ≤ length new.values.items
+  pub fewest : length old.values.items ≤ length new.values.items
   pub before : (j : ℕ) (h : Kept_value) → j < room → slice_get old.values.items j ≡ Some h → slice_get new.values.items j ≡ Some h
   pub passed : (i : ℕ) (o : Operand) (h : Kept_value) → i < k → slice_get os i ≡ Some o → IsBefore old.top.base room o → operand_in old o ≡ Some h
       → slice_get new.values.items (room + i) ≡ Some h

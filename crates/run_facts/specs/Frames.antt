@@ -40,6 +40,7 @@ pub record SeesFunction (m : Machine) (o : Open) (n : ℕ) : Type 0 where
   pub code : FunctionCode
   pub at : slice_get m.code.now.functions.items n ≡ Some (Some code)
   pub blocks : o.blocks ≡ code.blocks
+  pub expressions : o.expressions ≡ code.expressions
   pub above : o.above ≡ o.locals + code.objects
   pub places : o.above ≤ length m.locals.items
   pub own : IsOneOf code.expressions o.stage

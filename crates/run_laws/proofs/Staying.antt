@@ -1,5 +1,5 @@
 -- Behind an event that isn't a body the machine stands as picks ask it again.
-use Rattle.std.proofs.Common.{arith, ◌≡◌, ◌+◌, ◌<◌, ℕ, zero, suc, Bool, true, false, if◌then◌else◌, List, length, Option, Some, None, slice_get}
+use Rattle.std.proofs.Common.{arith, ◌≡◌, ◌≢◌, ◌+◌, ◌<◌, ◌≤◌, ℕ, zero, suc, Bool, true, false, if◌then◌else◌, List, length, Option, Some, None, slice_get}
 use Rattle.std.proofs.Common.{refl, sym, ap, subst, ◌∙◌}
 use Rattle.std.proofs.lemmas.List.Elements.{All-weaker}
 use Rattle.std.proofs.lemmas.Option.{same_Some, slice_get_within}
@@ -45,6 +45,7 @@ use Rattle.run_listing.specs.Along.{IsListed}
 use Rattle.run_state.specs.declared.machine.Machine.{Machine}
 use Rattle.run_state.specs.declared.machine.Open.{Open}
 use Rattle.run_state.specs.declared.machine.Stage.{Stage}
+use Rattle.run_state.specs.declared.watch.Begun.{Begun as Shown}
 use Rattle.run_state.specs.Operands.{Gives, RoomGives}
 use Rattle.run_state.specs.Stands.{Holds}
 use Rattle.run_events.specs.Nodes.{IsActOf}
@@ -58,18 +59,33 @@ use Rattle.code_view.specs.Events.{EventsAreEvaluated, IsListedAt}
 use Rattle.code_view.specs.Named.{NamedIsOpen, NamesAreOpen, SlotIsOpen}
 use Rattle.run_laws.specs.Open.{aside, IsLawfulCode, IsOpen}
 use Rattle.run_laws.specs.Small.{ActsGiveSmall, AreSmall, EndInTime, FillsSmall, HasSmallBytes, IsSmall, NodeFillsSmall}
-use Rattle.run_laws.specs.Staying.{OpenStays}
+use Rattle.run_laws.specs.Staying.{MovesOn, OpenStays, moved_on}
 use Rattle.run_laws.proofs.Frames.{top_frame}
 use Rattle.run_laws.proofs.Given.{Laws, act_is, end_is, first_is, in_listing, part_same, root_is, rooms_is}
 use Rattle.run_laws.proofs.Near.{base_small, operands_small}
 
 -- ---- what stays of the machine
--- its code and its program, and of its top frame all but where the cursor stands
-pub record Moves (old : Machine) (s : Stage) (new : Machine) : Type 0 where
-  pub cursor : ℕ
-  pub top : new.top ≡ record old.top { stage = Some (record s { cursor = cursor }) }
-  pub code : new.code.now ≡ old.code.now
-  pub program : new.program.now ≡ old.program.now
+abbrev keep_of : (old new : Machine) → Machine
+keep_of old new = record old {
+  memory = new.memory;
+  begun = new.begun;
+  strayed = new.strayed;
+  values = new.values;
+  items = new.items;
+  spare = new.spare;
+}
+
+kept_by : (old new w : Machine) → new ≡ w → w ≡ keep_of old w → new ≡ keep_of old new
+kept_by old new w is keeps = is ∙ keeps ∙ ap (keep_of old) (sym is)
+
+moved_top : {old new : Machine} {s : Stage} (m : MovesOn old s new) → new.top ≡ record old.top { stage = Some (record s { cursor = m.cursor }) }
+moved_top m = ap (λ (k : Machine). k.top) m.rest
+
+moved_code : {old new : Machine} {s : Stage} → MovesOn old s new → new.code.now ≡ old.code.now
+moved_code m = ap (λ (k : Machine). k.code.now) m.rest
+
+moved_program : {old new : Machine} {s : Stage} → MovesOn old s new → new.program.now ≡ old.program.now
+moved_program m = ap (λ (k : Machine). k.program.now) m.rest
 
 -- of the memory and the streams too
 abbrev StoreOf : Machine → Store
@@ -79,18 +95,18 @@ past_store : (straight : Bool) (old past : Machine) (s : Stage) (d : Due) → Is
 past_store true old past s d p = ap StoreOf p.5
 past_store false old past s d p = ap StoreOf p
 
-past_moves : (straight : Bool) (old past : Machine) (s : Stage) (d : Due) → old.top.stage ≡ Some s → IsPast straight old s d past → Moves old s past
+past_moves : (straight : Bool) (old past : Machine) (s : Stage) (d : Due) → old.top.stage ≡ Some s → IsPast straight old s d past → MovesOn old s past
 past_moves true old past s d stage p = record {
   cursor = suc (s.cursor + p.1.0);
-  top = ap (λ (k : Machine). k.top) p.5;
-  code = ap (λ (k : Machine). k.code.now) p.5;
-  program = ap (λ (k : Machine). k.program.now) p.5;
+  rest = p.5 ∙ ap (moved_on old s (suc (s.cursor + p.1.0))) (sym p.5);
+  begun = λ j b other is. ap (λ (k : Machine). slice_get k.begun.items j) p.5 ∙ is;
+  values = let same = ap (λ (k : Machine). length k.values.items) p.5 in omega (arith, same);
 }
 past_moves false old past s d stage p = record {
   cursor = s.cursor;
-  top = ap (λ (k : Machine). k.top) p ∙ ap (λ (z : Option Stage). record old.top { stage = z }) stage;
-  code = ap (λ (k : Machine). k.code.now) p;
-  program = ap (λ (k : Machine). k.program.now) p;
+  rest = p ∙ ap (λ (z : Option Stage). record old { top = record old.top { stage = z } }) stage ∙ ap (moved_on old s s.cursor) (sym p);
+  begun = λ j b other is. ap (λ (k : Machine). slice_get k.begun.items j) p ∙ is;
+  values = let same = ap (λ (k : Machine). length k.values.items) p in omega (arith, same);
 }
 
 past_count : (straight : Bool) (old past : Machine) (s : Stage) (d : Due) → IsPast straight old s d past
@@ -100,25 +116,31 @@ past_count false old past s d p = ap (λ (k : Machine). length k.values.items) p
 
 -- what changes neither
 record Same (old new : Machine) : Type 0 where
-  top : new.top ≡ old.top
-  code : new.code.now ≡ old.code.now
-  program : new.program.now ≡ old.program.now
+  rest : new ≡ keep_of old new
+  begun : (j : ℕ) (b : Shown) → j ≢ length old.below.items → slice_get old.begun.items j ≡ Some b → slice_get new.begun.items j ≡ Some b
+  values : length old.values.items ≤ length new.values.items
 
-moves_on : (old mid new : Machine) (s : Stage) → Moves old s mid → Same mid new → Moves old s new
+same_by : (old new : Machine) → new ≡ old → Same old new
+same_by old new is = record {
+  rest = kept_by old new old is refl;
+  begun = λ j b other at. ap (λ (k : Machine). slice_get k.begun.items j) is ∙ at;
+  values = let same = ap (λ (k : Machine). length k.values.items) is in omega (arith, same);
+}
+
+moves_on : (old mid new : Machine) (s : Stage) → MovesOn old s mid → Same mid new → MovesOn old s new
 moves_on old mid new s m same = record {
   cursor = m.cursor;
-  top = same.top ∙ m.top;
-  code = same.code ∙ m.code;
-  program = same.program ∙ m.program;
+  rest = same.rest ∙ ap (λ (k : Machine). keep_of k new) m.rest;
+  begun = λ j b other at. same.begun j b (λ is. other (is ∙ ap (λ (k : Machine). length k.below.items) m.rest)) (m.begun j b other at);
+  values = let p = m.values in let q = same.values in omega (arith, p, q);
 }
 
 noted_same : (straight : Bool) (old new : Machine) (u : Place) → NotesWay straight old u new → Same old new
-noted_same true old new u n =
-    record { top = ap (λ (k : Machine). k.top) n; code = ap (λ (k : Machine). k.code.now) n; program = ap (λ (k : Machine). k.program.now) n }
+noted_same true old new u n = same_by old new n
 noted_same false old new u n = record {
-  top = ap (λ (k : Machine). k.top) n.rest;
-  code = ap (λ (k : Machine). k.code.now) n.rest;
-  program = ap (λ (k : Machine). k.program.now) n.rest;
+  rest = kept_by old new (record old { strayed = new.strayed }) n.rest refl;
+  begun = λ j b other at. ap (λ (k : Machine). slice_get k.begun.items j) n.rest ∙ at;
+  values = let same = ap (λ (k : Machine). length k.values.items) n.rest in omega (arith, same);
 }
 
 noted_store : (straight : Bool) (old new : Machine) (u : Place) → NotesWay straight old u new → StoreOf new ≡ StoreOf old
@@ -139,15 +161,14 @@ record TestGives (tables : Tables) (m : Machine) (number : ℕ) : Type 0 where
 
 decides_same : (o : Option ℕ) (old new : Machine) → ((number : ℕ) → o ≡ Some number → TestGives old.code.now.tables old number)
     → Decides o old new → Same old new
-decides_same None old new test d =
-    record { top = ap (λ (k : Machine). k.top) d; code = ap (λ (k : Machine). k.code.now) d; program = ap (λ (k : Machine). k.program.now) d }
+decides_same None old new test d = same_by old new d
 decides_same (Some number) old new test d =
     let t = test number refl in
     let has = d t.choice t.gives.0 t.there t.gives.1 in
     record {
-      top = ap (λ (k : Machine). k.top) has.rest;
-      code = ap (λ (k : Machine). k.code.now) has.rest;
-      program = ap (λ (k : Machine). k.program.now) has.rest;
+      rest = kept_by old new (record old { begun = new.begun }) has.rest refl;
+      begun = has.others;
+      values = let same = ap (λ (k : Machine). length k.values.items) has.rest in omega (arith, same);
     }
 
 decides_store : (o : Option ℕ) (old new : Machine) → ((number : ℕ) → o ≡ Some number → TestGives old.code.now.tables old number) → Decides o old new
@@ -267,21 +288,26 @@ module _ (gives : RoomGives) (evaluated : EventsAreEvaluated) (world : World) (m
       let seen = sight_of firsts (length nodes) d.place.node x in
       value_gives h seen d.act (subst (λ (k : Kind). IsAct firsts old.code.now.tables x.initializer h seen k d.act) is it.2.does)
 
-  passes : Moves old s t.taken.past
+  passes : MovesOn old s t.taken.past
   passes = past_moves s.straight old t.taken.past s d t.stage t.taken.passes
 
   base_is : t.taken.past.top.base ≡ old.top.base
-  base_is = ap (λ (z : Open). z.base) passes.top
+  base_is = ap (λ (z : Open). z.base) (moved_top passes)
 
-  done_moves : Moves old s t.taken.done
+  done_moves : MovesOn old s t.taken.done
   done_moves =
       moves_on old t.taken.past t.taken.done s passes (record {
-        top = ap (λ (k : Machine). k.top) t.taken.changes.rest;
-        code = ap (λ (k : Machine). k.code.now) t.taken.changes.rest;
-        program = ap (λ (k : Machine). k.program.now) t.taken.changes.rest;
+        rest = kept_by t.taken.past t.taken.done (record t.taken.past {
+          memory = t.taken.done.memory;
+          values = t.taken.done.values;
+          items = t.taken.done.items;
+          spare = t.taken.done.spare;
+        }) t.taken.changes.rest refl;
+        begun = λ j b other at. ap (λ (k : Machine). slice_get k.begun.items j) t.taken.changes.rest ∙ at;
+        values = t.taken.changes.count;
       })
 
-  noted_moves : Moves old s t.taken.noted
+  noted_moves : MovesOn old s t.taken.noted
   noted_moves = moves_on old t.taken.done t.taken.noted s done_moves (noted_same s.straight t.taken.done t.taken.noted d.place t.taken.notes)
 
   room_there : t.taken.past.top.base + d.place.node < length t.taken.past.values.items
@@ -297,7 +323,7 @@ module _ (gives : RoomGives) (evaluated : EventsAreEvaluated) (world : World) (m
   value_held : d.place.kind ≡ Val → Holds t.taken.noted.memory t.taken.noted.values.items (t.taken.noted.top.base + d.place.node) v
   value_held is =
       let held = t.taken.does.value (gives_own is) room_there in
-      let base : t.taken.past.top.base ≡ t.taken.noted.top.base = base_is ∙ sym (ap (λ (z : Open). z.base) noted_moves.top) in
+      let base : t.taken.past.top.base ≡ t.taken.noted.top.base = base_is ∙ sym (ap (λ (z : Open). z.base) (moved_top noted_moves)) in
       subst (λ (n : ℕ). Holds t.taken.noted.memory t.taken.noted.values.items (n + d.place.node) v) base
       (noted_values s.straight t.taken.done t.taken.noted d.place (t.taken.past.top.base + d.place.node) v t.taken.notes held)
 
@@ -310,13 +336,13 @@ module _ (gives : RoomGives) (evaluated : EventsAreEvaluated) (world : World) (m
       let quiet = evaluated old.code.now firsts nodes s.expression laid d x o.stood.stands.listed o.at o.lays is_listed entry.1 in
       record {
         choice = test.choice;
-        there = ap (λ (k : Code). slice_get k.tables.choices.items number) noted_moves.code ∙ test.there;
+        there = ap (λ (k : Code). slice_get k.tables.choices.items number) (moved_code noted_moves) ∙ test.there;
         value = v;
         gives = subst (λ (z : Operand). Gives t.taken.noted z v) (sym operand)
             (gives t.taken.noted firsts x.tree.now d.place.node v quiet (value_held test.value));
       }
 
-  pub moves : Moves old s new
+  pub moves : MovesOn old s new
   moves = moves_on old t.taken.noted new s noted_moves (decides_same d.choice t.taken.noted new tested t.taken.decides)
 
   abbrev after : Stage
@@ -410,12 +436,12 @@ module _ (gives : RoomGives) (evaluated : EventsAreEvaluated) (world : World) (m
       → IsOpen world meaning new (after_event world st e d.place v new.items (store_after new)) (with_given e d.place v) after laid firsts nodes
   stays stands small = record {
     stood = stands world meaning old new st e s laid d v t;
-    stage = ap (λ (z : Open). z.stage) moves.top;
-    code = subst (λ (p : Program). IsLawfulCode p new.code.now) (sym moves.program)
-        (subst (λ (k : Code). IsLawfulCode old.program.now k) (sym moves.code) o.code);
-    at = ap (λ (k : Code). slice_get k.expressions.items s.expression) moves.code ∙ o.at;
-    lays = subst (λ (k : Code). LaidOutBy firsts nodes k.tables k.listing.items laid) (sym moves.code) o.lays;
-    names = names_moved old new moves.code (ap (λ (z : Open). z.blocks) moves.top) firsts st.top.scene.blocks laid.root.now o.names;
+    stage = ap (λ (z : Open). z.stage) (moved_top moves);
+    code = subst (λ (p : Program). IsLawfulCode p new.code.now) (sym (moved_program moves))
+        (subst (λ (k : Code). IsLawfulCode old.program.now k) (sym (moved_code moves)) o.code);
+    at = ap (λ (k : Code). slice_get k.expressions.items s.expression) (moved_code moves) ∙ o.at;
+    lays = subst (λ (k : Code). LaidOutBy firsts nodes k.tables k.listing.items laid) (sym (moved_code moves)) o.lays;
+    names = names_moved old new (moved_code moves) (ap (λ (z : Open). z.blocks) (moved_top moves)) firsts st.top.scene.blocks laid.root.now o.names;
     ends = o.ends;
     small = small_with e d.place v o.small small.0;
     bytes = small.1;
@@ -431,6 +457,6 @@ module _ (gives : RoomGives) (laws : Laws) (acts : ActsGiveSmall) (stands : Even
       let is = subst (λ (k : Machine). IsActOf world k st.top.scene e d) (sym past.1)
       (act_is laws world meaning old st e s laid firsts nodes o past.0 old.items d listed t.may t.plain) in
       let small = gives_small gives evaluated world meaning old new st e s laid firsts nodes d v o t acts is in (
-        after gives evaluated world meaning old new st e s laid firsts nodes d v o t,
+        moves gives evaluated world meaning old new st e s laid firsts nodes d v o t,
         stays gives evaluated world meaning old new st e s laid firsts nodes d v o t stands small,
       )

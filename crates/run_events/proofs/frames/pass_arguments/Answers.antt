@@ -8,7 +8,7 @@ pub loop-operand-init : goal.loop-operand-init
 loop-operand-init c = record {
   rest = c.grow.ensures.rest;
   passes = none_passed c.args.machine.now c.grow.new.self c.args.operands.now c.args.room c.saturating_add.result c.args.room refl
-      c.saturating_add.ensures c.in_ok-grow.ensures.count c.grow.ensures.kept;
+      c.saturating_add.ensures c.in_ok-grow.ensures.count c.grow.ensures.fewest c.grow.ensures.kept;
 }
 
 pub loop-operand-preserved : goal.loop-operand-preserved
