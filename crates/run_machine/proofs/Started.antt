@@ -38,17 +38,6 @@ use Rattle.run_machine.proofs.Waiting.{Waits}
 pub place_is : (u : Place) (kind : Kind) → u.kind ≡ kind → u ≡ place u.node kind
 place_is u kind is = λ i. record { node = u.node; kind = is i }
 
--- the frame that starts
-abbrev pub initializer_frame : Scene → ℕ → Expr → Local
-initializer_frame f n tree = record {
-  scene = record { path = (f.turn, n) ∷ f.path; home = f.home; turn = 0; blocks = f.blocks };
-  function = None;
-  arguments = [];
-  todo = Begin tree Unused ∷ [];
-  begun = None;
-  result = Some Nothing;
-}
-
 initializer_steps : (world : World) (st : State) (e : Begun) (n : ℕ) (tree : Expr) (ty : CType) (line : ℕ) (os : Exprs) → st.top.begun ≡ Some e →
     at_node 0 e.root n ≡ Some (expr (Isolated tree) ty line os) →
     step world st (Ev (place n Body))
