@@ -1,7 +1,7 @@
 // Laws of the picks of a machine.
 ghost use Rattle.run_machine.specs.Picks.{NoneIsPermitted, UnlistedIsRefused, NextIsPermitted, PermitsDecided, FollowsCanonical};
 ghost use Rattle.run_machine.specs.Completing.{EventCompletes};
-ghost use Rattle.run_machine.specs.Taking.{EventStands, EventSteps};
+ghost use Rattle.run_machine.specs.Taking.{EventComes, EventStands, EventSteps};
 
 use c_model::law_update_halves;
 use completion_laws::law_listed_completes;
@@ -28,10 +28,12 @@ pub fn law_picks()
 
 /// Behind an event that isn't a body, and that may come next, a machine stands for the state of the definitions that has the event done: its value, what is
 /// chosen by it, and what is done; the frames below stand as they stood (`stands`). Where the act is that of its node, this is the definitions' next
-/// state, within the limits (`steps`). Along the canonical way it completes what the definitions say (`completes`).
+/// state, within the limits (`steps`), and what is taken so goes on as that state, with the items of the pick (`comes`). Along the canonical way it completes
+/// what the definitions say (`completes`).
 pub fn law_events()
     ensures stands { EventStands }
     ensures steps { EventSteps }
+    ensures comes { EventComes }
     ensures completes { EventCompletes }
 {
     law_view();
