@@ -34,7 +34,9 @@ use Rattle.std.proofs.Common.{
   IfOk,
   slice_get,
 }
+use Rattle.std.proofs.lemmas.Result.{on_ok_weaker}
 use Rattle.std.specs.Borrow.{Bor}
+use Rattle.std.specs.Prelude.{OnOk}
 use Rattle.ub_base.specs.declared.clause.Kind.TheVariants.{Body}
 use Rattle.ub_base.specs.declared.names.Event.{Event}
 use Rattle.ub_base.specs.declared.names.Item.{Item}
@@ -176,8 +178,21 @@ closed_stays m n closed s = record {
 pub keeps_so : (m n : Machine) → m.top.stage ≡ None → StaysSo m n → KeepsControl m n (Ok None)
 keeps_so m n closed s = stays (closed_stays m n closed s)
 
-pub keeps_ok : (m n : Machine) (status : Option ℕ) → status ≡ None → m.top.stage ≡ None → StaysSo m n → KeepsControl m n (Ok status)
-keeps_ok m n status none closed s = subst (λ (o : Option ℕ). KeepsControl m n (Ok o)) (sym none) (keeps_so m n closed s)
+-- .. by what was answered
+pub keeps_stays : (m n : Machine) (r : Result (Option ℕ) Halt) → m.top.stage ≡ None → OnOk r (StaysSo m n) → KeepsControl m n r
+keeps_stays m n (Ok None) closed s = keeps_so m n closed s
+keeps_stays m n (Ok (Some status)) closed s = tt
+keeps_stays m n (Err halt) closed s = tt
+
+pub keeps_going : (m n : Machine) (r : Result (Option ℕ) Halt) → m.top.stage ≡ None → OnOk r (n ≡ record m { work = n.work }) → KeepsControl m n r
+keeps_going m n r closed is = keeps_stays m n r closed (on_ok_weaker r (stays_worked m n) is)
+
+pub keeps_writing : (m n : Machine) (r : Result (Option ℕ) Halt) → m.top.stage ≡ None →
+    OnOk r (n ≡ record m { memory = n.memory; items = n.items }) → KeepsControl m n r
+keeps_writing m n r closed is = keeps_stays m n r closed (on_ok_weaker r (stays_written m n) is)
+
+pub keeps_nothing : (m : Machine) → m.top.stage ≡ None → KeepsControl m m (Ok None)
+keeps_nothing m closed = keeps_so m m closed (stays_worked m m refl)
 
 -- a block is left, and then the frame goes on or ends
 left_by : (m n k : Machine) (r : Result (Option ℕ) Halt) → m.top.stage ≡ None →
