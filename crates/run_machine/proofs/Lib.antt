@@ -1,6 +1,6 @@
 mod Answered
 mod Aside
-pub mod Beginning
+mod Beginning
 mod Begun
 mod Behind
 mod Births

@@ -75,8 +75,8 @@ abbrev pub first_stage : ℕ → Expression → Stage
 first_stage number laid =
     record { expression = number; first = laid.first; cursor = laid.first; end = laid.end; straight = true; value = laid.value }
 
--- A full expression began in the top frame, in which none was open (6.8p4). There are rooms for its values. It is shown above those of the frames below, with
--- just the operands chosen that are chosen at once.
+-- A full expression began in the top frame, in which none was open (6.8p4). There are rooms for its values. It is shown above those of the frames below
+-- (`BelowIsShown`), with just the operands chosen that are chosen at once.
 pub record BeginsExpression (old new : Machine) : Type 0 where
   pub keeps : KeepsFrames old new
   pub closed : old.top.stage ≡ None

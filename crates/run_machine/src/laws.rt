@@ -1,5 +1,5 @@
 // Laws of the picks of a machine.
-ghost use Rattle.run_machine.specs.Picks.{NoneIsPermitted, UnlistedIsRefused, NextIsPermitted, PermitsDecided, FollowsCanonical};
+ghost use Rattle.run_machine.specs.Picks.{NoneIsPermitted, UnlistedIsRefused, NextIsPermitted, PermitsDecided, FollowsCanonical, BelowIsShown};
 ghost use Rattle.run_machine.specs.Completing.{EventCompletes};
 ghost use Rattle.run_machine.specs.Taking.{EventComes, EventStands, EventSteps};
 
@@ -12,13 +12,15 @@ use run_state::law_operands;
 
 /// By each state of the definitions that a machine stands for: in the top frame no event may come next where no full expression has begun, nor one
 /// that isn't listed; the next one along the canonical way may, and any other one where what is done permits it. The event that the machine goes
-/// on to is the canonical pick, and the control step is where there is none.
+/// on to is the canonical pick, and the control step is where there is none. Of each frame
+/// below the top one a full expression is shown.
 pub fn law_picks()
     ensures closed { NoneIsPermitted }
     ensures unlisted { UnlistedIsRefused }
     ensures next { NextIsPermitted }
     ensures decided { PermitsDecided }
     ensures follows { FollowsCanonical }
+    ensures shown { BelowIsShown }
 {
     law_view();
     law_listed_tree();
