@@ -1,1 +1,9 @@
 mod Under
+mod Events
+mod Starts
+mod Started
+mod Controls
+mod Own
+mod Steps
+mod Body
+mod Laws

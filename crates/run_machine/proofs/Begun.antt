@@ -35,15 +35,15 @@ use Rattle.run_state.specs.declared.machine.Machine.{Machine}
 use Rattle.run_state.specs.declared.machine.Open.{Open}
 use Rattle.run_state.specs.declared.watch.Begun.{Begun as Shown}
 use Rattle.run_events.specs.Choices.{HasChosen}
-use Rattle.run_machine.specs.Beginning.{HasShown}
-use Rattle.run_machine.specs.Beginning.{IsAmong}
+use Rattle.run_machine.specs.Beginning.{HasShown, IsAmong}
 use Rattle.run_machine.specs.Keeping.{BeginsExpression, KeepsControl, KeepsFrames, begins, machine_with}
 use Rattle.run_machine.specs.Picks.{top_of}
 use Rattle.run_machine.proofs.Beginning.{begun_open, shown_in}
 
 -- by the calls that it consists of: room is made for its values, it is shown, and the first operands are chosen
 module _ (m g s n : Machine) (turn number size : ℕ) (how : Use) (laid : Expression) (cs : List (ℕ × ℕ)) (closed : m.top.stage ≡ None)
-    (at : slice_get m.code.now.expressions.items number ≡ Some laid) (own : IsAmong m.top.expressions number) (chosen : cs ≡ part_of m.code.now.tables.chosen.items laid.chosen)
+    (at : slice_get m.code.now.expressions.items number ≡ Some laid) (own : IsAmong m.top.expressions number)
+    (chosen : cs ≡ part_of m.code.now.tables.chosen.items laid.chosen)
     (turned : turn ≡ min (m.top.turn + 1) (2 ^ 64 - 1)) (grown : g ≡ record m { top = begun_open m.top turn number how laid; values = g.values })
     (needs : size ≡ min (m.top.base + laid.rooms) (2 ^ 64 - 1)) (enough : size ≤ length g.values.items)
     (fewest : length m.values.items ≤ length g.values.items) (shown : HasShown g number laid.root s) (made : HasChosen s cs n) where

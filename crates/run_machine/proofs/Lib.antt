@@ -13,7 +13,7 @@ mod Deciding
 mod Entered
 mod Entering
 mod Finished
-mod Given
+pub mod Given
 mod Giving
 mod Going
 mod Growing

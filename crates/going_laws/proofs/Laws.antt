@@ -1,0 +1,80 @@
+-- The laws of each kind of pick.
+use Rattle.std.proofs.Common.{◌≡◌, ◌+◌, ◌<◌, ◌≤◌, ◌^◌, ℕ, suc, true, List, length, reverse, Option, Some, None, refl, sym, ap, subst, ◌∙◌}
+use Rattle.ub_base.specs.declared.names.Frame.{Frame}
+use Rattle.c_typed.specs.declared.program.Program.{Program}
+use Rattle.c_typed.specs.declared.tree.Place.{Place}
+use Rattle.c_model.specs.Runs.{Outcome, Running, State, step}
+use Rattle.c_model.specs.Steps.{Begun, Ev, Local, MayPick}
+use Rattle.c_model.specs.World.{World}
+use Rattle.run_code.specs.Keeping.{KeepsAtBegin}
+use Rattle.run_statements.specs.declared.numbers.Numbers.{Numbers}
+use Rattle.run_state.specs.declared.machine.Machine.{Machine}
+use Rattle.run_state.specs.declared.machine.Stage.{Stage}
+use Rattle.run_state.specs.Stands.{Stands}
+use Rattle.run_machine.specs.Answering.{IsWithin}
+use Rattle.run_machine.specs.Picks.{BelowIsShown, at_cursor}
+use Rattle.run_machine.specs.Starting.{numbered, started_state}
+use Rattle.run_machine.specs.Taking.{IsPast}
+use Rattle.code_view.specs.Numbering.{meaning_of}
+use Rattle.frame_laws.specs.Laws.{StepsOrdered}
+use Rattle.frame_laws.specs.Named.{LawfulIsScoped}
+use Rattle.frame_laws.specs.Reached.{StepsReached}
+use Rattle.run_laws.specs.Staying.{OpenStays}
+use Rattle.run_facts.specs.Frames.{KeepsOpen}
+use Rattle.run_facts.specs.Going.{IsGoing}
+use Rattle.going_laws.specs.Going.{CallGoesOn, EventGoesOn, InitializerGoesOn, StepGoesOn}
+use Rattle.going_laws.proofs.Body.{body_keeps}
+use Rattle.going_laws.proofs.Events.{goes_on as event_goes, kept_open}
+use Rattle.going_laws.proofs.Started.{function_started, initializer_started, past_is}
+use Rattle.going_laws.proofs.Starts.{HasStarted, goes_on as frame_goes}
+use Rattle.going_laws.proofs.Steps.{step_goes}
+
+abbrev state_in : Outcome → State → State
+state_in (Running st) other = st
+state_in o other = other
+
+same_state : (a b : State) → Running a ≡ Running b → a ≡ b
+same_state a b q = ap (λ o. state_in o a) q
+
+module _ (scoped : LawfulIsScoped) (ordered : StepsOrdered) (reached : StepsReached) where
+  pub events_go : OpenStays → EventGoesOn
+  events_go stays world p numbers old new st n e s laid firsts nodes d v going o t steps within few =
+      let moves = stays world (meaning_of p numbers old.code.now) old new st e s laid firsts nodes d v o t in
+      event_goes world p numbers old new st n e s laid firsts nodes d v going o moves.0 moves.1 scoped ordered reached within t.may steps few
+
+  -- the full expression that is open there
+  open_of : (world : World) (p : Program) (numbers : Numbers) (old : Machine) (st : State) (n : ℕ) (e : Begun) (s : Stage)
+      → IsGoing world p numbers old st n → old.top.stage ≡ Some s → st.top.begun ≡ Some e
+      → KeepsOpen world old (length (reverse old.below.items)) old.top s st.top.scene e
+  open_of world p numbers old st n e s going stage begun =
+      kept_open world old (length (reverse old.below.items)) old.top old.top.stage st.top.scene st.top.begun s e stage begun going.frames.0.begun
+
+  starts_go : (world : World) (p : Program) (numbers : Numbers) (old new : Machine) (st after : State) (n : ℕ) (e : Begun) (s : Stage) (u : Place)
+      (g : Local) (frame : Frame) → IsGoing world p numbers old st n → old.top.stage ≡ Some s → st.top.begun ≡ Some e → HasStarted old s new
+      → MayPick world st.top st.top.begun (Ev u) → step world st (Ev u) ≡ Running after → Running after ≡ Running (started_state world st u g)
+      → Stands world (meaning_of p numbers old.code.now) (numbered new frame) after → IsWithin world after → suc n < 2 ^ 32
+      → IsGoing world p numbers (numbered new frame) after (suc n)
+  starts_go world p numbers old new st after n e s u g frame going stage begun has may steps comes stands within few =
+      let same : started_state world st u g ≡ after = same_state (started_state world st u g) after (sym comes) in
+      subst (λ (z : State). IsGoing world p numbers (numbered new frame) z (suc n)) same
+      (frame_goes world p numbers old new st n e s u g going stage begun has frame scoped ordered reached (subst (IsWithin world) (sym same) within) may
+      (steps ∙ comes) few (subst (Stands world (meaning_of p numbers old.code.now) (numbered new frame)) (sym same) stands))
+
+  pub initializers_go : InitializerGoesOn
+  initializers_go world p numbers old new st after n e s u frame going stage begun may steps x stands within few =
+      let open = open_of world p numbers old st n e s going stage begun in
+      let past = past_is s.straight old x.past s x.due open.straight x.passes in
+      starts_go world p numbers old new st after n e s u _ frame going stage begun
+      (initializer_started old x.past new s past.0 x.is.number x.who stage past.1 open.rooms going.frames.0.sees x.starts) may steps x.comes stands within few
+
+  pub calls_go : CallGoesOn
+  calls_go world p numbers old new st after n e s u frame going begun may steps x stands within few =
+      let open = open_of world p numbers old st n e s going x.starts.stage begun in
+      let past = past_is s.straight old x.starts.past s x.due open.straight x.starts.passes in
+      starts_go world p numbers old new st after n e s u _ frame going x.starts.stage begun
+      (function_started old x.starts.past new s past.0 x.number x.starts.who x.operands x.starts.stage past.1 x.starts.few x.starts.starts) may steps x.comes
+      stands within few
+
+  pub steps_go : KeepsAtBegin → BelowIsShown → StepGoesOn
+  steps_go at_begin shown world p numbers old new st after n going may k steps stands within few =
+      step_goes world p numbers old new st after n going stands steps scoped ordered reached at_begin shown body_keeps may k within few
