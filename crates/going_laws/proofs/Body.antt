@@ -1,13 +1,9 @@
 -- What a body gives chooses no operand, so that what is kept of choices stays.
-use Rattle.std.proofs.Common.{◌≡◌, ℕ, false, Option, Some, None, refl, sym, ap, subst, ◌∙◌}
+use Rattle.std.proofs.Common.{None, sym, ap, ◌∙◌}
 use Rattle.std.specs.Prelude.{if◌then◌else◌}
-use Rattle.ub_base.specs.declared.clause.Kind.TheVariants.{Body, Val}
+use Rattle.ub_base.specs.declared.clause.Kind.TheVariants.{Val}
 use Rattle.c_typed.specs.Order.{Taken, is_due, place}
 use Rattle.c_model.specs.Program.{tree_of}
-use Rattle.c_model.specs.Steps.{Begun, Scene, with_given}
-use Rattle.c_model.specs.Values.{Value}
-use Rattle.c_model.specs.World.{World}
-use Rattle.run_code.specs.Chosen.{IsKept}
 use Rattle.run_machine.proofs.Given.{given_value, taken_given}
 use Rattle.going_laws.proofs.Steps.{BodyKeeps}
 

@@ -1,8 +1,6 @@
 -- What a control step of the definitions does to the frames of a state.
-use Rattle.std.proofs.Common.{◌≡◌, ℕ, suc, Bool, true, false, List, [], ◌∷◌, Option, Some, None, refl, sym, ap, subst, ◌∙◌}
-use Rattle.std.specs.Prelude.{◌&&◌, if◌then◌else◌}
+use Rattle.std.proofs.Common.{◌≡◌, ℕ, suc, List, [], ◌∷◌, Option, Some, None, refl, sym, ap, subst, ◌∙◌}
 use Rattle.ub_base.specs.declared.clause.Cause.{Cause}
-use Rattle.ub_base.specs.declared.names.Item.{Item}
 use Rattle.c_typed.specs.declared.tree.Place.{Place}
 use Rattle.mem_spec.specs.Script.{Act, Done, Raised, Ended, Outside, Unplaced, run}
 use Rattle.mem_spec.specs.Store.{Store}
@@ -10,11 +8,8 @@ use Rattle.c_model.specs.Control.{
   Todo, Use, Enter, Leave, Unwrite, Begin, Nothing_to_do, Go_to, Go_out, Go_on, Go_back, To_do, Rest, Round, Again, Test, Break_here, ready_work,
 }
 use Rattle.c_model.specs.Moves.{Move, Stay, Start, End}
-use Rattle.c_model.specs.Program.{Expr}
-use Rattle.c_model.specs.Runs.{
-  Entry, Outcome, Refused, Raises, Over, No_row, Ends, Running, State, acted, back, entry_of, enter_passes, limited, moved, step, within, without_row,
-}
-use Rattle.c_model.specs.Steps.{Begun, Control, Ev, Local, Scene, control_next, does, move, next, settled}
+use Rattle.c_model.specs.Runs.{Entry, Outcome, Refused, Raises, Over, No_row, Ends, Running, State, acted, back, entry_of, enter_passes, limited, moved, step, within}
+use Rattle.c_model.specs.Steps.{Begun, Control, Ev, Local, control_next, does, move, next}
 use Rattle.c_model.specs.Values.{Value}
 use Rattle.c_model.specs.World.{World, Limits}
 

@@ -1,16 +1,14 @@
 -- Behind an event that isn't a body the machine goes on as before.
-use Rattle.std.proofs.Common.{arith, ◌≡◌, ◌≢◌, ◌+◌, ◌<◌, ◌≤◌, ◌^◌, ℕ, suc, true, List, [], ◌∷◌, length, map, reverse, Option, Some, None, slice_get}
-use Rattle.std.proofs.Common.{refl, sym, ap, subst, ◌∙◌}
+use Rattle.std.proofs.Common.{arith, ◌≡◌, ◌+◌, ◌<◌, ◌≤◌, ◌^◌, ℕ, suc, List, ◌∷◌, length, map, reverse, Option, Some, None, slice_get}
+use Rattle.std.proofs.Common.{sym, ap, subst, ◌∙◌}
 use Rattle.std.proofs.lemmas.List.{length-reverse}
 use Rattle.std.proofs.lemmas.Option.{same_Some}
 use Rattle.c_typed.specs.declared.program.Program.{Program}
-use Rattle.c_typed.specs.declared.tree.Place.{Place}
 use Rattle.c_model.specs.Runs.{Running, State, step}
-use Rattle.c_model.specs.Steps.{Begun, Ev, Local, MayPick, Scene, with_given}
+use Rattle.c_model.specs.Steps.{Begun, Ev, MayPick, Scene, with_given}
 use Rattle.c_model.specs.Values.{Value}
 use Rattle.c_model.specs.World.{World}
 use Rattle.seq_order.specs.Marked.{taken_in}
-use Rattle.run_control.specs.View.{Meaning}
 use Rattle.run_code.specs.Chosen.{IsKept}
 use Rattle.run_code.specs.declared.nodes.NodeInfo.{NodeInfo}
 use Rattle.run_code.specs.declared.steps.Due.{Due}
@@ -29,7 +27,7 @@ use Rattle.frame_laws.specs.Laws.{StepsOrdered}
 use Rattle.frame_laws.specs.Named.{LawfulIsScoped}
 use Rattle.frame_laws.specs.Reached.{StepsReached}
 use Rattle.run_laws.specs.Open.{IsOpen}
-use Rattle.run_laws.specs.Staying.{MovesOn, moved_on}
+use Rattle.run_laws.specs.Staying.{MovesOn}
 use Rattle.run_facts.specs.Frames.{IsOneOf, KeepFrames, KeepsBegun, KeepsFrame, KeepsOpen, Sees, SeesFunction, function_of}
 use Rattle.run_facts.specs.Going.{IsGoing, locals_of}
 use Rattle.run_facts.specs.SetUp.{IsSetUp}
@@ -45,7 +43,7 @@ kept_open world m height o (Some t) f (Some x) s e is at k =
     (subst (λ (z : Stage). KeepsOpen world m height o z f x) (same_Some t s is) k)
 
 -- the frame sees the same function with its cursor elsewhere
-abbrev moved_frame : Open → Stage → ℕ → Open
+abbrev pub moved_frame : Open → Stage → ℕ → Open
 moved_frame o s cursor = record o { stage = Some (record s { cursor = cursor }) }
 
 module _ (old new : Machine) (o : Open) (s : Stage) (cursor : ℕ) (stage : o.stage ≡ Some s) (code : new.code ≡ old.code)

@@ -1,5 +1,5 @@
 -- The laws of each kind of pick.
-use Rattle.std.proofs.Common.{◌≡◌, ◌+◌, ◌<◌, ◌≤◌, ◌^◌, ℕ, suc, true, List, length, reverse, Option, Some, None, refl, sym, ap, subst, ◌∙◌}
+use Rattle.std.proofs.Common.{◌≡◌, ◌<◌, ◌^◌, ℕ, suc, length, reverse, Some, sym, ap, subst, ◌∙◌}
 use Rattle.ub_base.specs.declared.names.Frame.{Frame}
 use Rattle.c_typed.specs.declared.program.Program.{Program}
 use Rattle.c_typed.specs.declared.tree.Place.{Place}
@@ -12,9 +12,8 @@ use Rattle.run_state.specs.declared.machine.Machine.{Machine}
 use Rattle.run_state.specs.declared.machine.Stage.{Stage}
 use Rattle.run_state.specs.Stands.{Stands}
 use Rattle.run_machine.specs.Answering.{IsWithin}
-use Rattle.run_machine.specs.Picks.{BelowIsShown, at_cursor}
+use Rattle.run_machine.specs.Picks.{BelowIsShown}
 use Rattle.run_machine.specs.Starting.{numbered, started_state}
-use Rattle.run_machine.specs.Taking.{IsPast}
 use Rattle.code_view.specs.Numbering.{meaning_of}
 use Rattle.frame_laws.specs.Laws.{StepsOrdered}
 use Rattle.frame_laws.specs.Named.{LawfulIsScoped}
@@ -62,15 +61,15 @@ module _ (scoped : LawfulIsScoped) (ordered : StepsOrdered) (reached : StepsReac
 
   pub initializers_go : InitializerGoesOn
   initializers_go world p numbers old new st after n e s u frame going stage begun may steps x stands within few =
-      let open = open_of world p numbers old st n e s going stage begun in
-      let past = past_is s.straight old x.past s x.due open.straight x.passes in
+      let opened = open_of world p numbers old st n e s going stage begun in
+      let past = past_is s.straight old x.past s x.due opened.straight x.passes in
       starts_go world p numbers old new st after n e s u _ frame going stage begun
-      (initializer_started old x.past new s past.0 x.is.number x.who stage past.1 open.rooms going.frames.0.sees x.starts) may steps x.comes stands within few
+      (initializer_started old x.past new s past.0 x.is.number x.who stage past.1 opened.rooms going.frames.0.sees x.starts) may steps x.comes stands within few
 
   pub calls_go : CallGoesOn
   calls_go world p numbers old new st after n e s u frame going begun may steps x stands within few =
-      let open = open_of world p numbers old st n e s going x.starts.stage begun in
-      let past = past_is s.straight old x.starts.past s x.due open.straight x.starts.passes in
+      let opened = open_of world p numbers old st n e s going x.starts.stage begun in
+      let past = past_is s.straight old x.starts.past s x.due opened.straight x.starts.passes in
       starts_go world p numbers old new st after n e s u _ frame going x.starts.stage begun
       (function_started old x.starts.past new s past.0 x.number x.starts.who x.operands x.starts.stage past.1 x.starts.few x.starts.starts) may steps x.comes
       stands within few

@@ -1,19 +1,14 @@
 -- A full expression of a function is laid out by nodes, where the objects of the function's blocks have their numbers.
-use Rattle.std.proofs.Common.{arith, ◌≡◌, ◌+◌, ◌-◌, ◌<◌, ◌≤◌, ℕ, zero, suc, List, [], ◌∷◌, length, Option, Some, None, slice_get}
-use Rattle.std.proofs.Common.{refl, sym, ap, subst, ◌∙◌}
-use Rattle.c_typed.specs.declared.program.Function.{Function}
+use Rattle.std.proofs.Common.{arith, ◌≡◌, ◌+◌, ◌-◌, ◌<◌, ℕ, zero, suc, List, [], ◌∷◌, length, Some, slice_get}
+use Rattle.std.proofs.Common.{subst}
 use Rattle.c_typed.specs.declared.program.Program.{Program}
-use Rattle.c_typed.specs.declared.statement.Block.{Block}
 use Rattle.c_typed.specs.declared.tree.Typed.{Typed}
 use Rattle.run_code.specs.declared.nodes.NodeInfo.{NodeInfo}
 use Rattle.run_code.specs.declared.steps.Expression.{Expression as Laid}
 use Rattle.run_code.specs.declared.steps.FunctionCode.{FunctionCode}
-use Rattle.run_code.specs.declared.steps.Range.{Range}
-use Rattle.run_code.specs.declared.tables.Tables.{Tables}
 use Rattle.run_code.specs.declared.whole.Code.{Code}
 use Rattle.run_code.specs.Functions.{AreLaidFrom, IsLaidAt, laid_in}
 use Rattle.run_code.specs.LaidOut.{LaidOutBy}
-use Rattle.run_code.specs.Roots.{HasCode}
 use Rattle.run_statements.specs.declared.numbers.Numbers.{Numbers}
 use Rattle.run_facts.specs.Frames.{IsIn}
 use Rattle.run_facts.specs.SetUp.{IsItsCode}
@@ -30,7 +25,11 @@ laid_at : (firsts : List ℕ) (code : Code) (at k : ℕ) (ts : List Typed) → A
     → IsOwnLaid code (at + k)
 laid_at firsts code at k [] all lt = absurd (omega (arith, lt))
 laid_at firsts code at zero (t ∷ ts) all lt =
-    let it = all.0 in record { laid = it.0; at = it.1; firsts = firsts; nodes = it.3.0; lays = it.3.1 }
+    let it = all.0 in
+    subst (IsOwnLaid code) (omega arith) (first it)
+  where
+    first : IsLaidAt firsts code.tables (laid_in code) at t → IsOwnLaid code at
+    first it = record { laid = it.0; at = it.1; firsts = firsts; nodes = it.3.0; lays = it.3.1 }
 laid_at firsts code at (suc k) (t ∷ ts) all lt =
     subst (IsOwnLaid code) (omega (arith)) (laid_at firsts code (suc at) k ts all.1 (omega (arith, lt)))
 

@@ -1,6 +1,6 @@
 -- What the frames of isolated initializers and of functions leave as they start.
-use Rattle.std.proofs.Common.{arith, ◌≡◌, ◌+◌, ◌<◌, ◌≤◌, ◌^◌, ℕ, suc, Bool, true, false, List, [], ◌∷◌, ◌++◌, length, reverse, Option, Some, None, slice_get}
-use Rattle.std.proofs.Common.{refl, sym, ap, subst, ◌∙◌}
+use Rattle.std.proofs.Common.{arith, ◌≡◌, ◌+◌, ◌-◌, ◌<◌, ◌≤◌, ◌^◌, ℕ, suc, Bool, true, false, List, [], ◌∷◌, ◌++◌, length, reverse, Option, Some, None, slice_get}
+use Rattle.std.proofs.Common.{refl, sym, ap, ◌∙◌}
 use Rattle.std.specs.Prelude.{min}
 use Rattle.ub_base.specs.declared.names.Event.{Event}
 use Rattle.run_code.specs.declared.steps.Due.{Due}
@@ -12,11 +12,10 @@ use Rattle.run_events.specs.Opens.{StartsFunction, StartsInitializer, started_on
 use Rattle.run_machine.specs.Picks.{at_cursor}
 use Rattle.run_machine.specs.Taking.{IsPast}
 use Rattle.run_facts.specs.Frames.{Sees, SeesFunction, function_of}
-use Rattle.going_laws.proofs.Events.{moved_frame}
 use Rattle.going_laws.proofs.Starts.{HasStarted}
 
 -- along the canonical way the cursor has passed the event
-past_is : (straight : Bool) (old past : Machine) (s : Stage) (d : Due) → straight ≡ true → IsPast straight old s d past → (c : ℕ) × (past ≡ at_cursor old s c)
+pub past_is : (straight : Bool) (old past : Machine) (s : Stage) (d : Due) → straight ≡ true → IsPast straight old s d past → (c : ℕ) × (past ≡ at_cursor old s c)
 past_is true old past s d is p = (suc (s.cursor + p.1.0), p.5)
 past_is false old past s d is p = absurd (cc)
 
@@ -123,8 +122,8 @@ module _ (old past new : Machine) (s : Stage) (c number : ℕ) (who : Event) (os
     depth = old.depth + 1;
   }
 
-  in_parts : new ≡ parts
-  in_parts =
+  called_parts : new ≡ parts
+  called_parts =
       f.counted ∙ (λ j. record (opened_parts j) { depth = ap (λ (k : Machine). k.depth + 1) is j })
 
   passes : (room + length os ≤ length f.passed.values.items) × (length past.values.items ≤ length f.passed.values.items)
@@ -138,21 +137,21 @@ module _ (old past new : Machine) (s : Stage) (c number : ℕ) (who : Event) (os
   values_more =
       let p = passes.1 in
       let was : length past.values.items ≡ length old.values.items = ap (λ (k : Machine). length k.values.items) is in
-      let now : length new.values.items ≡ length f.passed.values.items = ap (λ (k : Machine). length k.values.items) in_parts in
+      let now : length new.values.items ≡ length f.passed.values.items = ap (λ (k : Machine). length k.values.items) called_parts in
       omega (arith, p, was, now)
 
   locals_more : length old.locals.items ≤ length new.locals.items
   locals_more =
       let p = f.opens.fewest in
       let was : length f.passed.locals.items ≡ length old.locals.items = ap (λ (k : Machine). length k.locals.items) passed_parts in
-      let now : length new.locals.items ≡ length f.opened.locals.items = ap (λ (k : Machine). length k.locals.items) in_parts in
+      let now : length new.locals.items ≡ length f.opened.locals.items = ap (λ (k : Machine). length k.locals.items) called_parts in
       omega (arith, p, was, now)
 
   places : old.top.above + f.opens.code.objects ≤ length new.locals.items
   places =
       let p = f.opens.places in
       let was : f.passed.top.above ≡ old.top.above = ap (λ (k : Machine). k.top.above) passed_parts in
-      let now : length new.locals.items ≡ length f.opened.locals.items = ap (λ (k : Machine). length k.locals.items) in_parts in
+      let now : length new.locals.items ≡ length f.opened.locals.items = ap (λ (k : Machine). length k.locals.items) called_parts in
       omega (arith, p, was, now)
 
   base_there : (top_in from).base ≤ length new.values.items
@@ -160,13 +159,13 @@ module _ (old past new : Machine) (s : Stage) (c number : ℕ) (who : Event) (os
       let p = passes.0 in
       let base : past.top.base ≡ old.top.base = ap (λ (k : Machine). k.top.base) is in
       let rooms : past.top.rooms ≡ old.top.rooms = ap (λ (k : Machine). k.top.rooms) is in
-      let now : length new.values.items ≡ length f.passed.values.items = ap (λ (k : Machine). length k.values.items) in_parts in
+      let now : length new.values.items ≡ length f.passed.values.items = ap (λ (k : Machine). length k.values.items) called_parts in
       omega (arith, p, base, rooms, now)
 
   sees_own : SeesFunction new (top_in from) number
   sees_own = record {
     code = f.opens.code;
-    at = ap (λ (k : Machine). slice_get k.code.now.functions.items number) in_parts
+    at = ap (λ (k : Machine). slice_get k.code.now.functions.items number) called_parts
         ∙ sym (ap (λ (k : Machine). slice_get k.code.now.functions.items number) passed_parts) ∙ f.opens.there;
     blocks = refl;
     expressions = refl;
@@ -179,15 +178,15 @@ module _ (old past new : Machine) (s : Stage) (c number : ℕ) (who : Event) (os
   function_started = record {
     cursor = c;
     top = top_in from;
-    rest = in_parts ∙ (λ j. record old {
-      below = ap (λ (k : Machine). k.below) (sym in_parts) j;
+    rest = called_parts ∙ (λ j. record old {
+      below = ap (λ (k : Machine). k.below) (sym called_parts) j;
       top = top_in from;
-      work = ap (λ (k : Machine). k.work) (sym in_parts) j;
-      values = ap (λ (k : Machine). k.values) (sym in_parts) j;
-      locals = ap (λ (k : Machine). k.locals) (sym in_parts) j;
-      depth = ap (λ (k : Machine). k.depth) (sym in_parts) j;
+      work = ap (λ (k : Machine). k.work) (sym called_parts) j;
+      values = ap (λ (k : Machine). k.values) (sym called_parts) j;
+      locals = ap (λ (k : Machine). k.locals) (sym called_parts) j;
+      depth = ap (λ (k : Machine). k.depth) (sym called_parts) j;
     });
-    below = ap (λ (k : Machine). k.below.items) in_parts ∙ f.opens.below ∙ ap (λ (k : Machine). k.below.items ++ k.top ∷ []) passed_parts;
+    below = ap (λ (k : Machine). k.below.items) called_parts ∙ f.opens.below ∙ ap (λ (k : Machine). k.below.items ++ k.top ∷ []) passed_parts;
     values = values_more;
     locals = locals_more;
     stage = refl;

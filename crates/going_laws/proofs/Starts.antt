@@ -1,41 +1,33 @@
 -- Behind a body that starts a frame the machine goes on in that frame.
-use Rattle.std.proofs.Common.{arith, ◌≡◌, ◌+◌, ◌<◌, ◌≤◌, ◌^◌, ℕ, suc, true, List, [], ◌∷◌, ◌++◌, length, map, reverse, Option, Some, None, slice_get}
-use Rattle.std.proofs.Common.{refl, sym, ap, subst, ◌∙◌}
-use Rattle.std.specs.Prelude.{min}
-use Rattle.std.proofs.lemmas.List.{length-reverse}
-use Rattle.std.proofs.lemmas.Option.{same_Some}
+use Rattle.std.proofs.Common.{arith, ◌≡◌, ◌<◌, ◌≤◌, ◌^◌, ℕ, suc, List, [], ◌∷◌, ◌++◌, length, map, reverse, Option, Some, None, slice_get}
+use Rattle.std.proofs.Common.{sym, ap, subst, ◌∙◌}
+use Rattle.std.proofs.lemmas.List.{reverse-append}
 use Rattle.ub_base.specs.declared.names.Frame.{Frame}
 use Rattle.c_typed.specs.declared.program.Program.{Program}
 use Rattle.c_typed.specs.declared.tree.Place.{Place}
 use Rattle.c_model.specs.Runs.{Running, State, step}
 use Rattle.c_model.specs.Steps.{Begun, Ev, Local, MayPick}
 use Rattle.c_model.specs.World.{World}
-use Rattle.seq_order.specs.Marked.{taken_in}
-use Rattle.run_code.specs.Chosen.{IsKept}
 use Rattle.run_code.specs.declared.whole.Code.{Code}
-use Rattle.run_code.specs.declared.steps.FunctionCode.{FunctionCode}
 use Rattle.run_statements.specs.declared.numbers.Numbers.{Numbers}
 use Rattle.run_state.specs.declared.machine.Machine.{Machine}
 use Rattle.run_state.specs.declared.machine.Open.{Open}
 use Rattle.run_state.specs.declared.machine.Stage.{Stage}
-use Rattle.run_state.specs.declared.watch.Begun.{Begun as Shown}
 use Rattle.run_state.specs.Stands.{Stands}
-use Rattle.run_events.specs.Opens.{StartsFunction, StartsInitializer, started_on}
 use Rattle.run_machine.specs.Answering.{IsWithin}
-use Rattle.run_machine.specs.Picks.{at_cursor}
 use Rattle.run_machine.specs.Starting.{numbered, started_state}
 use Rattle.code_view.specs.Numbering.{meaning_of}
 use Rattle.frame_laws.specs.Laws.{StepsOrdered}
 use Rattle.frame_laws.specs.Named.{LawfulIsScoped}
 use Rattle.frame_laws.specs.Reached.{StepsReached}
-use Rattle.run_facts.specs.Frames.{IsOneOf, KeepFrames, KeepsBegun, KeepsFrame, KeepsOpen, Sees, SeesFunction, function_of}
+use Rattle.run_facts.specs.Frames.{KeepFrames, KeepsBegun, KeepsFrame, KeepsOpen, Sees, function_of}
 use Rattle.run_facts.specs.Going.{IsGoing, locals_of}
 use Rattle.run_facts.specs.SetUp.{IsSetUp}
 use Rattle.going_laws.proofs.Events.{kept_open, moved_frame, sees_moved}
-use Rattle.going_laws.proofs.Under.{IsMore, frame_still, frames_still, sees_still}
+use Rattle.going_laws.proofs.Under.{IsMore, frames_still}
 
 onto_last : {A : Type 0} (xs : List A) (x : A) → reverse (xs ++ x ∷ []) ≡ x ∷ reverse xs
-onto_last xs x = grind (arith)
+onto_last xs x = reverse-append xs (x ∷ [])
 
 -- ---- what a frame that starts leaves of the machine, before it has its number
 pub record HasStarted (old : Machine) (s : Stage) (new : Machine) : Type 0 where
@@ -145,7 +137,7 @@ module _ (world : World) (p : Program) (numbers : Numbers) (old new : Machine) (
   frames_then =
       subst (λ (t : Open). KeepFrames world then (t ∷ reverse then.below.items) (locals_of next) (suc n)) (sym (ap (λ (k : Machine). k.top) in_parts))
       (subst (λ (os : List Open). KeepFrames world then (record h.top { frame = frame } ∷ os) (locals_of next) (suc n))
-      (sym (ap reverse h.below ∙ onto_last old.below.items was)) (top_then, was_then, below_then))
+      (sym (ap reverse h.below ∙ onto_last old.below.items was)) (top_then, (was_then, below_then)))
 
   pub goes_on : LawfulIsScoped → StepsOrdered → StepsReached → IsWithin world next → MayPick world st.top st.top.begun (Ev u)
       → step world st (Ev u) ≡ Running next → suc n < 2 ^ 32 → Stands world (meaning_of p numbers old.code.now) then next

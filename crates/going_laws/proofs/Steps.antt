@@ -1,7 +1,7 @@
 -- Behind a control step the machine goes on: in the same frame, without an open full expression or with one that has just begun, or in the frame below.
-use Rattle.std.proofs.Common.{arith, ◌≡◌, ◌≢◌, ◌+◌, ◌<◌, ◌≤◌, ◌^◌, ℕ, suc, Bool, true, false, List, [], ◌∷◌, ◌++◌, length, map, reverse, Option, Some, None, slice_get}
+use Rattle.std.proofs.Common.{arith, ◌≡◌, ◌<◌, ◌≤◌, ◌^◌, ℕ, zero, suc, true, List, [], ◌∷◌, ◌++◌, length, map, reverse, Option, Some, None, slice_get}
 use Rattle.std.proofs.Common.{refl, sym, ap, subst, ◌∙◌}
-use Rattle.std.proofs.lemmas.List.{length-reverse}
+use Rattle.std.proofs.lemmas.List.{length-reverse, reverse-append}
 use Rattle.std.proofs.lemmas.List.Elements.{All-head, All-tail}
 use Rattle.std.specs.List.{All}
 use Rattle.std.proofs.lemmas.Option.{same_Some}
@@ -9,7 +9,7 @@ use Rattle.ub_base.specs.declared.clause.Kind.TheVariants.{Body}
 use Rattle.c_typed.specs.declared.program.Program.{Program}
 use Rattle.c_typed.specs.declared.tree.Place.{Place}
 use Rattle.c_typed.specs.Order.{place, Taken}
-use Rattle.c_model.specs.Control.{Begin, ready_work}
+use Rattle.c_model.specs.Control.{ready_work}
 use Rattle.c_model.specs.Program.{tree_of}
 use Rattle.c_model.specs.Runs.{Running, State, step}
 use Rattle.c_model.specs.Steps.{Begun, Control, Ev, Local, MayPick, Scene, next, with_given}
@@ -35,8 +35,8 @@ use Rattle.run_state.specs.declared.machine.Stage.{Stage}
 use Rattle.run_state.specs.declared.watch.Begun.{Begun as Shown}
 use Rattle.run_state.specs.Stands.{IsAbove, Stands, StandFrames, StandsBegun, StandsExpression, StandsFrame}
 use Rattle.run_machine.specs.Answering.{CanGoOn, CanStep, CanTake, IsWithin, MayGoOn}
-use Rattle.run_machine.specs.Beginning.{CanBegin, next_turn}
-use Rattle.run_machine.specs.Keeping.{BeginsExpression, EndsTop, KeepsFrames, KeepsStep, StaysClosed, begins, ends, first_stage, frame_with, machine_with, stays}
+use Rattle.run_machine.specs.Beginning.{CanBegin}
+use Rattle.run_machine.specs.Keeping.{BeginsExpression, EndsTop, KeepsFrames, KeepsStep, begins, ends, first_stage, frame_with, stays}
 use Rattle.run_machine.specs.Picks.{BelowIsShown, top_of}
 use Rattle.code_view.specs.Numbering.{meaning_of}
 use Rattle.frame_laws.specs.Laws.{StepsOrdered}
@@ -47,7 +47,7 @@ use Rattle.run_facts.specs.Going.{IsGoing, locals_of}
 use Rattle.run_facts.specs.SetUp.{IsSetUp}
 use Rattle.going_laws.proofs.Controls.{Goes, IsFresh, Returns, Stays as Keeps_frame, control_goes, fresh_behind, returns, stays as keeps_frame}
 use Rattle.going_laws.proofs.Own.{IsOwnLaid, own_laid}
-use Rattle.going_laws.proofs.Under.{IsMore, frames_still, lower}
+use Rattle.going_laws.proofs.Under.{IsMore, frames_still}
 
 -- ---- frames in number: as many stand in the machine as in the state
 count_of : (world : World) (meaning : Option ℕ → Meaning) (m : Machine) (left : Option Kept_value) (os : List Open) (wss : List (List Work))
@@ -65,7 +65,7 @@ held_count world meaning m st s =
     sym (length-reverse m.below.items) ∙ count_of world meaning m None (reverse m.below.items) m.work.below st.held s.frames.2
 
 onto_last : {A : Type 0} (xs : List A) (x : A) → reverse (xs ++ x ∷ []) ≡ x ∷ reverse xs
-onto_last xs x = grind (arith)
+onto_last xs x = reverse-append xs (x ∷ [])
 
 -- what holds of each holds of this one
 each_at : {A : Type 0} (P : A → Type 0) (xs : List A) (n : ℕ) (x : A) → slice_get xs n ≡ Some x → All P xs → P x
@@ -234,7 +234,7 @@ module _ (world : World) (p : Program) (numbers : Numbers) (old new : Machine) (
     module _ (e : Begun) (begun : after.top.begun ≡ Some e) (x : StandsExpression world (meaning new.top.function) new (length new.below.items) new.top s
         after.top.scene e None) where
       fresh : IsFresh st.top (ready_work st.top.todo) after.top e
-      fresh = let kept = stayed b.keeps in fresh_behind world st.top after.top st.top.begun kept.value e closed kept.top begun
+      fresh = let kept = stayed b.keeps in fresh_behind world st.top after.top st.top.begun kept.value e refl kept.top begun
 
       laid_same : laid_out.laid ≡ x.laid
       laid_same =

@@ -1,6 +1,6 @@
 -- What holds of the frames below the top one stays as they stay.
-use Rattle.std.proofs.Common.{arith, ◌≡◌, ◌+◌, ◌<◌, ◌≤◌, ℕ, zero, suc, Bool, true, List, [], ◌∷◌, length, map, Option, Some, None, slice_get}
-use Rattle.std.proofs.Common.{refl, sym, ap, subst, ◌∙◌}
+use Rattle.std.proofs.Common.{arith, ◌≡◌, ◌<◌, ◌≤◌, ℕ, suc, List, [], ◌∷◌, length, map, Option, Some, None, slice_get}
+use Rattle.std.proofs.Common.{sym, ap, subst, ◌∙◌}
 use Rattle.std.proofs.lemmas.Option.{same_Some}
 use Rattle.c_typed.specs.declared.tree.Place.{Place}
 use Rattle.c_model.specs.Steps.{Begun, Local, Scene}
@@ -10,13 +10,12 @@ use Rattle.seq_order.specs.Marked.{taken_in}
 use Rattle.run_control.specs.declared.work.Work.{Work}
 use Rattle.run_control.specs.View.{Meaning}
 use Rattle.run_code.specs.Chosen.{IsKept}
-use Rattle.run_code.specs.declared.whole.Code.{Code}
 use Rattle.run_state.specs.declared.machine.Machine.{Machine}
 use Rattle.run_state.specs.declared.machine.Open.{Open}
 use Rattle.run_state.specs.declared.machine.Stage.{Stage}
 use Rattle.run_state.specs.declared.watch.Begun.{Begun as Shown}
 use Rattle.run_state.specs.Stands.{StandFrames, StandsBegun}
-use Rattle.run_facts.specs.Frames.{IsOneOf, KeepFrames, KeepsBegun, KeepsFrame, KeepsOpen, Sees, SeesFunction, function_of}
+use Rattle.run_facts.specs.Frames.{KeepFrames, KeepsBegun, KeepsFrame, KeepsOpen, Sees, SeesFunction, function_of}
 
 -- the code is the same, what is shown of frames below this height stays, and there are no fewer rooms and places
 pub record IsMore (height : ℕ) (old new : Machine) : Type 0 where

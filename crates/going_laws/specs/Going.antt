@@ -4,7 +4,7 @@ use Rattle.ub_base.specs.declared.names.Frame.{Frame}
 use Rattle.c_typed.specs.declared.program.Program.{Program}
 use Rattle.c_typed.specs.declared.tree.Place.{Place}
 use Rattle.c_model.specs.Runs.{Running, State, step}
-use Rattle.c_model.specs.Steps.{Begun, Control, Ev, Local, MayPick}
+use Rattle.c_model.specs.Steps.{Begun, Control, Ev, MayPick}
 use Rattle.c_model.specs.Values.{Value}
 use Rattle.c_model.specs.World.{World}
 use Rattle.run_code.specs.declared.nodes.NodeInfo.{NodeInfo}

@@ -12,4 +12,4 @@ returns-clause-calls c = calls_go c.law_scoped.ensures.scoped c.law_ordered.ensu
 
 pub returns-clause-steps : goal.returns-clause-steps
 returns-clause-steps c =
-    steps_go c.law_scoped.ensures.scoped c.law_ordered.ensures.keeps c.law_reached.ensures.keeps c.law_choices.ensures.keeps_begin c.law_picks.ensures.shown
+    steps_go c.law_scoped.ensures.scoped c.law_ordered.ensures.keeps c.law_reached.ensures.keeps c.law_choices.ensures.begins c.law_picks.ensures.shown
