@@ -6,7 +6,7 @@ use Rattle.ub_base.specs.declared.names.Frame.{Frame}
 use Rattle.c_typed.specs.declared.program.Program.{Program}
 use Rattle.c_typed.specs.declared.tree.Place.{Place}
 use Rattle.c_model.specs.Runs.{Running, State, step}
-use Rattle.c_model.specs.Steps.{Begun, Ev, Local, MayPick}
+use Rattle.c_model.specs.Steps.{Begun, Ev, Local}
 use Rattle.c_model.specs.World.{World}
 use Rattle.run_code.specs.declared.whole.Code.{Code}
 use Rattle.run_statements.specs.declared.numbers.Numbers.{Numbers}
@@ -19,7 +19,7 @@ use Rattle.run_machine.specs.Starting.{numbered, started_state}
 use Rattle.code_view.specs.Numbering.{meaning_of}
 use Rattle.frame_laws.specs.Laws.{StepsOrdered}
 use Rattle.frame_laws.specs.Named.{LawfulIsScoped}
-use Rattle.frame_laws.specs.Reached.{StepsReached}
+use Rattle.frame_laws.specs.Reached.{AreReached}
 use Rattle.run_facts.specs.Frames.{KeepFrames, KeepsBegun, KeepsFrame, KeepsOpen, Sees, function_of}
 use Rattle.run_facts.specs.Going.{IsGoing, locals_of}
 use Rattle.run_facts.specs.SetUp.{IsSetUp}
@@ -139,16 +139,16 @@ module _ (world : World) (p : Program) (numbers : Numbers) (old new : Machine) (
       (subst (λ (os : List Open). KeepFrames world then (record h.top { frame = frame } ∷ os) (locals_of next) (suc n))
       (sym (ap reverse h.below ∙ onto_last old.below.items was)) (top_then, (was_then, below_then)))
 
-  pub goes_on : LawfulIsScoped → StepsOrdered → StepsReached → IsWithin world next → MayPick world st.top st.top.begun (Ev u)
+  pub goes_on : LawfulIsScoped → StepsOrdered → IsWithin world next → AreReached world next.top next.held
       → step world st (Ev u) ≡ Running next → suc n < 2 ^ 32 → Stands world (meaning_of p numbers old.code.now) then next
       → IsGoing world p numbers then next (suc n)
-  goes_on scoped ordered reached within may steps few stands = record {
+  goes_on scoped ordered within reached steps few stands = record {
     program = ap (λ (k : Machine). k.program.now) in_parts ∙ going.program;
     set_up = subst (λ (k : Machine). IsSetUp world p numbers k.code.now k.jumps) (sym in_parts) going.set_up;
     stands = subst (λ (c : Code). Stands world (meaning_of p numbers c) then next) (ap (λ c. c.now) (sym code_same)) stands;
     within = within;
     ordered = ordered world st next (Ev u) (scoped p world going.set_up.whole.lawful going.set_up.world.program.functions) going.ordered steps;
-    reached = reached world st next (Ev u) may going.reached steps;
+    reached = reached;
     frames = frames_then;
     few = few;
   }

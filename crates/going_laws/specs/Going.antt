@@ -3,8 +3,8 @@ use Rattle.std.specs.Prelude.{◌≡◌, ◌<◌, ◌^◌, ℕ, suc, List, Some}
 use Rattle.ub_base.specs.declared.names.Frame.{Frame}
 use Rattle.c_typed.specs.declared.program.Program.{Program}
 use Rattle.c_typed.specs.declared.tree.Place.{Place}
-use Rattle.c_model.specs.Runs.{Running, State, step}
-use Rattle.c_model.specs.Steps.{Begun, Control, Ev, MayPick}
+use Rattle.c_model.specs.Runs.{Running, State, canonical_pick, step}
+use Rattle.c_model.specs.Steps.{Begun, Control, Ev}
 use Rattle.c_model.specs.Values.{Value}
 use Rattle.c_model.specs.World.{World}
 use Rattle.run_code.specs.declared.nodes.NodeInfo.{NodeInfo}
@@ -37,7 +37,7 @@ EventGoesOn =
 abbrev pub InitializerGoesOn : Type 0
 InitializerGoesOn =
     (world : World) (p : Program) (numbers : Numbers) (old new : Machine) (st after : State) (n : ℕ) (e : Begun) (s : Stage) (u : Place) (frame : Frame)
-    → IsGoing world p numbers old st n → old.top.stage ≡ Some s → st.top.begun ≡ Some e → MayPick world st.top st.top.begun (Ev u)
+    → IsGoing world p numbers old st n → old.top.stage ≡ Some s → st.top.begun ≡ Some e → canonical_pick world st.top st.top.begun ≡ Ev u
     → step world st (Ev u) ≡ Running after → StartsIsolated world old st e s u new (Running after)
     → Stands world (meaning_of p numbers old.code.now) (numbered new frame) after → IsWithin world after → suc n < 2 ^ 32
     → IsGoing world p numbers (numbered new frame) after (suc n)
@@ -45,8 +45,8 @@ InitializerGoesOn =
 abbrev pub CallGoesOn : Type 0
 CallGoesOn =
     (world : World) (p : Program) (numbers : Numbers) (old new : Machine) (st after : State) (n : ℕ) (e : Begun) (s : Stage) (u : Place) (frame : Frame)
-    → IsGoing world p numbers old st n → st.top.begun ≡ Some e → MayPick world st.top st.top.begun (Ev u) → step world st (Ev u) ≡ Running after
-    → CallsFunction world (meaning_of p numbers old.code.now) old st e s u new (Running after)
+    → IsGoing world p numbers old st n → st.top.begun ≡ Some e → canonical_pick world st.top st.top.begun ≡ Ev u
+    → step world st (Ev u) ≡ Running after → CallsFunction world (meaning_of p numbers old.code.now) old st e s u new (Running after)
     → Stands world (meaning_of p numbers old.code.now) (numbered new frame) after → IsWithin world after → suc n < 2 ^ 32
     → IsGoing world p numbers (numbered new frame) after (suc n)
 

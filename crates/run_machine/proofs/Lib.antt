@@ -39,7 +39,7 @@ mod Standing
 mod Started
 mod Staying
 mod Steering
-mod Still
+pub mod Still
 mod Storing
 mod Taken
 mod Unwriting

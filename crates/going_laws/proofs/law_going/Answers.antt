@@ -5,10 +5,10 @@ pub returns-clause-events : goal.returns-clause-events
 returns-clause-events c = events_go c.law_scoped.ensures.scoped c.law_ordered.ensures.keeps c.law_reached.ensures.keeps c.law_open.ensures.stays
 
 pub returns-clause-initializers : goal.returns-clause-initializers
-returns-clause-initializers c = initializers_go c.law_scoped.ensures.scoped c.law_ordered.ensures.keeps c.law_reached.ensures.keeps
+returns-clause-initializers c = initializers_go c.law_scoped.ensures.scoped c.law_ordered.ensures.keeps c.law_reached.ensures.canonical
 
 pub returns-clause-calls : goal.returns-clause-calls
-returns-clause-calls c = calls_go c.law_scoped.ensures.scoped c.law_ordered.ensures.keeps c.law_reached.ensures.keeps
+returns-clause-calls c = calls_go c.law_scoped.ensures.scoped c.law_ordered.ensures.keeps c.law_reached.ensures.canonical
 
 pub returns-clause-steps : goal.returns-clause-steps
 returns-clause-steps c =

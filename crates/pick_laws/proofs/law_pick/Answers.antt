@@ -1,0 +1,10 @@
+use Rattle.pick_laws.proofs.Comes.{calls, controls, events, initializers}
+use Rattle.pick_laws.proofs.law_pick.Goals as goal
+
+pub returns : goal.returns
+returns c = record {
+  control = controls c.law_going.ensures.steps;
+  events = events c.law_going.ensures.events;
+  initializers = initializers c.law_going.ensures.initializers;
+  calls = calls c.law_going.ensures.calls;
+}

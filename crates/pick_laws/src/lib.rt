@@ -1,0 +1,20 @@
+//! Each canonical pick of the machine of a run is the step of the definitions, and the machine goes on behind it.
+//!
+//! A law function takes nothing and answers nothing: its contract is a law about the definitions.
+#![tactic(auto)]
+
+ghost use Rattle.pick_laws.specs.Picks.{ControlComes, EventComes, InitializerComes, CallComes};
+
+use going_laws::law_going;
+
+/// What run_machine promises of a canonical pick, of a machine that is going and can take it, comes to the outcome of the definitions' step: the run goes on
+/// and the machine is going again, or it ends with its status and what was written, raises the clause, passes the limit, or needs a row that isn't there. So
+/// it is of control steps (`control`), of events that aren't bodies (`events`), and of bodies that start frames (`initializers`, `calls`).
+pub fn law_pick()
+    ensures control { ControlComes }
+    ensures events { EventComes }
+    ensures initializers { InitializerComes }
+    ensures calls { CallComes }
+{
+    law_going();
+}
