@@ -47,8 +47,8 @@ pub record IsItsWorld (p : Program) (world : World) : Type 0 where
   pub ends : EndInTime world.rows
 
 -- All together, with what is kept of where jumps go.
-pub record IsSetUp (world : World) (p : Program) (numbers : Numbers) (code : Code) (jumps : Jumps) : Type 0 where
+pub record IsSetUp (of_run : World) (p : Program) (numbers : Numbers) (laid_out : Code) (jumps : Jumps) : Type 0 where
   pub whole : IsWhole p
-  pub code : IsItsCode p numbers code
-  pub world : IsItsWorld p world
-  pub labels : KeepsLabels code jumps
+  pub code : IsItsCode p numbers laid_out
+  pub world : IsItsWorld p of_run
+  pub labels : KeepsLabels laid_out jumps
