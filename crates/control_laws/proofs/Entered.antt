@@ -24,7 +24,7 @@ use Rattle.program_view.specs.Text.{Text, TextIsKept, block_by, text_of}
 use Rattle.run_code.specs.Blocks.{rows_of_block}
 use Rattle.run_code.specs.Roots.{block_in}
 use Rattle.frame_laws.specs.Scopes.{BodyFits}
-use Rattle.frame_laws.specs.Frames.{AreOrdered, IsFresh, IsInBody, IsOfFunction, IsOfInitializer, IsOutermost, IsScoped, function_round, number_of, open_blocks}
+use Rattle.frame_laws.specs.Frames.{AreOrdered, IsFresh, IsInBody, IsOfFunction, IsOfInitializer, IsOutermost, IsScoped, function_round, number_of}
 use Rattle.control_laws.proofs.Laws.{body_there, each_at, where_some}
 use Rattle.control_laws.proofs.Rounds.{round_body}
 use Rattle.control_laws.proofs.Seen.{RowAt, of_block}
@@ -83,8 +83,8 @@ opened_number (Label l s) fits = absurd fits
 opened_number (Case z s) fits = absurd fits
 opened_number (Default s) fits = absurd fits
 
-pub numbered_body : TextIsKept → (p : Program) (n : ℕ) (f : Function) (b : Typed_block) → IsLawful p → slice_get p.functions n ≡ Some f → block_in f.body ≡ Some b
-    → BodyFits (stmt_of p.tags (body.Block b)) → number_of (stmt_of p.tags (body.Block b)) ≡ 0
+pub numbered_body : TextIsKept → (p : Program) (n : ℕ) (f : Function) (b : Typed_block) → IsLawful p → slice_get p.functions n ≡ Some f
+    → block_in f.body ≡ Some b → BodyFits (stmt_of p.tags (body.Block b)) → number_of (stmt_of p.tags (body.Block b)) ≡ 0
 numbered_body kept p n f b lawful at is fits =
     let x = body.Block b in
     let function = each_at (FunctionIsLawful p) p.functions n f at lawful.functions in

@@ -1,20 +1,17 @@
 -- The frames that are held: their values keep to their rooms, and their objects to their places.
-use Rattle.std.proofs.Common.{arith, ◌≡◌, ℕ, suc, ◌+◌, ◌<◌, ◌≤◌, Bool, true, false, List, [], ◌∷◌, length, map, Option, Some, None, slice_get, refl, sym, ap}
-use Rattle.std.proofs.Common.{subst, ◌∙◌, true≢false}
-use Rattle.std.specs.Prelude.{is_some}
+use Rattle.std.proofs.Common.{arith, ◌≡◌, ℕ, ◌+◌, ◌≤◌, List, [], ◌∷◌, length, map, Option, Some, None, slice_get, refl, sym, ap}
+use Rattle.std.proofs.Common.{subst, ◌∙◌}
 use Rattle.std.proofs.lemmas.Option.{same_Some}
 use Rattle.ub_base.specs.declared.clause.Kind.TheVariants.{Body}
 use Rattle.c_typed.specs.declared.program.Program.{Program}
 use Rattle.c_typed.specs.declared.tree.Place.{Place}
-use Rattle.c_typed.specs.Order.{is_body, place}
-use Rattle.c_model.specs.ChoiceLaws.{IsClosed, IsNext}
-use Rattle.c_model.specs.Steps.{Begun, Local, Scene}
+use Rattle.c_typed.specs.Order.{place}
+use Rattle.c_model.specs.ChoiceLaws.{IsNext}
+use Rattle.c_model.specs.Steps.{Begun, Local}
 use Rattle.c_model.specs.World.{World}
-use Rattle.prov_memory.specs.declared.value.Value.{Value as Kept_value}
 use Rattle.run_control.specs.declared.work.Work.{Work}
 use Rattle.run_control.specs.View.{Meaning}
 use Rattle.run_code.specs.declared.steps.BlockCode.{BlockCode}
-use Rattle.run_code.specs.declared.whole.Code.{Code}
 use Rattle.run_code.specs.OfTrees.{ListsTrees}
 use Rattle.run_code.specs.Roots.{HaveCode}
 use Rattle.run_statements.specs.declared.numbers.Numbers.{Numbers}
@@ -22,16 +19,16 @@ use Rattle.run_state.specs.declared.machine.Machine.{Machine}
 use Rattle.run_state.specs.declared.machine.Open.{Open}
 use Rattle.run_state.specs.declared.machine.Stage.{Stage}
 use Rattle.run_state.specs.Meaning.{StandsProgram}
-use Rattle.run_state.specs.Stands.{IsAbove, SeesLocals, StandFrames, StandsBegun, StandsExpression, StandsFrame, StandsOn}
+use Rattle.run_state.specs.Stands.{IsAbove, SeesLocals, StandFrames, StandsBegun, StandsFrame}
 use Rattle.run_machine.specs.Ending.{HasRoomBelow, HasRoomIn, KeepToRooms, KeepsTo}
 use Rattle.run_machine.specs.Entering.{AreBelow, KeepPlaces}
 use Rattle.frame_laws.specs.Facts.{AllWait}
-use Rattle.frame_laws.specs.Frames.{AreOrdered, function_round, objects_round, open_blocks, or_else}
+use Rattle.frame_laws.specs.Frames.{AreOrdered, function_round, objects_round, or_else}
 use Rattle.frame_laws.specs.Reached.{AllWaitNext, WaitsNext}
-use Rattle.run_facts.specs.Frames.{IsIn, IsOneOf, KeepFrames, KeepsBegun, KeepsFrame, KeepsOpen, function_of}
+use Rattle.run_facts.specs.Frames.{IsOneOf, KeepFrames, KeepsBegun, KeepsFrame, function_of}
 use Rattle.run_facts.specs.SetUp.{IsItsCode}
 use Rattle.control_laws.proofs.Laws.{Laws}
-use Rattle.control_laws.proofs.Rooms.{LaysOut, in_rooms, lays_out, room_free}
+use Rattle.control_laws.proofs.Rooms.{in_rooms, lays_out, room_free}
 use Rattle.control_laws.proofs.Rounds.{AllHave, open_have}
 use Rattle.control_laws.proofs.Seen.{OfCode, block_at, firsts, of_code}
 
@@ -128,9 +125,11 @@ module _ (world : World) (p : Program) (meaning : Option ℕ → Meaning) (m : M
         → KeepsTo m.code.now o.rooms stage h.0 b
     keeps_to o os h hs k None b own x next = tt
     keeps_to o os h hs k (Some s) None own x next = tt
-    keeps_to o os h hs k (Some s) (Some e) own x next =
-        (k.arguments, in_rooms laws world (meaning o.function) m (length os) o s h.0.scene e (Some h.1) x listed (firsts world p m o h.0 hs k.code)
-        (lays_out laws world p m o h.0 hs k.code code.expressions s.expression x.laid own x.at) next.0)
+    keeps_to o os h hs k (Some s) (Some e) own x next = (
+      k.arguments,
+      in_rooms laws world (meaning o.function) m (length os) o s h.0.scene e (Some h.1) x listed (firsts world p m o h.0 hs k.code)
+          (lays_out laws world p m o h.0 hs k.code code.expressions s.expression x.laid own x.at) next.0,
+    )
 
     pub keep_to_rooms : (os : List Open) (hs : List (Local × Place)) → HeldFrames world p meaning m n os hs → KeepToRooms m.code.now os hs
     keep_to_rooms [] [] k = tt
@@ -152,7 +151,8 @@ module _ (world : World) (p : Program) (meaning : Option ℕ → Meaning) (m : M
         (lays_out laws world p m o h.0 hs k.code code.expressions s.expression x.laid own x.at) next.0 node
         (subst (IsNext world h.0.scene e) at next.1) (length m.values.items) keeps.rooms
 
-    pub room_below : (node : ℕ) (os : List Open) (hs : List (Local × Place)) → ((h : Local × Place) (hs' : List (Local × Place)) → hs ≡ h ∷ hs' → h.1 ≡ place node Body)
+    pub room_below : (node : ℕ) (os : List Open) (hs : List (Local × Place))
+        → ((h : Local × Place) (hs' : List (Local × Place)) → hs ≡ h ∷ hs' → h.1 ≡ place node Body)
         → HeldFrames world p meaning m n os hs → HasRoomBelow m.code.now (length m.values.items) node os hs
     room_below node [] [] at k = tt
     room_below node [] (h ∷ hs) at k = tt
@@ -167,13 +167,14 @@ module _ (world : World) (p : Program) (meaning : Option ℕ → Meaning) (m : M
     are_below o f hs c limit under (b ∷ bs) all =
         let it = block_at world p m o f hs c laws code.blocks b.0 all.0.0 all.0.1 in
         let blocks = c.sees.blocks in
-        let above = c.sees.above in
-        ((λ z at.
-            let same : it.block ≡ z =
-            same_Some it.block z (sym it.at ∙ (ap (λ k. slice_get m.code.now.tables.blocks.items (k + b.0)) (sym blocks) ∙ at)) in
-            let within = subst (λ (y : BlockCode). y.first + y.objects.count ≤ c.sees.code.objects) same it.within in
-            omega (arith, within, above, under)),
-        are_below o f hs c limit under bs all.1)
+        let above = c.sees.above in (
+          (λ z at.
+              let same : it.block ≡ z =
+              same_Some it.block z (sym it.at ∙ (ap (λ k. slice_get m.code.now.tables.blocks.items (k + b.0)) (sym blocks) ∙ at)) in
+              let within = subst (λ (y : BlockCode). y.first + y.objects.count ≤ c.sees.code.objects) same it.within in
+              omega (arith, within, above, under)),
+          are_below o f hs c limit under bs all.1,
+        )
 
     locals_under : (function : Option ℕ) (o below : Open) (f g : Local) → SeesLocals function o f below g → o.locals ≤ o.above → below.above ≤ o.above
     locals_under (Some k) o below f g sees le = let same = sees.0 in omega (arith, same, le)
@@ -192,7 +193,8 @@ module _ (world : World) (p : Program) (meaning : Option ℕ → Meaning) (m : M
         lower : o.locals ≤ o.above
         lower = let above = k.0.code.sees.above in omega (arith, above)
 
-        next : (ps : List Open) (gs : List (Local × Place)) → IsAbove o h.0 ps (map with_waiting gs) → (q : Open) (qs : List Open) → ps ≡ q ∷ qs → q.above ≤ limit
+        next : (ps : List Open) (gs : List (Local × Place)) → IsAbove o h.0 ps (map with_waiting gs) → (q : Open) (qs : List Open) → ps ≡ q ∷ qs
+            → q.above ≤ limit
         next [] gs a q qs is = absurd (cc)
         next (r ∷ rs) [] a q qs is = absurd a
         next (r ∷ rs) (g ∷ gs) a q qs is =

@@ -27,7 +27,7 @@ use Rattle.code_view.specs.Blocks.{BlocksStandInCode, ExpressionsStandInCode, Op
 use Rattle.code_view.specs.Known.{CodeIsKnown}
 use Rattle.code_view.specs.Labels.{DefinedKeepLabels}
 use Rattle.code_view.specs.Named.{OpenIsPlaced}
-use Rattle.run_laws.specs.Asked.{CodeHasRooms, ConstantsAreAsked, LabelsAreAsked}
+use Rattle.run_laws.specs.Asked.{CodeHasRooms, LabelsAreAsked}
 
 pub record Laws : Type 0 where
   pub text : TextIsKept
@@ -39,11 +39,10 @@ pub record Laws : Type 0 where
   pub known : CodeIsKnown
   pub rooms : CodeHasRooms
   pub asked : LabelsAreAsked
-  pub constants : ConstantsAreAsked
 
 pub laws_of : TextIsKept → BlocksStandInCode → OpenBlocksAreThere → ExpressionsStandInCode → DefinedKeepLabels → OpenIsPlaced → CodeIsKnown → CodeHasRooms
-    → LabelsAreAsked → ConstantsAreAsked → Laws
-laws_of text blocks there expressions labels placed known rooms asked constants = record {
+    → LabelsAreAsked → Laws
+laws_of text blocks there expressions labels placed known rooms asked = record {
   text = text;
   blocks = blocks;
   there = there;
@@ -53,7 +52,6 @@ laws_of text blocks there expressions labels placed known rooms asked constants 
   known = known;
   rooms = rooms;
   asked = asked;
-  constants = constants;
 }
 
 -- ---- lists

@@ -1,5 +1,5 @@
 -- The rooms of the full expression that is open in a frame.
-use Rattle.std.proofs.Common.{arith, ◌≡◌, ◌≢◌, ℕ, zero, suc, ◌+◌, ◌-◌, ◌<◌, ◌≤◌, ◌^◌, Bool, true, false, List, [], ◌∷◌, length, Option, Some, None, slice_get}
+use Rattle.std.proofs.Common.{arith, ◌≡◌, ◌≢◌, ℕ, ◌+◌, ◌-◌, ◌<◌, ◌≤◌, ◌^◌, Bool, true, false, List, Option, Some, None, slice_get}
 use Rattle.std.proofs.Common.{refl, sym, ap, subst, ◌∙◌, true≢false}
 use Rattle.std.specs.Prelude.{is_some}
 use Rattle.std.proofs.lemmas.Option.{same_Some}
@@ -7,19 +7,15 @@ use Rattle.ub_base.specs.declared.clause.Kind.TheVariants.{Val, Body}
 use Rattle.c_typed.specs.declared.program.Program.{Program}
 use Rattle.c_typed.specs.declared.tree.Change.{Change}
 use Rattle.c_typed.specs.declared.tree.Place.{Place}
-use Rattle.c_typed.specs.declared.tree.Typed.{Typed}
 use Rattle.c_typed.specs.Decide.{has_kind}
 use Rattle.c_typed.specs.Order.{place}
-use Rattle.c_typed.specs.Tree as order
 use Rattle.c_typed.specs.Tree.{class_of, kinds_of, size}
 use Rattle.elaborate.specs.Expressions.{block_trees}
 use Rattle.c_model.specs.ChoiceLaws.{IsClosed, IsNext}
 use Rattle.c_model.specs.Program.{Expr, expr, Exprs, Head, Update, head_class, tree_of, trees_of}
 use Rattle.c_model.specs.Steps.{Begun, Local, Scene, at_node, taken_by}
-use Rattle.c_model.specs.Values.{Value}
 use Rattle.c_model.specs.World.{World}
 use Rattle.c_model.proofs.FramesKeep.{due_lt}
-use Rattle.program_view.specs.Trees.{expr_of}
 use Rattle.program_view.proofs.Seen.{same_tree}
 use Rattle.run_control.specs.View.{Meaning}
 use Rattle.run_code.specs.declared.nodes.NodeInfo.{NodeInfo}
@@ -109,9 +105,9 @@ module _ (laws : Laws) (world : World) (meaning : Meaning) (m : Machine) (height
 
   kept_so : Kept (stage_part m.code.now s)
   kept_so = subst Kept (sym as_laid) (λ room r. (
-        own_room m.code.now.tables m.code.now.listing.items x.laid firsts lays.nodes lays.lays e x.root few room r,
-        room_behind m.code.now.tables m.code.now.listing.items x.laid firsts lays.nodes lays.lays e x.root few room r,
-      ))
+    own_room m.code.now.tables m.code.now.listing.items x.laid firsts lays.nodes lays.lays e x.root few room r,
+    room_behind m.code.now.tables m.code.now.listing.items x.laid firsts lays.nodes lays.lays e x.root few room r,
+  ))
 
   module _ (closed : IsClosed world f e) where
     given_within : (u : Place) → is_some (e.given u) ≡ true → u.node < o.rooms

@@ -1,8 +1,7 @@
 -- The function whose objects a frame sees: in the program, in the definitions, and in the code.
-use Rattle.std.proofs.Common.{rules, arith, ◌≡◌, ℕ, zero, suc, ◌+◌, ◌<◌, ◌≤◌, ◌^◌, true, List, [], ◌∷◌, length, map, Option, Some, None, slice_get, refl, sym}
+use Rattle.std.proofs.Common.{rules, ◌≡◌, ℕ, List, length, map, Option, Some, None, slice_get, refl, sym}
 use Rattle.std.proofs.Common.{ap, subst, ◌∙◌}
 use Rattle.std.specs.Option.{option_map}
-use Rattle.std.specs.Prelude.{is_some}
 use Rattle.std.proofs.lemmas.Option.{same_Some, slice_get-map, slice_get_within}
 use Rattle.c_types.specs.declared.tags.Tag.{Tag}
 use Rattle.c_types.specs.declared.ty.FuncTy.{out-FuncTy}
@@ -13,17 +12,15 @@ use Rattle.c_typed.specs.declared.statement.Body.{Body}
 use Rattle.c_typed.specs.declared.statement.Body.TheFolds as typed
 use Rattle.c_typed.specs.declared.statement.Body.TheVariants as body
 use Rattle.c_typed.specs.declared.tree.Place.{Place}
-use Rattle.c_typed.specs.Sites.{BlockRow, summary}
-use Rattle.c_model.specs.Program as model
-use Rattle.c_model.specs.Program.{Decl, Stmt}
+use Rattle.c_typed.specs.Sites.{BlockRow}
+use Rattle.c_model.specs.Program.{Decl}
 use Rattle.c_model.specs.Steps.{Local, body_of}
 use Rattle.c_model.specs.World.{World}
 use Rattle.program_view.specs.Objects.{decl_of}
 use Rattle.program_view.specs.Statements.{definition, stmt_of}
-use Rattle.program_view.specs.Text.{Text, TextIsKept, block_by, text_by, text_of}
+use Rattle.program_view.specs.Text.{Text, TextIsKept, block_by, text_of}
 use Rattle.program_view.specs.View as view
 use Rattle.program_view.proofs.Equations.{definition-block, stmt-block}
-use Rattle.run_code.specs.declared.whole.Code.{Code}
 use Rattle.run_code.specs.Blocks.{firsts_from, rows_of, rows_of_block}
 use Rattle.run_code.specs.Functions.{HaveBlocks}
 use Rattle.run_code.specs.Roots.{block_in, HaveCode}
@@ -34,7 +31,7 @@ use Rattle.code_view.specs.Blocks.{HasBlockAt}
 use Rattle.code_view.specs.Numbering.{body_decls, decls_in, function_decls, row_decls}
 use Rattle.frame_laws.specs.Scopes.{objects_in, objects_of_row}
 use Rattle.frame_laws.specs.Frames.{function_round, objects_of_body, objects_round}
-use Rattle.run_facts.specs.Frames.{Sees, SeesFunction, function_of}
+use Rattle.run_facts.specs.Frames.{Sees, SeesFunction}
 use Rattle.control_laws.proofs.Laws.{Laws, body_there, function_body}
 
 -- the blocks of a body that is a block

@@ -1,20 +1,17 @@
 -- Where a full expression is open in the top frame, it stands as picks ask it; and where the control step is the canonical pick, it can be settled.
-use Rattle.std.proofs.Common.{arith, ◌≡◌, ℕ, ◌+◌, ◌<◌, ◌≤◌, ◌^◌, Bool, true, false, List, [], ◌∷◌, length, map, reverse, Option, Some, None, slice_get, refl, sym}
-use Rattle.std.proofs.Common.{ap, subst, ◌∙◌, true≢false}
-use Rattle.std.specs.Prelude.{is_none, is_some}
+use Rattle.std.proofs.Common.{◌≡◌, ℕ, Bool, true, false, [], ◌∷◌, length, reverse, Option, Some, None, slice_get, refl, sym}
+use Rattle.std.proofs.Common.{ap, subst, ◌∙◌}
+use Rattle.std.specs.Prelude.{is_none}
 use Rattle.std.proofs.lemmas.List.{length-reverse}
 use Rattle.std.proofs.lemmas.Option.{same_Some}
 use Rattle.c_typed.specs.declared.program.Program.{Program}
 use Rattle.c_typed.specs.declared.tree.Place.{Place}
-use Rattle.c_typed.specs.Tree.{is_quiet}
 use Rattle.c_model.specs.ChoiceLaws.{IsClosed}
 use Rattle.c_model.specs.Control.{Todo, ready_work}
-use Rattle.c_model.specs.Control as todo
-use Rattle.c_model.specs.Program.{tree_of}
 use Rattle.c_model.specs.Runs.{State, canonical_pick, chosen_pick}
-use Rattle.c_model.specs.Steps.{Begun, Control, Ev, Local, MayPick, Pick, Scene, ends_with, is_settled, root_value, settled}
+use Rattle.c_model.specs.Steps.{Begun, Control, MayPick, Scene, ends_with, is_settled, root_value, settled}
 use Rattle.c_model.specs.World.{World}
-use Rattle.listing_laws.specs.Along.{StandsAlong, first_of}
+use Rattle.listing_laws.specs.Along.{first_of}
 use Rattle.listing_laws.proofs.Going.{settles_at_end, takes_first}
 use Rattle.program_view.specs.Trees.{expr_of}
 use Rattle.run_control.specs.declared.work.Use.{Use}
@@ -29,24 +26,23 @@ use Rattle.run_state.specs.Stands.{StandsBegun, StandsDone, StandsExpression}
 use Rattle.run_listing.specs.Cursor.{StandsStraight}
 use Rattle.run_machine.specs.Answering.{CanGoOn}
 use Rattle.run_machine.specs.Ending.{IsResultOf}
-use Rattle.run_machine.specs.Jumps.{HasCases, HasLabels}
+use Rattle.run_machine.specs.Jumps.{HasCases}
 use Rattle.run_machine.specs.Settling.{CanSettle, GoesBehind, IsUsable}
-use Rattle.run_machine.specs.Taking.{AreLawful, StandsOpen}
+use Rattle.run_machine.specs.Taking.{StandsOpen}
 use Rattle.code_view.specs.Named.{NamesAreOpen}
 use Rattle.frame_laws.specs.Facts.{IsBehind}
 use Rattle.frame_laws.specs.Frames.{open_blocks}
 use Rattle.frame_laws.specs.Scopes.{ExprFits}
 use Rattle.frame_laws.specs.Reached.{IsReachedIn}
 use Rattle.frame_laws.proofs.FactsHold.{goes_behind, stays_in_scope}
-use Rattle.run_laws.specs.Open.{IsLawfulCode, IsOpen}
-use Rattle.run_facts.specs.Frames.{IsIn, IsOneOf, KeepsBegun, KeepsOpen}
+use Rattle.run_facts.specs.Frames.{IsOneOf, KeepsBegun, KeepsOpen}
 use Rattle.run_facts.specs.Going.{IsGoing}
 use Rattle.control_laws.specs.Control.{ControlGoesOn, IsAtControl, IsOpenAs, OpenStandsSo, OpensSmall, TestStands}
 use Rattle.control_laws.proofs.Laws.{Laws}
 use Rattle.control_laws.proofs.Rooms.{LaysOut, lays_out}
 use Rattle.control_laws.proofs.Seen.{firsts}
 use Rattle.control_laws.proofs.Steps.{can_step, labels_of}
-use Rattle.control_laws.proofs.Top.{can_end, code, frame, lawful_now, meaning, names_open, objects, order_now, rooms}
+use Rattle.control_laws.proofs.Top.{can_end, code, frame, meaning, names_open, objects, rooms}
 
 open_here : (world : World) (meaning : Meaning) (m : Machine) (height : ℕ) (o : Open) (stage : Option Stage) (f : Scene) (b : Option Begun) (s : Stage)
     (e : Begun) → StandsBegun world meaning m height o stage f b None → stage ≡ Some s → b ≡ Some e → StandsExpression world meaning m height o s f e None
@@ -179,15 +175,6 @@ module _ (laws : Laws) (world : World) (p : Program) (numbers : Numbers) (m : Ma
         below = rooms laws world p numbers m st n g;
       }
 
-  lawful_code : OpensSmall m st e → IsLawfulCode m.program.now m.code.now
-  lawful_code small = record {
-    lawful = lawful_now laws world p numbers m st n g;
-    order = order_now laws world p numbers m st n g;
-    trees = small.trees;
-    constants = subst (λ (q : Program). AreLawful q m.code.now) (sym g.program)
-        (laws.constants p numbers m.code.now g.set_up.whole.lawful g.set_up.code.code_of);
-  }
-
   pub is_open : (s : Stage) → m.top.stage ≡ Some s → OpensSmall m st e → IsOpenAs world p numbers m st e s
   is_open s stage small =
       let there = x s stage in
@@ -199,7 +186,7 @@ module _ (laws : Laws) (world : World) (p : Program) (numbers : Numbers) (m : Ma
         open_so = record {
           stood = stands_open s stage small;
           stage = stage;
-          code = lawful_code small;
+          code = small.code;
           at = there.at;
           lays = lays.lays;
           names = open_names s stage there.laid there.at;

@@ -1,24 +1,21 @@
 -- Where no full expression is open in the top frame, the machine can take the control step that comes next.
-use Rattle.std.proofs.Common.{arith, ◌≡◌, ℕ, zero, suc, ◌+◌, ◌<◌, ◌≤◌, ◌^◌, Bool, true, false, ◌⊎◌, inl, inr, List, [], ◌∷◌, length, map, Option, Some, None, slice_get}
+use Rattle.std.proofs.Common.{arith, ◌≡◌, ℕ, zero, suc, ◌+◌, ◌<◌, ◌≤◌, ◌^◌, true, false, ◌⊎◌, inl, inr, List, [], ◌∷◌}
+use Rattle.std.proofs.Common.{length, map, Option, Some, None, slice_get}
 use Rattle.std.proofs.Common.{refl, sym, ap, subst, ◌∙◌}
 use Rattle.std.specs.Prelude.{is_some}
 use Rattle.std.proofs.lemmas.Option.{same_Some}
-use Rattle.c_typed.specs.declared.program.Function.{Function}
 use Rattle.c_typed.specs.declared.program.Program.{Program}
 use Rattle.c_typed.specs.declared.statement.Body.TheVariants as body
 use Rattle.c_typed.specs.declared.tree.Place.{Place}
 use Rattle.c_model.specs.Control.{Todo, Use, Enter, Leave, Unwrite, Begin, Nothing_to_do, Go_to, Go_out, Go_on, Go_back, To_do, Rest, Round}
 use Rattle.c_model.specs.Control.{Again, Test, Break_here, ready_work}
-use Rattle.c_model.specs.Program.{Decl, Expr, Stmt}
+use Rattle.c_model.specs.Program.{Decl, Expr}
 use Rattle.c_model.specs.Runs.{State}
 use Rattle.c_model.specs.Steps.{Local, body_of}
 use Rattle.c_model.specs.Values.{Value}
 use Rattle.c_model.specs.World.{World}
 use Rattle.program_view.specs.Statements.{stmt_of}
-use Rattle.program_view.specs.Trees.{expr_of}
-use Rattle.run_control.specs.View.{is_nothing}
 use Rattle.run_code.specs.declared.steps.BlockCode.{BlockCode}
-use Rattle.run_code.specs.declared.steps.Expression.{Expression as Laid}
 use Rattle.run_code.specs.declared.steps.ObjectCode.{ObjectCode}
 use Rattle.run_code.specs.Blocks.{rows_of_block}
 use Rattle.run_code.specs.Chosen.{Views}
@@ -27,9 +24,9 @@ use Rattle.run_statements.specs.declared.numbers.Numbers.{Numbers}
 use Rattle.run_state.specs.declared.machine.Machine.{Machine}
 use Rattle.run_state.specs.declared.machine.Open.{Open}
 use Rattle.run_state.specs.Stands.{IsAbove, SeesLocals}
-use Rattle.run_machine.specs.Answering.{CanStep, CanTake, HasObjects, HasOpenBlocks, IsDeclared, IsLeft}
+use Rattle.run_machine.specs.Answering.{CanStep, CanTake, HasObjects, IsDeclared}
 use Rattle.run_machine.specs.Beginning.{CanBegin, next_turn}
-use Rattle.run_machine.specs.Ending.{IsResultOf, is_last}
+use Rattle.run_machine.specs.Ending.{IsResultOf}
 use Rattle.run_machine.specs.Entering.{AreBelow, Birth, CanEnter, CanEnterFirst, HasBirths, KeepPlaces, TakesAs, birth_in, birth_of}
 use Rattle.run_machine.specs.Jumps.{HasLabels}
 use Rattle.code_view.specs.Blocks.{Made, StandsObject, made_by, made_of, taken_at}
@@ -140,7 +137,8 @@ module _ (laws : Laws) (world : World) (p : Program) (numbers : Numbers) (m : Ma
             names_open laws world p numbers m st n g laid.root.now
             (subst (ExprFits (objects laws world p numbers m st n g) (open_blocks st.top)) (sym root) scope.names) in
             let placed =
-            laws.placed world m (next_turn st.top.scene) st.store _ k laid (lawful_now laws world p numbers m st n g) (order_now laws world p numbers m st n g) at
+            laws.placed world m (next_turn st.top.scene) st.store _ k laid (lawful_now laws world p numbers m st n g)
+            (order_now laws world p numbers m st n g) at
             g.stands.memory (stand_next laws world p numbers m st n g) names in
             subst (Views world (next_turn st.top.scene) firsts 0 laid.root.now) root
             (laws.known m.program.now m.code.now world (next_turn st.top.scene) firsts k laid (lawful_now laws world p numbers m st n g)
@@ -222,7 +220,8 @@ module _ (laws : Laws) (world : World) (p : Program) (numbers : Numbers) (m : Ma
       → taken_at (parameters world p m m.top st.top st.held (code laws world p numbers m st n g)) b ≡ length st.top.arguments
   taken_by b ds rest is inside asks some [] none =
       let c = code laws world p numbers m st n g in
-      ap (taken_at (parameters world p m m.top st.top st.held c)) (first_zero b ds rest is some none) ∙ sym (asks.count c.number c.function none (own_function some) c.there)
+      ap (taken_at (parameters world p m m.top st.top st.held c)) (first_zero b ds rest is some none)
+      ∙ sym (asks.count c.number c.function none (own_function some) c.there)
   taken_by b ds rest is inside asks some (z ∷ zs) open_now = go (hands_on world st.top st.held g.ordered)
     where
       lower : z.0 < b
@@ -254,7 +253,8 @@ module _ (laws : Laws) (world : World) (p : Program) (numbers : Numbers) (m : Ma
       go (inl none) = absurd (cc (none, open_now))
       go (inr gone) = let none = ap (λ (vs : List Value). length vs) gone in omega (arith, none)
 
-  has_births : (b : ℕ) (ds : List Decl) (rest : Todo) → st.top.begun ≡ None → ready_work st.top.todo ≡ Enter b ds ∷ rest → (e : objects laws world p numbers m st n g b ≡ Some ds) → is_some m.top.function ≡ true
+  has_births : (b : ℕ) (ds : List Decl) (rest : Todo) → st.top.begun ≡ None → ready_work st.top.todo ≡ Enter b ds ∷ rest
+      → (e : objects laws world p numbers m st n g b ≡ Some ds) → is_some m.top.function ≡ true
       → HasArguments world p st ds → (z : BlockCode) → slice_get m.code.now.tables.blocks.items (m.top.blocks + b) ≡ Some z
       → HasBirths m.code.now m.top st.top.scene.blocks z ds st.top.arguments
   has_births b ds rest shut is e some asks z at =
@@ -281,9 +281,11 @@ module _ (laws : Laws) (world : World) (p : Program) (numbers : Numbers) (m : Ma
         places = omega (arith, places, count);
       })
 
-  places_below : is_some m.top.function ≡ true → KeepPlaces m.code.now m.top.locals (below laws world p numbers m st n g) st.held
+  places_below : is_some m.top.function ≡ true → KeepPlaces m.code.now m.top.locals
+      (below laws world p numbers m st n g) st.held
   places_below some =
-      keep_places world p (meaning laws world p numbers m st n g) m n laws numbers g.stands.listed g.set_up.code m.top.locals (below laws world p numbers m st n g) st.held
+      keep_places world p (meaning laws world p numbers m st n g) m n laws numbers g.stands.listed g.set_up.code m.top.locals
+      (below laws world p numbers m st n g) st.held
       (held laws world p numbers m st n g) (λ o rest is. under (below laws world p numbers m st n g) st.held g.stands.frames.1 o rest is)
     where
       sees_under : (function : Option ℕ) (q : Open) (h : Local) → function ≡ m.top.function → SeesLocals function m.top st.top q h → q.above ≤ m.top.locals

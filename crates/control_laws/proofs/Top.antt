@@ -1,8 +1,8 @@
 -- The top frame of a machine that is going: its function, its blocks, and what its full expression names.
-use Rattle.std.proofs.Common.{arith, ◌≡◌, ℕ, zero, suc, ◌+◌, ◌<◌, ◌≤◌, ◌^◌, ◌==◌, ◌⊎◌, inl, inr, Bool, true, false, List, [], ◌∷◌, length, map, reverse, Option, Some, None}
+use Rattle.std.proofs.Common.{arith, ◌≡◌, ℕ, ◌==◌, inl, inr, Bool, true, false, List, [], ◌∷◌}
+use Rattle.std.proofs.Common.{length, map, reverse, Option, Some, None}
 use Rattle.std.proofs.Common.{slice_get, refl, sym, ap, subst, ◌∙◌}
 use Rattle.std.specs.Prelude.{◌||◌, is_some}
-use Rattle.std.specs.List.{All}
 use Rattle.std.proofs.lemmas.Bool.Decides.{nat_tests}
 use Rattle.std.proofs.lemmas.List.Elements.{All-weaker}
 use Rattle.std.proofs.lemmas.Option.{same_Some}
@@ -16,21 +16,19 @@ use Rattle.c_typed.specs.declared.tree.Typed.{Typed}
 use Rattle.c_typed.specs.Lawful.{IsLawful}
 use Rattle.c_typed.specs.Order.{place}
 use Rattle.c_typed.specs.Sites.{Head, sites}
-use Rattle.c_model.specs.Program.{Decl, Expr}
+use Rattle.c_model.specs.Program.{Decl}
 use Rattle.c_model.specs.Runs.{State}
-use Rattle.c_model.specs.Steps.{Begun, Local, Scene}
+use Rattle.c_model.specs.Steps.{Local, Scene}
 use Rattle.c_model.specs.World.{World}
 use Rattle.program_view.specs.Trees.{expr_of}
 use Rattle.run_control.specs.View.{Meaning}
 use Rattle.run_statements.specs.declared.numbers.Numbers.{Numbers}
 use Rattle.run_state.specs.declared.machine.Machine.{Machine}
 use Rattle.run_state.specs.declared.machine.Open.{Open}
-use Rattle.run_state.specs.declared.machine.Stage.{Stage}
-use Rattle.run_state.specs.Operands.{AreAddresses, IsThere, StandsObjects, is_open}
-use Rattle.run_state.specs.Stands.{IsAbove, StandLocals, StandsBegun, StandsExpression, StandsFrame}
+use Rattle.run_state.specs.Operands.{IsThere, StandsObjects, is_open}
+use Rattle.run_state.specs.Stands.{IsAbove, StandLocals, StandsFrame}
 use Rattle.run_machine.specs.Beginning.{next_turn}
 use Rattle.run_machine.specs.Ending.{CanEnd, HasRoomBelow, IsFunctionIn, IsResultOf, KeepToRooms}
-use Rattle.run_machine.specs.Entering.{KeepPlaces}
 use Rattle.code_view.specs.Blocks.{HasBlockAt}
 use Rattle.code_view.specs.Known.{AreInOrder}
 use Rattle.code_view.specs.Named.{NamedIsOpen, NamesAreOpen, SlotIsOpen}
@@ -44,7 +42,7 @@ use Rattle.frame_laws.proofs.LawfulPrograms.{lawful_is_scoped}
 use Rattle.frame_laws.proofs.NamedNodes.{nodes_in_scope}
 use Rattle.run_facts.specs.Frames.{function_of}
 use Rattle.run_facts.specs.Going.{IsGoing}
-use Rattle.control_laws.proofs.Held.{HeldFrames, held_frames, keep_places, keep_to_rooms, ordered_below, room_below, round_same, same_functions, with_waiting}
+use Rattle.control_laws.proofs.Held.{HeldFrames, held_frames, keep_to_rooms, ordered_below, room_below, round_same, same_functions, with_waiting}
 use Rattle.control_laws.proofs.Laws.{Laws, top_frame}
 use Rattle.control_laws.proofs.Seen.{OfCode, block_at, firsts, of_code, parameters}
 

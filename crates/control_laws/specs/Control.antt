@@ -27,8 +27,7 @@ use Rattle.run_machine.specs.Ending.{IsResultOf}
 use Rattle.run_machine.specs.Passing.{TakesValue}
 use Rattle.code_view.specs.Named.{NamesAreOpen}
 use Rattle.code_view.specs.Numbering.{meaning_of}
-use Rattle.run_laws.specs.Open.{IsOpen}
-use Rattle.run_laws.specs.Sited.{IsLawfulTree}
+use Rattle.run_laws.specs.Open.{IsLawfulCode, IsOpen}
 use Rattle.run_laws.specs.Small.{AreSmall, HasSmallBytes, ListsAreSmall}
 use Rattle.run_facts.specs.Going.{IsGoing}
 
@@ -66,11 +65,11 @@ abbrev pub ControlGoesOn : Type 0
 ControlGoesOn = (world : World) (p : Program) (numbers : Numbers) (m : Machine) (st : State) (n : ℕ) → IsGoing world p numbers m st n
     → IsAtControl world p m st → canonical_pick world st.top st.top.begun ≡ Control → MayGoOn world m st
 
--- 3. A full expression that is open in the top frame is open as picks ask it, where the frame has no result yet, each full expression in the code is lawful,
--- and values, bytes and lists are small.
+-- 3. A full expression that is open in the top frame is open as picks ask it, where the frame has no result yet, the code is that of a lawful program, its
+-- trees too, and values, bytes and lists are small.
 pub record OpensSmall (m : Machine) (st : State) (e : Begun) : Type 0 where
   pub result : m.left ≡ None
-  pub trees : (k : ℕ) (laid : Laid) → slice_get m.code.now.expressions.items k ≡ Some laid → IsLawfulTree m.program.now laid.root.now
+  pub code : IsLawfulCode m.program.now m.code.now
   pub given : AreSmall e.given
   pub bytes : HasSmallBytes st.store
   pub lists : ListsAreSmall e.root
