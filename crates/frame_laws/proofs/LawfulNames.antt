@@ -259,7 +259,8 @@ module _ (p : Program) (f : Signature) (objects : Objects) where
       subst (Fits objects around) (sym (fold-roll-Body Stmt Stmt Loop Inner view.body_step view.entry_step view.start_step (view.block_step p.tags) z))
       (h blocks around low r
       (subst (λ (g : Found). AllLawful (g blocks)) (fold-roll-Body Found Found Opened Opened found_body found_entry found_start found_block z) a)
-      (subst (λ (s : Summary). Rows low around s.blocks) (fold-roll-Body Summary E Summary Summary summary_step entry_summary start_summary block_summary z) rows))
+      (subst (λ (s : Summary). Rows low around s.blocks)
+      (fold-roll-Body Summary E Summary Summary summary_step entry_summary start_summary block_summary z) rows))
 
   rolled_entry : (z : Entry-F Body Entry ForStart Block) → EntryAt z → EntryScoped (roll-Entry z)
   rolled_entry z h = λ blocks around low r a rows d.
@@ -358,7 +359,8 @@ module _ (p : Program) (f : Signature) (objects : Objects) where
       let next = low + length (of_start start.0).blocks in
       let l = start.1 blocks around low r s.0 each.0 in
       l.fits (view.perhaps test) (view.perhaps step) (stmt_of p.tags b.0) (of_perhaps tested test (opens blocks) l.inner l.round u.0)
-      (of_perhaps unused step (opens blocks) l.inner l.round q.0) (b.1 (opens blocks) l.inner next l.round q.1 (rows_in next around l.inner (summary b.0).blocks l.under each.1))
+      (of_perhaps unused step (opens blocks) l.inner l.round q.0)
+      (b.1 (opens blocks) l.inner next l.round q.1 (rows_in next around l.inner (summary b.0).blocks l.under each.1))
   at_body (form.Goto k) = λ blocks around low r a rows. tt
   at_body form.Continue = λ blocks around low r a rows. tt
   at_body form.Break = λ blocks around low r a rows. tt
@@ -376,7 +378,8 @@ module _ (p : Program) (f : Signature) (objects : Objects) where
 
   at_start : (y : ForStart-F ScopedBody ScopedEntry ScopedStart ScopedBlock)
       → StartAt (map-ForStart ScopedBody ScopedEntry ScopedStart ScopedBlock Body Entry ForStart Block (λ e. e.0) (λ e. e.0) (λ e. e.0) (λ e. e.0) y)
-  at_start form.Empty = λ blocks around low r a rows. record { inner = around; under = above_more low 0 around rows.above; round = r; fits = λ test step s h k l. (tt, h, k, l) }
+  at_start form.Empty = λ blocks around low r a rows.
+      record { inner = around; under = above_more low 0 around rows.above; round = r; fits = λ test step s h k l. (tt, h, k, l) }
   at_start (form.Value t) = λ blocks around low r a rows.
       record {
         inner = around;
