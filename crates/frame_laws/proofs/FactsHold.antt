@@ -1,5 +1,5 @@
 -- What is so of ordered frames.
-use Rattle.std.proofs.Common.{◌≡◌, ℕ, suc, ◌+◌, Bool, true, false, ◌⊎◌, inl, inr, List, [], ◌∷◌, ◌++◌, map, Option, Some, None, is_some}
+use Rattle.std.proofs.Common.{arith, ◌≡◌, ℕ, suc, ◌+◌, ◌<◌, Bool, true, false, ◌⊎◌, inl, inr, List, [], ◌∷◌, ◌++◌, map, Option, Some, None, is_some}
 use Rattle.std.proofs.Common.{if◌then◌else◌, nat_lt, ◌==◌, slice_get, refl, sym, ap, ◌∙◌, subst}
 use Rattle.c_typed.specs.declared.tree.Place.{Place}
 use Rattle.c_typed.specs.declared.tree.Slot.{Slot}
@@ -14,7 +14,7 @@ use Rattle.c_model.specs.Values as model
 use Rattle.c_model.specs.Values.{truth, integer_of}
 use Rattle.c_model.specs.World.{World}
 use Rattle.c_model.specs.Steps.{Begun, Local, at_node, at_node_among, body_of, ends_with, settled}
-use Rattle.frame_laws.specs.Scopes.{Objects, objects_in, names, names_of_all, head_names, AreOpen, ExprFits, BodyFits, DeclareFits}
+use Rattle.frame_laws.specs.Scopes.{Objects, objects_in, names, names_of_all, head_names, AreLower, AreOpen, ExprFits, BodyFits, DeclareFits, IsAbove}
 use Rattle.frame_laws.specs.Todos.{IsInside, EntersFirst, Runs}
 use Rattle.frame_laws.specs.Frames.{IsScoped, open_blocks, IsOutermost, number_of, EntersInFront, BegunFits, IsFresh, IsInBody, IsOfFunction}
 use Rattle.frame_laws.specs.Frames.{IsolatesAt, IsBeforeTree, IsInTree, IsOfInitializer, AreOrdered, function_round, or_else, objects_of_body, objects_round}
@@ -87,6 +87,38 @@ none_outside objects (Again e s ∷ rest) r = absurd r.0
 none_outside objects (Test test step s ∷ rest) r = absurd r.0
 none_outside objects (Break_here ∷ rest) r = absurd r.0
 
+-- each open block has a higher number than those round it
+abbrev Descends : List ℕ → Type 0
+Descends [] = Unit {0}
+Descends (o ∷ os) = IsAbove o os × Descends os
+
+runs_descend : (objects : Objects) (todo : Todo) (around : List ℕ) → Runs objects todo around [] → Descends around
+runs_descend objects [] around r = subst Descends (sym r) tt
+runs_descend objects (Enter b ds ∷ rest) around r = (runs_descend objects rest (b ∷ around) r.2).1
+runs_descend objects (Leave b ds ∷ rest) [] r = absurd r
+runs_descend objects (Leave b ds ∷ rest) (o ∷ os) r = (subst (λ (n : ℕ). IsAbove n os) (sym r.0) r.1.above, runs_descend objects rest os r.2)
+runs_descend objects (Unwrite d ∷ rest) around r = runs_descend objects rest around r.2
+runs_descend objects (Begin e what ∷ rest) around r = runs_descend objects rest around r.2
+runs_descend objects (Nothing_to_do ∷ rest) around r = runs_descend objects rest around r.2
+runs_descend objects (Go_to k ∷ rest) around r = runs_descend objects rest around r.2
+runs_descend objects (Go_out ∷ rest) around r = runs_descend objects rest around r.2
+runs_descend objects (Go_on ∷ rest) around r = runs_descend objects rest around r.2
+runs_descend objects (Go_back ∷ rest) around r = runs_descend objects rest around r.2
+runs_descend objects (To_do s ∷ rest) around r = runs_descend objects rest around r.2
+runs_descend objects (Rest ss ∷ rest) around r = runs_descend objects rest around r.2
+runs_descend objects (Round test step s ∷ rest) around r = runs_descend objects rest around r.2
+runs_descend objects (Again e s ∷ rest) around r = runs_descend objects rest around r.2
+runs_descend objects (Test test step s ∷ rest) around r = runs_descend objects rest around r.2
+runs_descend objects (Break_here ∷ rest) around r = runs_descend objects rest around r.2
+
+next_above : (b o : ℕ) (os : List ℕ) → o < b → IsAbove o os → IsAbove b os
+next_above b o [] l a = tt
+next_above b o (q ∷ qs) l a = omega (arith, l, a)
+
+lower_all : (b : ℕ) (around : List ℕ) → IsAbove b around → Descends around → AreLower b around
+lower_all b [] a d = tt
+lower_all b (o ∷ os) a d = (a, lower_all b os (next_above b o os a d.0) d.1)
+
 ends_not : (world : World) (todo : Todo) → (todo ≡ [] → ⊥) → ends_with world todo ≡ false
 ends_not world [] f = absurd (f refl)
 ends_not world (w ∷ rest) f = refl
@@ -102,7 +134,7 @@ is_enter todo = false
 -- the next control step of a body that isn't entered yet is its enter
 fresh_ready : (body : Stmt) → BodyFits body → (b : ℕ) × (ds : List Decl) × (rest : Todo) × (ready_work (To_do body ∷ []) ≡ Enter b ds ∷ rest)
     × (objects_in body b ≡ Some ds)
-fresh_ready (Block b ds ss) f = (b, ds, Rest _ ∷ Leave b ds ∷ [], refl, f.0)
+fresh_ready (Block b ds ss) f = (b, ds, Rest _ ∷ Leave b ds ∷ [], refl, f.0.declares)
 fresh_ready (Value x) f = absurd f
 fresh_ready Empty f = absurd f
 fresh_ready (Declare x) f = absurd f
@@ -225,9 +257,9 @@ module _ (world : World) where
   leave_in : (objects : Objects) (b : ℕ) (ds : List Decl) (rest : Todo) (bs : List ℕ) → Runs objects (Leave b ds ∷ rest) bs []
       → (objects b ≡ Some ds) × (ends_with world (ready_work rest) ≡ true → bs ≡ b ∷ []) × (bs ≡ b ∷ [] → rest ≡ [])
   leave_in objects b ds rest [] r = absurd r
-  leave_in objects b ds rest (o ∷ []) r = (r.1, (λ e. ap (λ x. x ∷ []) r.0), λ e. none_outside objects rest r.2)
+  leave_in objects b ds rest (o ∷ []) r = (r.1.declares, (λ e. ap (λ x. x ∷ []) r.0), λ e. none_outside objects rest r.2)
   leave_in objects b ds rest (o ∷ p ∷ os) r = (
-    r.1,
+    r.1.declares,
     (λ e. absurd (inside_left (ready_work rest) (p ∷ os) (ready_closes rest (p ∷ os) (runs_close objects rest (p ∷ os) r.2)) tt
         (ends_none world (ready_work rest) e))),
     λ e. absurd (cc (e)),
@@ -248,23 +280,28 @@ module _ (world : World) where
       }
 
   enter_in : (f : Local) (body : Stmt) (b : ℕ) (ds : List Decl) (rest : Todo) → BodyFits body → ready_work f.todo ≡ Enter b ds ∷ rest
-      → (IsFresh body f ⊎ IsInBody body f) → (objects_in body b ≡ Some ds) × ((f.scene.blocks ≡ []) ⊎ (f.arguments ≡ []))
+      → (IsFresh body f ⊎ IsInBody body f)
+      → (objects_in body b ≡ Some ds) × ((f.scene.blocks ≡ []) ⊎ (f.arguments ≡ [])) × AreLower b (open_blocks f)
   enter_in f body b ds rest fits q (inl fresh) =
       let r = fresh_ready body fits in
       let same : (r.0, r.1) ≡ (b, ds) = ap (λ t. first_block t (b, ds)) (sym r.3 ∙ (ap ready_work (sym fresh.todo) ∙ q)) in
-      (ap (objects_in body) (ap (λ (x : ℕ × List Decl). x.0) (sym same)) ∙ (r.4 ∙ ap (λ (x : ℕ × List Decl). Some x.1) same), inl fresh.blocks)
+      let none : open_blocks f ≡ [] = ap (λ (xs : List (ℕ × ℕ)). map (λ c. c.0) xs) fresh.blocks in (
+        ap (objects_in body) (ap (λ (x : ℕ × List Decl). x.0) (sym same)) ∙ (r.4 ∙ ap (λ (x : ℕ × List Decl). Some x.1) same),
+        inl fresh.blocks,
+        subst (AreLower b) (sym none) tt,
+      )
   enter_in f body b ds rest fits q (inr i) =
       let R : Todo → Type 0 = λ t. Runs (objects_in body) t (open_blocks f) [] in
       let r : Runs (objects_in body) (Enter b ds ∷ rest) (open_blocks f) [] =
       subst R q (ready_runs (objects_in body) f.todo (open_blocks f) [] i.rest) in
-      (r.1, inr i.arguments)
+      (r.1.declares, inr i.arguments, lower_all b (open_blocks f) r.1.above (runs_descend (objects_in body) f.todo (open_blocks f) i.rest))
 
   pub enters_with : (f : Local) (hs : List (Local × Place)) (b : ℕ) (ds : List Decl) (rest : Todo) → IsScoped world → AreOrdered world f hs
       → f.begun ≡ None → ready_work f.todo ≡ Enter b ds ∷ rest → IsAtEnter world f hs b ds
   enters_with f hs b ds rest scoped a e q =
       let i = by_step f hs a e (ap is_begin q) in
       let r = enter_in f i.body b ds rest (scoped i.number i.body i.defined) q i.stage in
-      record { function = function_there f i; objects = ap (λ o. objects_of_body o b) (round_body f hs i) ∙ r.0; arguments = r.1 }
+      record { function = function_there f i; objects = ap (λ o. objects_of_body o b) (round_body f hs i) ∙ r.0; inside = r.2; arguments = r.1 }
 
   -- 4. Names.
 

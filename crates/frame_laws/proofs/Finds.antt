@@ -11,7 +11,7 @@ use Rattle.c_model.specs.Control.{Target, to_case, to_default, is_label, is_case
 use Rattle.c_model.specs.Control.{if_goes, find, find_in}
 use Rattle.c_model.specs.OpenBlocks.{NoEnters}
 use Rattle.c_model.proofs.OpenKeeps.{finds_no_enters}
-use Rattle.frame_laws.specs.Scopes.{Objects, Fits, AllFit}
+use Rattle.frame_laws.specs.Scopes.{Objects, IsBlockIn, Fits, AllFit}
 use Rattle.frame_laws.specs.Todos.{IsInside, EntersFirst, UseFits, Runs}
 use Rattle.frame_laws.specs.Frames.{IsOutermost}
 use Rattle.frame_laws.proofs.Runs.{append_runs, leaves_run, leaves_enter, none_first, append_enters}
@@ -64,69 +64,9 @@ round_is (Again e s ∷ rest) inner outer = round_is rest inner outer
 round_is (Test test step s ∷ rest) inner outer = round_is rest inner outer
 round_is (Break_here ∷ rest) inner outer = round_is rest inner outer
 
--- two places in blocks that are the same from the outermost on, so far
-record Shared (bs cs : List (ℕ × List Decl)) (outer : List ℕ) : Type 0 where
-  base : List ℕ
-  first : numbers bs outer ≡ numbers (unshared bs cs) base
-  second : numbers cs outer ≡ numbers (unshared cs bs) base
-  inside : IsInside outer → IsInside base
-
-if_same : (b c : ℕ × List Decl) (bs cs : List (ℕ × List Decl)) (x y : Bool) → (b.0 == c.0) ≡ x → (c.0 == b.0) ≡ y → (outer : List ℕ)
-    → ((o : List ℕ) → Shared bs cs o) → Shared (b ∷ bs) (c ∷ cs) outer
-if_same b c bs cs true true p q outer f =
-    let r = f (b.0 ∷ outer) in
-    let e : c.0 ≡ b.0 = grind (arith, q) in
-    record {
-      base = r.base;
-      first = r.first ∙ ap (λ t. numbers (if t then unshared bs cs else b ∷ bs) r.base) (sym p);
-      second = ap (λ n. numbers cs (n ∷ outer)) e ∙ (r.second ∙ ap (λ t. numbers (if t then unshared cs bs else c ∷ cs) r.base) (sym q));
-      inside = λ i. r.inside tt;
-    }
-if_same b c bs cs false false p q outer f = record {
-  base = outer;
-  first = ap (λ t. numbers (if t then unshared bs cs else b ∷ bs) outer) (sym p);
-  second = ap (λ t. numbers (if t then unshared cs bs else c ∷ cs) outer) (sym q);
-  inside = λ i. i;
-}
-if_same b c bs cs true false p q outer f = absurd (grind (arith, p, q))
-if_same b c bs cs false true p q outer f = absurd (grind (arith, p, q))
-
-shared : (bs cs : List (ℕ × List Decl)) (outer : List ℕ) → Shared bs cs outer
-shared [] [] outer = record { base = outer; first = refl; second = refl; inside = λ i. i }
-shared [] (c ∷ cs) outer = record { base = outer; first = refl; second = refl; inside = λ i. i }
-shared (b ∷ bs) [] outer = record { base = outer; first = refl; second = refl; inside = λ i. i }
-shared (b ∷ bs) (c ∷ cs) outer = if_same b c bs cs (b.0 == c.0) (c.0 == b.0) refl refl outer (shared bs cs)
-
--- of two places in one body the outermost block is shared
-record SharedInside (bs cs : List (ℕ × List Decl)) : Type 0 where
-  base : List ℕ
-  first : numbers bs [] ≡ numbers (unshared bs cs) base
-  second : numbers cs [] ≡ numbers (unshared cs bs) base
-  inside : IsInside base
-
 outermost_of : (own : ℕ) (bs : List (ℕ × List Decl)) (x : ℕ) (outer : List ℕ) → IsOutermost own (numbers bs (x ∷ outer)) → IsOutermost own (x ∷ outer)
 outermost_of own [] x outer o = o
 outermost_of own (b ∷ bs) x outer o = outermost_of own bs b.0 (x ∷ outer) o
-
-both_inside : (own : ℕ) (b c : ℕ × List Decl) (bs cs : List (ℕ × List Decl)) (x y : Bool) → (b.0 == c.0) ≡ x → (c.0 == b.0) ≡ y → b.0 ≡ own → c.0 ≡ own
-    → SharedInside (b ∷ bs) (c ∷ cs)
-both_inside own b c bs cs true true p q h k =
-    let r = shared bs cs (b.0 ∷ []) in
-    let e : c.0 ≡ b.0 = grind (arith, q) in
-    record {
-      base = r.base;
-      first = r.first ∙ ap (λ t. numbers (if t then unshared bs cs else b ∷ bs) r.base) (sym p);
-      second = ap (λ n. numbers cs (n ∷ [])) e ∙ (r.second ∙ ap (λ t. numbers (if t then unshared cs bs else c ∷ cs) r.base) (sym q));
-      inside = r.inside tt;
-    }
-both_inside own b c bs cs true false p q h k = absurd (grind (arith, p, q, h, k))
-both_inside own b c bs cs false y p q h k = absurd (grind (arith, p, h, k))
-
-shared_inside : (own : ℕ) (bs cs : List (ℕ × List Decl)) → IsOutermost own (numbers bs []) → IsOutermost own (numbers cs []) → SharedInside bs cs
-shared_inside own [] cs o p = absurd o
-shared_inside own (b ∷ bs) [] o p = absurd p
-shared_inside own (b ∷ bs) (c ∷ cs) o p =
-    both_inside own b c bs cs (b.0 == c.0) (c.0 == b.0) refl refl (outermost_of own bs b.0 [] o) (outermost_of own cs c.0 [] p)
 
 last_is : (b : ℕ) (xs : List ℕ) → IsOutermost b (xs ++ b ∷ [])
 last_is b [] = refl
@@ -142,47 +82,119 @@ leave_first [] rest n = n
 leave_first (b ∷ bs) rest n = leave_first bs (Leave b.0 b.1 ∷ rest) n
 
 module _ (objects : Objects) where
-  -- 2. Each block has its objects.
+  -- 2. Each block has its objects, in those round it.
 
-  abbrev AllDeclared : List (ℕ × List Decl) → Type 0
-  AllDeclared [] = Unit {0}
-  AllDeclared (b ∷ bs) = (objects b.0 ≡ Some b.1) × AllDeclared bs
+  abbrev AllDeclared : List (ℕ × List Decl) → (outer : List ℕ) → Type 0
+  AllDeclared [] outer = Unit {0}
+  AllDeclared (b ∷ bs) outer = IsBlockIn objects outer b.0 b.1 × AllDeclared bs (b.0 ∷ outer)
 
-  round_declared : (ws : Todo) (inner : List (ℕ × List Decl)) (around last : List ℕ) → Runs objects ws around last → AllDeclared inner
-      → AllDeclared (blocks_round ws inner)
-  round_declared [] inner around last r a = a
-  round_declared (Enter b ds ∷ rest) inner around last r a = round_declared rest inner (b ∷ around) last r.2 a
-  round_declared (Leave b ds ∷ rest) inner [] last r a = absurd r
-  round_declared (Leave b ds ∷ rest) inner (o ∷ os) last r a = round_declared rest ((b, ds) ∷ inner) os last r.2 (r.1, a)
-  round_declared (Unwrite d ∷ rest) inner around last r a = round_declared rest inner around last r.2 a
-  round_declared (Begin e what ∷ rest) inner around last r a = round_declared rest inner around last r.2 a
-  round_declared (Nothing_to_do ∷ rest) inner around last r a = round_declared rest inner around last r.2 a
-  round_declared (Go_to k ∷ rest) inner around last r a = round_declared rest inner around last r.2 a
-  round_declared (Go_out ∷ rest) inner around last r a = round_declared rest inner around last r.2 a
-  round_declared (Go_on ∷ rest) inner around last r a = round_declared rest inner around last r.2 a
-  round_declared (Go_back ∷ rest) inner around last r a = round_declared rest inner around last r.2 a
-  round_declared (To_do s ∷ rest) inner around last r a = round_declared rest inner around last r.2 a
-  round_declared (Rest ss ∷ rest) inner around last r a = round_declared rest inner around last r.2 a
-  round_declared (Round test step s ∷ rest) inner around last r a = round_declared rest inner around last r.2 a
-  round_declared (Again e s ∷ rest) inner around last r a = round_declared rest inner around last r.2 a
-  round_declared (Test test step s ∷ rest) inner around last r a = round_declared rest inner around last r.2 a
-  round_declared (Break_here ∷ rest) inner around last r a = round_declared rest inner around last r.2 a
+  -- two places in blocks that are the same from the outermost on, so far
+  record Shared (bs cs : List (ℕ × List Decl)) (outer : List ℕ) : Type 0 where
+    base : List ℕ
+    first : numbers bs outer ≡ numbers (unshared bs cs) base
+    second : numbers cs outer ≡ numbers (unshared cs bs) base
+    inside : IsInside outer → IsInside base
+    declares : AllDeclared bs outer → AllDeclared (unshared bs cs) base
+    declares_other : AllDeclared cs outer → AllDeclared (unshared cs bs) base
 
-  where_declared : (t : Bool) (bs cs : List (ℕ × List Decl)) → AllDeclared bs → AllDeclared cs → AllDeclared (if t then bs else cs)
-  where_declared true bs cs d e = d
-  where_declared false bs cs d e = e
+  if_same : (b c : ℕ × List Decl) (bs cs : List (ℕ × List Decl)) (x y : Bool) → (b.0 == c.0) ≡ x → (c.0 == b.0) ≡ y → (outer : List ℕ)
+      → ((o : List ℕ) → Shared bs cs o) → Shared (b ∷ bs) (c ∷ cs) outer
+  if_same b c bs cs true true p q outer f =
+      let r = f (b.0 ∷ outer) in
+      let e : c.0 ≡ b.0 = grind (arith, q) in
+      let P : Bool → Type 0 = λ t. AllDeclared (if t then unshared bs cs else b ∷ bs) r.base in
+      let Q : Bool → Type 0 = λ t. AllDeclared (if t then unshared cs bs else c ∷ cs) r.base in
+      let C : ℕ → Type 0 = λ n. AllDeclared cs (n ∷ outer) in
+      record {
+        base = r.base;
+        first = r.first ∙ ap (λ t. numbers (if t then unshared bs cs else b ∷ bs) r.base) (sym p);
+        second = ap (λ n. numbers cs (n ∷ outer)) e ∙ (r.second ∙ ap (λ t. numbers (if t then unshared cs bs else c ∷ cs) r.base) (sym q));
+        inside = λ i. r.inside tt;
+        declares = λ d. subst P (sym p) (r.declares d.1);
+        declares_other = λ d. subst Q (sym q) (r.declares_other (subst C e d.1));
+      }
+  if_same b c bs cs false false p q outer f =
+      let P : Bool → Type 0 = λ t. AllDeclared (if t then unshared bs cs else b ∷ bs) outer in
+      let Q : Bool → Type 0 = λ t. AllDeclared (if t then unshared cs bs else c ∷ cs) outer in
+      record {
+        base = outer;
+        first = ap (λ t. numbers (if t then unshared bs cs else b ∷ bs) outer) (sym p);
+        second = ap (λ t. numbers (if t then unshared cs bs else c ∷ cs) outer) (sym q);
+        inside = λ i. i;
+        declares = λ d. subst P (sym p) d;
+        declares_other = λ d. subst Q (sym q) d;
+      }
+  if_same b c bs cs true false p q outer f = absurd (grind (arith, p, q))
+  if_same b c bs cs false true p q outer f = absurd (grind (arith, p, q))
 
-  unshared_declared : (bs cs : List (ℕ × List Decl)) → AllDeclared bs → AllDeclared (unshared bs cs)
-  unshared_declared [] cs d = tt
-  unshared_declared (b ∷ bs) [] d = d
-  unshared_declared (b ∷ bs) (c ∷ cs) d = where_declared (b.0 == c.0) (unshared bs cs) (b ∷ bs) (unshared_declared bs cs d.1) d
+  shared : (bs cs : List (ℕ × List Decl)) (outer : List ℕ) → Shared bs cs outer
+  shared [] [] outer = record { base = outer; first = refl; second = refl; inside = λ i. i; declares = λ d. d; declares_other = λ d. d }
+  shared [] (c ∷ cs) outer = record { base = outer; first = refl; second = refl; inside = λ i. i; declares = λ d. d; declares_other = λ d. d }
+  shared (b ∷ bs) [] outer = record { base = outer; first = refl; second = refl; inside = λ i. i; declares = λ d. d; declares_other = λ d. d }
+  shared (b ∷ bs) (c ∷ cs) outer = if_same b c bs cs (b.0 == c.0) (c.0 == b.0) refl refl outer (shared bs cs)
 
-  enters_run : (bs : List (ℕ × List Decl)) (rest : Todo) (around last : List ℕ) → IsInside around → AllDeclared bs
+  -- of two places in one body the outermost block is shared
+  record SharedInside (bs cs : List (ℕ × List Decl)) : Type 0 where
+    base : List ℕ
+    first : numbers bs [] ≡ numbers (unshared bs cs) base
+    second : numbers cs [] ≡ numbers (unshared cs bs) base
+    inside : IsInside base
+    declares : AllDeclared bs [] → AllDeclared (unshared bs cs) base
+    declares_other : AllDeclared cs [] → AllDeclared (unshared cs bs) base
+
+  both_inside : (own : ℕ) (b c : ℕ × List Decl) (bs cs : List (ℕ × List Decl)) (x y : Bool) → (b.0 == c.0) ≡ x → (c.0 == b.0) ≡ y → b.0 ≡ own → c.0 ≡ own
+      → SharedInside (b ∷ bs) (c ∷ cs)
+  both_inside own b c bs cs true true p q h k =
+      let r = shared bs cs (b.0 ∷ []) in
+      let e : c.0 ≡ b.0 = grind (arith, q) in
+      let P : Bool → Type 0 = λ t. AllDeclared (if t then unshared bs cs else b ∷ bs) r.base in
+      let Q : Bool → Type 0 = λ t. AllDeclared (if t then unshared cs bs else c ∷ cs) r.base in
+      let C : ℕ → Type 0 = λ n. AllDeclared cs (n ∷ []) in
+      record {
+        base = r.base;
+        first = r.first ∙ ap (λ t. numbers (if t then unshared bs cs else b ∷ bs) r.base) (sym p);
+        second = ap (λ n. numbers cs (n ∷ [])) e ∙ (r.second ∙ ap (λ t. numbers (if t then unshared cs bs else c ∷ cs) r.base) (sym q));
+        inside = r.inside tt;
+        declares = λ d. subst P (sym p) (r.declares d.1);
+        declares_other = λ d. subst Q (sym q) (r.declares_other (subst C e d.1));
+      }
+  both_inside own b c bs cs true false p q h k = absurd (grind (arith, p, q, h, k))
+  both_inside own b c bs cs false y p q h k = absurd (grind (arith, p, h, k))
+
+  shared_inside : (own : ℕ) (bs cs : List (ℕ × List Decl)) → IsOutermost own (numbers bs []) → IsOutermost own (numbers cs []) → SharedInside bs cs
+  shared_inside own [] cs o p = absurd o
+  shared_inside own (b ∷ bs) [] o p = absurd p
+  shared_inside own (b ∷ bs) (c ∷ cs) o p =
+      both_inside own b c bs cs (b.0 == c.0) (c.0 == b.0) refl refl (outermost_of own bs b.0 [] o) (outermost_of own cs c.0 [] p)
+
+  round_declared : (ws : Todo) (inner : List (ℕ × List Decl)) (around last : List ℕ) → NoEnters ws → Runs objects ws around last
+      → AllDeclared inner around → AllDeclared (blocks_round ws inner) last
+  round_declared [] inner around last n r a = let P : List ℕ → Type 0 = AllDeclared inner in subst P r a
+  round_declared (Enter b ds ∷ rest) inner around last n r a = absurd n
+  round_declared (Leave b ds ∷ rest) inner [] last n r a = absurd r
+  round_declared (Leave b ds ∷ rest) inner (o ∷ os) last n r a =
+      let P : ℕ → Type 0 = λ k. AllDeclared inner (k ∷ os) in
+      round_declared rest ((b, ds) ∷ inner) os last n r.2 (r.1, subst P r.0 a)
+  round_declared (Unwrite d ∷ rest) inner around last n r a = round_declared rest inner around last n r.2 a
+  round_declared (Begin e what ∷ rest) inner around last n r a = round_declared rest inner around last n r.2 a
+  round_declared (Nothing_to_do ∷ rest) inner around last n r a = round_declared rest inner around last n r.2 a
+  round_declared (Go_to k ∷ rest) inner around last n r a = round_declared rest inner around last n r.2 a
+  round_declared (Go_out ∷ rest) inner around last n r a = round_declared rest inner around last n r.2 a
+  round_declared (Go_on ∷ rest) inner around last n r a = round_declared rest inner around last n r.2 a
+  round_declared (Go_back ∷ rest) inner around last n r a = round_declared rest inner around last n r.2 a
+  round_declared (To_do s ∷ rest) inner around last n r a = round_declared rest inner around last n r.2 a
+  round_declared (Rest ss ∷ rest) inner around last n r a = round_declared rest inner around last n r.2 a
+  round_declared (Round test step s ∷ rest) inner around last n r a = round_declared rest inner around last n r.2 a
+  round_declared (Again e s ∷ rest) inner around last n r a = round_declared rest inner around last n r.2 a
+  round_declared (Test test step s ∷ rest) inner around last n r a = round_declared rest inner around last n r.2 a
+  round_declared (Break_here ∷ rest) inner around last n r a = round_declared rest inner around last n r.2 a
+
+  enters_run : (bs : List (ℕ × List Decl)) (rest : Todo) (around last : List ℕ) → IsInside around → AllDeclared bs around
       → Runs objects rest (numbers bs around) last → Runs objects (enter_all bs rest) around last
   enters_run [] rest around last i d r = r
   enters_run (b ∷ bs) rest around last i d r = (i, d.0, enters_run bs rest (b.0 ∷ around) last tt d.1 r)
 
-  leaves_all_run : (bs : List (ℕ × List Decl)) (rest : Todo) (around last : List ℕ) → AllDeclared bs → Runs objects rest around last
+  leaves_all_run : (bs : List (ℕ × List Decl)) (rest : Todo) (around last : List ℕ) → AllDeclared bs around → Runs objects rest around last
       → Runs objects (leave_all bs rest) (numbers bs around) last
   leaves_all_run [] rest around last d r = r
   leaves_all_run (b ∷ bs) rest around last d r = leaves_all_run bs (Leave b.0 b.1 ∷ rest) (b.0 ∷ around) last d.1 (refl, d.0, r)
@@ -276,7 +288,7 @@ module _ (objects : Objects) where
   moved_goes None rest around last none i f n r = (r, none_first rest n)
   moved_goes (Some ws) rest around last none i f n r =
       let P : List ℕ → Type 0 = λ xs. Runs objects (ws ++ rest) xs last in (
-        enters_run (blocks_round ws []) (ws ++ rest) around last i (round_declared ws [] (left_in ws ++ around) around f tt)
+        enters_run (blocks_round ws []) (ws ++ rest) around last i (round_declared ws [] (left_in ws ++ around) around (none ws refl) f tt)
             (subst P (sym (round_is ws [] around)) (append_runs objects ws rest (left_in ws ++ around) around last f r)),
         enter_first (blocks_round ws []) (ws ++ rest) (none_first (ws ++ rest) (append_enters ws rest (none ws refl) n)),
       )
@@ -325,9 +337,8 @@ module _ (objects : Objects) where
       let P : List ℕ → Type 0 = λ xs. Runs objects ws xs [] in
       let Q : List ℕ → Type 0 = λ xs. Runs objects (gone_to todo (Some ws)) xs [] in (
         subst Q (sym (is ∙ s.first)) (leaves_all_run us (enter_all vs ws) s.base []
-            (unshared_declared (blocks_round todo []) (blocks_round ws []) (round_declared todo [] around [] r tt))
-            (enters_run vs ws s.base [] s.inside
-            (unshared_declared (blocks_round ws []) (blocks_round todo []) (round_declared ws [] (left_in ws) [] f tt)) (subst P (comes ∙ s.second) f))),
+            (s.declares (round_declared todo [] around [] n r tt))
+            (enters_run vs ws s.base [] s.inside (s.declares_other (round_declared ws [] (left_in ws) [] m f tt)) (subst P (comes ∙ s.second) f))),
         leave_first us (enter_all vs ws) (enter_first vs ws (none_first ws m)),
       )
 

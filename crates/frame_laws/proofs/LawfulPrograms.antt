@@ -57,7 +57,7 @@ module _ (kept : TextIsKept) (p : Program) (f : Signature) where
       let rows = rows_are p.tags objects (summary b).blocks (summary b).blocks 0 (objects_are p.tags b (text_of (stmt_of p.tags b)) (kept p.tags b))
       h.statements.numbered (λ i. ap (slice_get (summary b).blocks) (omega arith)) h.statements.blocks in
       let round : AreRound p f objects no_block [] = λ n qs q. absurd (cc (q)) in
-      body_scoped p f objects b no_block [] round h.full rows
+      body_scoped p f objects b no_block [] 0 round h.full (record { numbered = h.statements.numbered; above = tt; are = rows })
 
   seen_is : (k : Block) → stmt_of p.tags (roll-Body (form.Block k)) ≡ as_block (inner_of p.tags k)
   seen_is k = fold-roll-Body Stmt Stmt Loop Inner view.body_step view.entry_step view.start_step (view.block_step p.tags) (form.Block k)

@@ -8,7 +8,7 @@ use Rattle.c_model.specs.OpenBlocks.{Closes, NoEntersBehind}
 use Rattle.c_model.specs.Steps.{Begun, Local, ends_with, settled}
 use Rattle.c_model.specs.Values.{Value}
 use Rattle.c_model.specs.World.{World}
-use Rattle.frame_laws.specs.Scopes.{DeclareFits, ExprFits, BodyFits}
+use Rattle.frame_laws.specs.Scopes.{AreLower, DeclareFits, ExprFits, BodyFits}
 use Rattle.frame_laws.specs.Frames.{IsScoped, AreOrdered, open_blocks, objects_round}
 
 -- Each is so of the top frame of a state, and of each frame below, with those below that.
@@ -42,10 +42,12 @@ abbrev pub LeavesInnermost : Type 0
 LeavesInnermost = (world : World) (f : Local) (hs : List (Local × Place)) (b : ℕ) (ds : List Decl) (rest : Todo) → IsScoped world
     → AreOrdered world f hs → f.begun ≡ None → ready_work f.todo ≡ Leave b ds ∷ rest → IsAtLeave world f hs b ds rest
 
--- 4. Where a block is entered, it is one of a function's frame, with its objects; and arguments wait only where no block is open yet (6.5.2.2p4, p10).
+-- 4. Where a block is entered, it is one of a function's frame, with its objects, and has a higher number than those that are open, which stand round it; and
+-- arguments wait only where no block is open yet (6.5.2.2p4, p10).
 pub record IsAtEnter (world : World) (f : Local) (hs : List (Local × Place)) (b : ℕ) (ds : List Decl) : Type 0 where
   pub function : is_some f.function ≡ true
   pub objects : objects_round world f hs b ≡ Some ds
+  pub inside : AreLower b (open_blocks f)
   pub arguments : (f.scene.blocks ≡ []) ⊎ (f.arguments ≡ [])
 
 abbrev pub EntersWithObjects : Type 0

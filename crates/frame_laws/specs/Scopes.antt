@@ -24,6 +24,21 @@ abbrev pub IsOneOf : ℕ → List ℕ → Type 0
 IsOneOf b [] = ⊥
 IsOneOf b (o ∷ os) = (o ≡ b) ⊎ IsOneOf b os
 
+-- the block has a higher number than the innermost one of these
+abbrev pub IsAbove : ℕ → List ℕ → Type 0
+IsAbove b [] = Unit {0}
+IsAbove b (o ∷ os) = o < b
+
+-- each of these blocks has a lower number
+abbrev pub AreLower : ℕ → List ℕ → Type 0
+AreLower b [] = Unit {0}
+AreLower b (o ∷ os) = (o < b) × AreLower b os
+
+-- A block in these blocks, the innermost first: it has these objects; and since blocks are numbered in the order of the text, it has a higher number.
+pub record IsBlockIn (objects : Objects) (around : List ℕ) (b : ℕ) (ds : List Decl) : Type 0 where
+  pub declares : objects b ≡ Some ds
+  pub above : IsAbove b around
+
 -- the object of this number is there
 abbrev pub HasObject : ℕ → Option (List Decl) → Type 0
 HasObject d None = ⊥
@@ -73,7 +88,7 @@ module _ (objects : Objects) where
     Fits around (Value e) = ExprFits around e
     Fits around Empty = Unit {0}
     Fits around (Declare d) = DeclareFits around d
-    Fits around (Block b ds ss) = (objects b ≡ Some ds) × AllFit (b ∷ around) ss
+    Fits around (Block b ds ss) = IsBlockIn objects around b ds × AllFit (b ∷ around) ss
     Fits around (If e s t) = ExprFits around e × Fits around s × Fits around t
     Fits around (If_only e s) = ExprFits around e × Fits around s
     Fits around (Switch e s) = ExprFits around e × Fits around s

@@ -1,10 +1,10 @@
 -- What is left to do in a frame goes with the blocks that are open.
-use Rattle.std.specs.Prelude.{◌≡◌, ℕ, List, [], ◌∷◌, Some}
+use Rattle.std.specs.Prelude.{◌≡◌, ℕ, List, [], ◌∷◌}
 use Rattle.c_model.specs.Control.{Use, Unused, To_branch, To_enter, To_select, To_go_round, To_go_again, Result, Todo, Work, Enter, Leave, Unwrite}
 use Rattle.c_model.specs.Control.{Begin}
 use Rattle.c_model.specs.Control.{To_do, Rest, Round, Again, Test}
 use Rattle.c_model.specs.OpenBlocks.{NoEnters}
-use Rattle.frame_laws.specs.Scopes.{Objects, ExprFits, PerhapsFits, DeclareFits, Fits, AllFit}
+use Rattle.frame_laws.specs.Scopes.{Objects, IsBlockIn, ExprFits, PerhapsFits, DeclareFits, Fits, AllFit}
 
 -- some block is open
 abbrev pub IsInside : List ℕ → Type 0
@@ -44,7 +44,7 @@ module _ (objects : Objects) where
   -- its objects. All other work is done inside some block, and names objects of the blocks that are open then alone.
   abbrev pub Runs : Todo → (around last : List ℕ) → Type 0
   Runs [] around last = around ≡ last
-  Runs (Enter b ds ∷ rest) around last = IsInside around × (objects b ≡ Some ds) × Runs rest (b ∷ around) last
+  Runs (Enter b ds ∷ rest) around last = IsInside around × IsBlockIn objects around b ds × Runs rest (b ∷ around) last
   Runs (Leave b ds ∷ rest) [] last = ⊥
-  Runs (Leave b ds ∷ rest) (o ∷ os) last = (o ≡ b) × (objects b ≡ Some ds) × Runs rest os last
+  Runs (Leave b ds ∷ rest) (o ∷ os) last = (o ≡ b) × IsBlockIn objects os b ds × Runs rest os last
   Runs (w ∷ rest) around last = IsInside around × WorkFits around w × Runs rest around last

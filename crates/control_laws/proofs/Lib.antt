@@ -1,0 +1,12 @@
+mod Bodies
+mod Firsts
+mod Rounds
+mod Laws
+mod Seen
+mod Entered
+mod Updates
+mod Rooms
+mod Held
+mod Top
+mod Steps
+mod Settles

@@ -1,0 +1,87 @@
+-- What control steps ask of a machine along the canonical order of a run, and what picks ask of its open full expression (own).
+use Rattle.std.specs.Prelude.{◌≡◌, ℕ, suc, true, List, [], ◌∷◌, length, Option, Some, None, slice_get}
+use Rattle.c_types.specs.declared.ty.FuncTy.{out-FuncTy}
+use Rattle.c_typed.specs.declared.program.Function.{Function}
+use Rattle.c_typed.specs.declared.program.Program.{Program}
+use Rattle.c_typed.specs.Tree.{is_quiet}
+use Rattle.c_model.specs.Control.{Todo, Enter, ready_work}
+use Rattle.c_model.specs.Program.{Decl, tree_of}
+use Rattle.c_model.specs.Runs.{State, canonical_pick}
+use Rattle.c_model.specs.Steps.{Begun, Control, auto_name}
+use Rattle.c_model.specs.Values.{Value}
+use Rattle.c_model.specs.World.{World}
+use Rattle.program_view.specs.Trees.{expr_of}
+use Rattle.run_control.specs.declared.work.Use.{Use}
+use Rattle.run_control.specs.declared.work.Use.TheVariants as for_use
+use Rattle.run_statements.specs.declared.numbers.Numbers.{Numbers}
+use Rattle.run_statements.specs.Switches.{StandsIn}
+use Rattle.run_code.specs.declared.nodes.NodeInfo.{NodeInfo}
+use Rattle.run_code.specs.declared.steps.Expression.{Expression as Laid}
+use Rattle.run_code.specs.declared.steps.FunctionCode.{FunctionCode}
+use Rattle.run_code.specs.declared.whole.Code.{Code}
+use Rattle.run_state.specs.declared.machine.Machine.{Machine}
+use Rattle.run_state.specs.declared.machine.Stage.{Stage}
+use Rattle.run_state.specs.Operands.{IsNamed}
+use Rattle.run_machine.specs.Answering.{MayGoOn}
+use Rattle.run_machine.specs.Ending.{IsResultOf}
+use Rattle.run_machine.specs.Passing.{TakesValue}
+use Rattle.code_view.specs.Named.{NamesAreOpen}
+use Rattle.code_view.specs.Numbering.{meaning_of}
+use Rattle.run_laws.specs.Open.{IsLawfulCode, IsOpen}
+use Rattle.run_laws.specs.Small.{AreSmall, HasSmallBytes, ListsAreSmall}
+use Rattle.run_facts.specs.Going.{IsGoing}
+
+-- 1. What is asked beside that a machine is going.
+
+-- Where a block is entered that has these objects: a frame whose body isn't entered yet has an argument for each parameter (6.5.2.2p4, 6.9.1p10), and
+-- each is one that its object takes.
+pub record HasArguments (world : World) (p : Program) (st : State) (ds : List Decl) : Type 0 where
+  pub count : (n : ℕ) (f : Function) → st.top.scene.blocks ≡ [] → st.top.function ≡ Some n → slice_get p.functions n ≡ Some f
+      → length st.top.arguments ≡ length (out-FuncTy f.ty).params
+  pub takes : (k : ℕ) (d : Decl) (v : Value) → slice_get ds k ≡ Some d → slice_get st.top.arguments k ≡ Some v
+      → TakesValue world.rows (auto_name world st.top.scene (suc st.top.scene.turn) k) d v
+
+abbrev pub AsksOfEnter : World → Program → State → Todo → Type 0
+AsksOfEnter world p st (Enter b ds ∷ rest) = HasArguments world p st ds
+AsksOfEnter world p st todo = Unit {0}
+
+-- the `switch` whose test this is stands in the body of the function
+abbrev pub TestStands : Code → Option ℕ → Use → Type 0
+TestStands code (Some n) (for_use.Select b) = (c : FunctionCode) → slice_get code.functions.items n ≡ Some (Some c) → StandsIn c.body b.now
+TestStands code function how = Unit {0}
+
+pub record IsAtControl (world : World) (p : Program) (m : Machine) (st : State) : Type 0 where
+  -- what the result of the top frame names was made
+  pub result : IsResultOf m.memory m.left
+  pub enters : st.top.begun ≡ None → AsksOfEnter world p st (ready_work st.top.todo)
+  pub tests : TestStands m.code.now m.top.function m.top.how
+  -- where the open full expression is known beforehand, it is named, if what it names is open
+  pub named : (s : Stage) (laid : Laid) (firsts : List ℕ) → m.top.stage ≡ Some s → slice_get m.code.now.expressions.items s.expression ≡ Some laid
+      → NamesAreOpen m firsts st.top.scene.blocks laid.root.now → is_quiet (tree_of (expr_of laid.root.now)) ≡ true
+      → IsNamed (record m { items = [] }) firsts st.top.scene.blocks (expr_of laid.root.now)
+
+-- 2. Where the control step is the canonical pick, the machine can take it.
+abbrev pub ControlGoesOn : Type 0
+ControlGoesOn = (world : World) (p : Program) (numbers : Numbers) (m : Machine) (st : State) (n : ℕ) → IsGoing world p numbers m st n
+    → IsAtControl world p m st → canonical_pick world st.top st.top.begun ≡ Control → MayGoOn world m st
+
+-- 3. A full expression that is open in the top frame is open as picks ask it, where the frame has no result yet, the code is that of a lawful program, its
+-- trees too, and values, bytes and lists are small.
+pub record OpensSmall (m : Machine) (st : State) (e : Begun) : Type 0 where
+  pub result : m.left ≡ None
+  pub code : IsLawfulCode m.program.now m.code.now
+  pub given : AreSmall e.given
+  pub bytes : HasSmallBytes st.store
+  pub lists : ListsAreSmall e.root
+
+-- the full expression of this stage, as it is laid out by some nodes
+pub record IsOpenAs (world : World) (p : Program) (numbers : Numbers) (m : Machine) (st : State) (e : Begun) (s : Stage) : Type 0 where
+  pub laid : Laid
+  pub firsts : List ℕ
+  pub nodes : List NodeInfo
+  pub open_so : IsOpen world (meaning_of p numbers m.code.now) m st e s laid firsts nodes
+
+abbrev pub OpenStandsSo : Type 0
+OpenStandsSo = (world : World) (p : Program) (numbers : Numbers) (m : Machine) (st : State) (n : ℕ) (e : Begun) (s : Stage)
+    → IsGoing world p numbers m st n → st.top.begun ≡ Some e → m.top.stage ≡ Some s → OpensSmall m st e
+    → IsOpenAs world p numbers m st e s
