@@ -1,0 +1,4 @@
+pub mod Small
+pub mod Constants
+pub mod Limits
+pub mod Unresulted

@@ -1,0 +1,32 @@
+//! What holds of the values of a run: they are small, no limit is passed, and a frame has its result only at its end. Laws over the definitions of c_model.
+//!
+//! A law function takes nothing and answers nothing: its contract is a law about the definitions.
+#![tactic(auto)]
+
+ghost use Rattle.value_facts.specs.Small.{ActsGiveSmall};
+ghost use Rattle.value_facts.specs.Limits.{StartsWithin, StepsWithin, OrdersWithin, CanonicalWithin};
+ghost use Rattle.value_facts.specs.Unresulted.{OpenHasNone, BusyHasNone, StartsUnresulted, StepsUnresulted, OrdersUnresulted, CanonicalUnresulted};
+
+/// From integers and addresses below 2^64 in size, in a store whose bytes are below 256, an event that isn't a body gives such a value, and leaves such bytes.
+pub fn law_small()
+    ensures { ActsGiveSmall }
+{}
+
+/// In each state of a run no limit is passed.
+pub fn law_within()
+    ensures starts { StartsWithin }
+    ensures keeps { StepsWithin }
+    ensures orders { OrdersWithin }
+    ensures canonical { CanonicalWithin }
+{}
+
+/// In each state of a run a frame of a function has a result only where just leaves of blocks are left to do: none while a full expression is open. The
+/// frame of an isolated initializer gives nothing, from its start on.
+pub fn law_unresulted()
+    ensures while_open { OpenHasNone }
+    ensures busy { BusyHasNone }
+    ensures starts { StartsUnresulted }
+    ensures keeps { StepsUnresulted }
+    ensures orders { OrdersUnresulted }
+    ensures canonical { CanonicalUnresulted }
+{}
