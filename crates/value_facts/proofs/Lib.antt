@@ -6,3 +6,9 @@ pub mod Limits
 pub mod Unresulted
 pub mod Works
 pub mod Ran
+pub mod Calls
+pub mod Formats
+pub mod Libraries
+pub mod Nodes
+pub mod Frames
+pub mod States

@@ -25,7 +25,7 @@ module _ (P : Expr → Type 0) where
   opens (Goto k) rest f r = (tt, r)
   opens Continue rest f r = (tt, r)
   opens Break rest f r = (tt, r)
-  opens (Return e) rest f r = ((f.0, f.1), r)
+  opens (Return e) rest f r = ((f, tt), r)
   opens Return_none rest f r = (tt, r)
   opens (Label k s) rest f r = opens s rest f r
   opens (Case z s) rest f r = opens s rest f r

@@ -1,4 +1,5 @@
 pub mod Small
 pub mod Constants
+pub mod Held
 pub mod Limits
 pub mod Unresulted

@@ -4,12 +4,28 @@
 #![tactic(auto)]
 
 ghost use Rattle.value_facts.specs.Small.{ActsGiveSmall};
+ghost use Rattle.value_facts.specs.Held.{LibraryIsSmall, SmallHasLists, StartsSmall, StepsSmall, OrdersSmall, CanonicalSmall};
 ghost use Rattle.value_facts.specs.Limits.{StartsWithin, StepsWithin, OrdersWithin, CanonicalWithin};
 ghost use Rattle.value_facts.specs.Unresulted.{OpenHasNone, BusyHasNone, StartsUnresulted, StepsUnresulted, OrdersUnresulted, CanonicalUnresulted};
 
 /// From integers and addresses below 2^64 in size, in a store whose bytes are below 256, an event that isn't a body gives such a value, and leaves such bytes.
 pub fn law_small()
     ensures { ActsGiveSmall }
+{}
+
+/// So does a call of the library, where it stays within a limit on the output that is below 2^64.
+pub fn law_library()
+    ensures { LibraryIsSmall }
+{}
+
+/// In each state of a run of a program with small constants, whose rows end before the last address and whose input is bytes, all values are small: those
+/// that events gave, arguments and results, and the bytes of the objects.
+pub fn law_small_values()
+    ensures lists { SmallHasLists }
+    ensures starts { StartsSmall }
+    ensures keeps { StepsSmall }
+    ensures orders { OrdersSmall }
+    ensures canonical { CanonicalSmall }
 {}
 
 /// In each state of a run no limit is passed.
