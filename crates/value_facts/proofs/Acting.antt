@@ -132,7 +132,7 @@ require_then Q true c t h = h refl
 require_then Q false c t h = tt
 
 -- ---- accesses
-object_so : (rows : List Row) (len a : ℕ) (p : Prov) → GivesSo Any (object_of rows len a p)
+pub object_so : (rows : List Row) (len a : ℕ) (p : Prov) → GivesSo Any (object_of rows len a p)
 object_so rows len a Empty = tt
 object_so rows len a (Whole x) = tt
 object_so rows len a (Either id past start) = go (in_row (row_of rows past) a len) (in_row (row_of rows start) a len)

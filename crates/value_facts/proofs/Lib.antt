@@ -12,3 +12,5 @@ pub mod Libraries
 pub mod Nodes
 pub mod Frames
 pub mod States
+pub mod Sources
+pub mod Placed

@@ -3,3 +3,4 @@ pub mod Constants
 pub mod Held
 pub mod Limits
 pub mod Unresulted
+pub mod Sources

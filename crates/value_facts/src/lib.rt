@@ -6,6 +6,7 @@
 ghost use Rattle.value_facts.specs.Small.{ActsGiveSmall};
 ghost use Rattle.value_facts.specs.Held.{LibraryIsSmall, SmallHasLists, StartsSmall, StepsSmall, OrdersSmall, CanonicalSmall};
 ghost use Rattle.value_facts.specs.Limits.{StartsWithin, StepsWithin, OrdersWithin, CanonicalWithin};
+ghost use Rattle.value_facts.specs.Sources.{RowsAreApart, StartsPlaced, StepsPlaced, OrdersPlaced, CanonicalPlaced, ArgumentsFit};
 ghost use Rattle.value_facts.specs.Unresulted.{OpenHasNone, BusyHasNone, StartsUnresulted, StepsUnresulted, OrdersUnresulted, CanonicalUnresulted};
 
 /// From integers and addresses below 2^64 in size, in a store whose bytes are below 256, an event that isn't a body gives such a value, and leaves such bytes.
@@ -45,4 +46,15 @@ pub fn law_unresulted()
     ensures keeps { StepsUnresulted }
     ensures orders { OrdersUnresulted }
     ensures canonical { CanonicalUnresulted }
+{}
+
+/// In each state of such a run the bytes of each structure or union that was loaded stand in the row of one object, from where it was loaded on. So an object
+/// that is as large as one among the arguments overlaps its source exactly or not at all, and can take it (6.5.16.1p3).
+pub fn law_placed_values()
+    ensures rows { RowsAreApart }
+    ensures starts { StartsPlaced }
+    ensures keeps { StepsPlaced }
+    ensures orders { OrdersPlaced }
+    ensures canonical { CanonicalPlaced }
+    ensures arguments { ArgumentsFit }
 {}
