@@ -14,3 +14,6 @@ pub mod Frames
 pub mod States
 pub mod Sources
 pub mod Placed
+pub mod Trees
+pub mod Bodies
+pub mod Programs

@@ -4,3 +4,4 @@ pub mod Held
 pub mod Limits
 pub mod Unresulted
 pub mod Sources
+pub mod Trees

@@ -7,6 +7,7 @@ ghost use Rattle.value_facts.specs.Small.{ActsGiveSmall};
 ghost use Rattle.value_facts.specs.Held.{LibraryIsSmall, SmallHasLists, StartsSmall, StepsSmall, OrdersSmall, CanonicalSmall};
 ghost use Rattle.value_facts.specs.Limits.{StartsWithin, StepsWithin, OrdersWithin, CanonicalWithin};
 ghost use Rattle.value_facts.specs.Sources.{RowsAreApart, StartsPlaced, StepsPlaced, OrdersPlaced, CanonicalPlaced, ArgumentsFit};
+ghost use Rattle.value_facts.specs.Trees.{LawfulTreesAreSmall, StandingIsSmall, LawfulProgramsAreSmall, LawfulWorldsKeepSmall, MainIsPlaced};
 ghost use Rattle.value_facts.specs.Unresulted.{OpenHasNone, BusyHasNone, StartsUnresulted, StepsUnresulted, OrdersUnresulted, CanonicalUnresulted};
 
 /// From integers and addresses below 2^64 in size, in a store whose bytes are below 256, an event that isn't a body gives such a value, and leaves such bytes.
@@ -57,4 +58,14 @@ pub fn law_placed_values()
     ensures orders { OrdersPlaced }
     ensures canonical { CanonicalPlaced }
     ensures arguments { ArgumentsFit }
+{}
+
+/// The numbers of a lawful tree are below 2^64 in size (6.4.4.1p5), so a lawful program is seen as one with small constants, where its constants and literals
+/// and the arguments of `main` have bytes (6.7.9, 6.4.5, 5.1.2.2.1); and its runs keep values small.
+pub fn law_lawful_small()
+    ensures trees { LawfulTreesAreSmall }
+    ensures standing { StandingIsSmall }
+    ensures programs { LawfulProgramsAreSmall }
+    ensures worlds { LawfulWorldsKeepSmall }
+    ensures main { MainIsPlaced }
 {}
