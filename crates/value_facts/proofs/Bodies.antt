@@ -1,11 +1,9 @@
 -- The statements that a body is seen as have small constants, where its full expressions have.
-use Rattle.std.proofs.Common.{◌≡◌, ℕ, zero, suc, List, [], ◌∷◌, ◌++◌, map, Option, Some, None, slice_get, sym, ap, ◌∙◌, subst}
+use Rattle.std.proofs.Common.{◌≡◌, List, [], ◌∷◌, ◌++◌, map, Option, Some, None, sym, subst}
 use Rattle.std.specs.List.{All}
-use Rattle.std.proofs.lemmas.List.Elements.{All-nil, All-cons, All-head, All-tail}
+use Rattle.std.proofs.lemmas.List.Elements.{All-head}
 use Rattle.c_types.specs.declared.tags.Tag.{Tag}
 use Rattle.c_types.specs.Types.{qualified_of}
-use Rattle.c_typed.specs.declared.program.Function.{Function}
-use Rattle.c_typed.specs.declared.program.Program.{Program}
 use Rattle.c_typed.specs.declared.statement.Body.{Body, fold-Body, fold-roll-Body, map-Body, out-Body, roll-Body, roll-out-Body}
 use Rattle.c_typed.specs.declared.statement.Body.TheFolds.{ind-Body}
 use Rattle.c_typed.specs.declared.statement.Body.TheOpen as form

@@ -1,37 +1,34 @@
 -- The text of a format has bytes, and what the functions that take one store is small (7.21.6).
 use Rattle.std.proofs.Common.{arith, ◌≡◌, ◌+◌, ◌-◌, ◌/◌, ◌%◌, ◌<◌, ◌≤◌, ◌^◌, ℕ, zero, suc, ◌==◌, Bool, true, false, not, ◌&&◌, ◌||◌, if◌then◌else◌}
-use Rattle.std.proofs.Common.{List, [], ◌∷◌, ◌++◌, length, drop, take, replicate, min, max, Option, Some, None, is_none, refl, subst, ℤ, pos, negsuc, unsigned_abs}
-use Rattle.std.specs.Prelude.{nat_le, nat_lt}
-use Rattle.std.specs.Ordering.{int_eq}
-use Rattle.std.specs.Int.{int_rem_euclid}
-use Rattle.std.specs.List.{All}
+use Rattle.std.proofs.Common.{List, [], ◌∷◌, ◌++◌, length, drop, take, replicate, min, Option, Some, None, refl, subst, ℤ, pos, negsuc, unsigned_abs}
+use Rattle.std.specs.Prelude.{nat_lt}
 use Rattle.std.proofs.lemmas.Bool.Decides.{nat_tests}
 use Rattle.std.proofs.lemmas.Int.{ints}
 use Rattle.std.proofs.lemmas.List.Elements.{All-nil, All-cons, All-head, All-tail, All-append, All-replicate, All-take, All-drop}
-use Rattle.ub_base.specs.declared.clause.Clause.TheVariants.{LibraryArgument, TooFewArguments, Conversion}
-use Rattle.ub_base.specs.declared.clause.Cause.TheVariants.{Conversion as PastConversion, Directive as PastDirective, Output as PastOutput}
+use Rattle.ub_base.specs.declared.clause.Clause.TheVariants.{LibraryArgument, Conversion}
+use Rattle.ub_base.specs.declared.clause.Cause.TheVariants.{Conversion as PastConversion, Output as PastOutput}
 use Rattle.ub_base.specs.declared.names.ObjName.{ObjName}
 use Rattle.addr_map.specs.declared.map.Row.{Row}
 use Rattle.addr_map.specs.Rows.{row_of}
 use Rattle.mem_spec.specs.declared.stream.Stream.{Stream}
-use Rattle.mem_spec.specs.declared.stream.Stream.TheVariants as streams
 use Rattle.mem_spec.specs.Acts.{Accessed, argument, candidates, expose, size_in}
-use Rattle.mem_spec.specs.Script.{Answer, Do, Exceed, Finish, Give, Get, Misplace, Print, Raise, Script, item_of, require, touch, ◌>>=◌, ◌>>◌}
+use Rattle.mem_spec.specs.Script.{Do, Exceed, Finish, Give, Misplace, Raise, Script, item_of, ◌>>=◌, ◌>>◌}
 use Rattle.mem_spec.specs.Store.{TaggedByte}
 use Rattle.libc_spec.specs.Library as lib
 use Rattle.libc_spec.specs.Library.{LibValue, address_in, check_target, ends_in_zero, low_byte, numbers, prov_in, read_numbers, text, without_zero, write_numbers}
 use Rattle.libc_spec.specs.Directives as directives
 use Rattle.libc_spec.specs.Directives.{Directive, Flags, Form, taken, left_out, invalid, directive_of, form, is_in}
-use Rattle.libc_spec.specs.Print.{Argument, Field, Parts, Step, Taken, Width, address_parts, bare, base_of, before_zero, bounded_from, digit, digits, digits_by}
+use Rattle.libc_spec.specs.Print.{Argument, Field, Parts, Step, Taken, Width, address_parts, bare, base_of, before_zero, bounded_from, digit, digits_by}
 use Rattle.libc_spec.specs.Print.{field, hex_prefix, integer_field, integer_parts, is_signed_conversion, next_int, next_integer, next_pointer, own_size, padded}
 use Rattle.libc_spec.specs.Print.{next, is_int, is_target, fits_kind, signed_kind, precision_taken, put, put_address, put_byte, put_formed, put_integer, put_sized}
 use Rattle.libc_spec.specs.Print.{print_to, put_string, sign, spaced, step, step_by, string_bytes, text_of, until_most, whole_size, width_taken}
-use Rattle.libc_spec.specs.Formatted.{Noted, Placed, array, ended, formatted, fprintf, noting, overlaps, placed, room, short, short_text, sprintf, store_text}
+use Rattle.libc_spec.specs.Formatted.{Noted, Placed, array, ended, formatted, noting, overlaps, placed, room, short, short_text, sprintf, store_text}
 use Rattle.value_facts.specs.Held.{AreBytes}
 use Rattle.value_facts.specs.Small.{EndInTime, IsSmallByte}
-use Rattle.value_facts.proofs.Acting.{AreSmallBytes, require_then, show_each_so}
-use Rattle.value_facts.proofs.Calls.{AreNumbersOf, IsSmallLib, IsText, any_of, argument_any, numbers_small, numbers_so, target_so, text_so, when, when_so, written_so}
-use Rattle.value_facts.proofs.Scripts.{Any, GivesSo, after_so, require_so, then_so}
+use Rattle.value_facts.proofs.Accesses.{AreSmallBytes, require_then, show_each_so}
+use Rattle.value_facts.proofs.Calls.{IsText, argument_any, text_so}
+use Rattle.value_facts.proofs.Parts.{AreNumbersOf, IsSmallLib, numbers_small, numbers_so, target_so, when, when_so, written_so}
+use Rattle.value_facts.proofs.Scripts.{Any, GivesSo, after_so, then_so}
 
 abbrev IsByte : ℕ → Type 0
 IsByte n = n < 256

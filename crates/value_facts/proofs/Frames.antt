@@ -1,13 +1,12 @@
 -- What picks do to a frame that holds small values.
-use Rattle.std.proofs.Common.{arith, ◌≡◌, ◌+◌, ◌≤◌, ◌<◌, ◌^◌, ℕ, suc, ◌==◌, Bool, true, false, ◌||◌, if◌then◌else◌, List, [], ◌∷◌, Option, Some, None}
-use Rattle.std.proofs.Common.{is_some, refl, sym, ap, subst, replicate, slice_get, pos}
+use Rattle.std.proofs.Common.{arith, ◌≡◌, ◌≤◌, ℕ, suc, ◌==◌, Bool, true, false, ◌||◌, if◌then◌else◌, List, [], ◌∷◌, Option, Some, None}
+use Rattle.std.proofs.Common.{is_some, refl, subst, replicate, slice_get, pos}
 use Rattle.std.specs.List.{All}
-use Rattle.std.proofs.lemmas.List.Elements.{All-nil, All-cons, All-head, All-tail, All-replicate}
+use Rattle.std.proofs.lemmas.List.Elements.{All-nil, All-head, All-tail, All-replicate}
 use Rattle.ub_base.specs.declared.clause.Clause.TheVariants.{InvalidPointer, IncompatibleCall}
 use Rattle.ub_base.specs.declared.names.Event.{Event}
 use Rattle.ub_base.specs.declared.names.Item.{Item}
 use Rattle.ub_base.specs.declared.names.ObjName.{ObjName}
-use Rattle.addr_map.specs.declared.map.Row.{Row}
 use Rattle.addr_map.specs.Rows.{row_of}
 use Rattle.c_types.specs.Shapes.{Form}
 use Rattle.c_types.specs.Types.{CType}
@@ -18,25 +17,25 @@ use Rattle.c_typed.specs.Order.{is_body, place, same_place}
 use Rattle.c_typed.specs.Tree.{is_quiet}
 use Rattle.mem_spec.specs.declared.kind.ObjKind.{ObjKind}
 use Rattle.mem_spec.specs.Acts.{base_in, create, has_place, kill, size_in, unwrite}
-use Rattle.mem_spec.specs.Script.{Ask, Bear, Done, Give, Misplace, Put, Raise, Script, require, run, touch, ◌>>=◌, ◌>>◌}
+use Rattle.mem_spec.specs.Script.{Bear, Done, Give, Misplace, Put, Script, require, run, touch, ◌>>◌}
 use Rattle.mem_spec.specs.Store.{Store, fresh}
 use Rattle.mem_spec.specs.Streams.{total}
 use Rattle.c_model.specs.Control.{Todo, Enter, Leave, Unwrite, Begin, Nothing_to_do, Go_to, Go_out, Go_on, Go_back, To_do, Rest, Round, Again, Test}
-use Rattle.c_model.specs.Control.{Break_here, Use, ready_work, to_label, work_after}
+use Rattle.c_model.specs.Control.{Break_here, ready_work, to_label}
 use Rattle.c_model.specs.Nodes.{act_of, put}
 use Rattle.c_model.specs.Program.{Call, Decl, Expr, expr, Exprs, Function, Head, Stmt, tree_of}
-use Rattle.c_model.specs.Steps.{Begun, Local, Scene, argument_types, at_node, auto_name, bear_all, body_of, call_act, call_by, call_through, called_by}
+use Rattle.c_model.specs.Steps.{Begun, Local, Scene, argument_types, auto_name, bear_all, body_of, call_act, call_by, call_through, called_by}
 use Rattle.c_model.specs.Steps.{control_act, control_next, event_act, event_of, first_type, found_label, function_type, is_result, kill_all, left_by, library_act}
 use Rattle.c_model.specs.Steps.{object_at, object_kind, operand_values, own_kind, pass_all, quiet_value, result_of, root_value, settled, target, turn_of}
 use Rattle.c_model.specs.Steps.{values_of, with_given}
 use Rattle.c_model.specs.Values.{Value, Int, Missing, Nothing, integer_of, later_values, or_nothing, truth}
 use Rattle.c_model.specs.World.{World}
-use Rattle.value_facts.specs.Constants.{EachBehind, EachLeft, EachOf, IsSmallExpr}
+use Rattle.value_facts.specs.Constants.{EachLeft, EachOf, IsSmallExpr}
 use Rattle.value_facts.specs.Held.{AreBytes, IsBegunOf, IsFrameOf, KeepsSmall}
 use Rattle.value_facts.specs.Small.{HasSmallBytes, IsSmall, IsSmallByte}
-use Rattle.value_facts.proofs.Acting.{put_so}
-use Rattle.value_facts.proofs.Calls.{when}
-use Rattle.value_facts.proofs.Nodes.{IsKept, SmallIf, all_small, given_kept, head_fills, later_kept, node_small, nothing_kept, operand_kept, quiet_kept}
+use Rattle.value_facts.proofs.Accesses.{put_so}
+use Rattle.value_facts.proofs.Parts.{when}
+use Rattle.value_facts.proofs.Nodes.{IsKept, SmallIf, all_small, given_kept, head_fills, later_kept, nothing_kept, operand_kept, quiet_kept}
 use Rattle.value_facts.proofs.Nodes.{values_kept}
 use Rattle.value_facts.proofs.Ran.{given, required}
 use Rattle.value_facts.proofs.Scripts.{Any, GivesSo, after_so, runs_so, then_so}

@@ -1,6 +1,6 @@
 -- A call of the library gives a small value, where it doesn't pass the limit on the output, and leaves small bytes.
-use Rattle.std.proofs.Common.{arith, ◌≡◌, ◌+◌, ◌<◌, ◌≤◌, ◌^◌, ℕ, zero, suc, Bool, true, false, if◌then◌else◌, List, [], ◌∷◌, ◌++◌, length, map, drop}
-use Rattle.std.proofs.Common.{Option, Some, None, refl, sym, ap, subst, slice_get, ℤ, pos, negsuc, unsigned_abs}
+use Rattle.std.proofs.Common.{arith, ◌≡◌, ◌<◌, ◌≤◌, ◌^◌, ℕ, zero, suc, Bool, true, false, if◌then◌else◌, List, [], ◌∷◌, length, map, drop}
+use Rattle.std.proofs.Common.{Some, None, sym, subst, slice_get, ℤ, pos, unsigned_abs}
 use Rattle.std.specs.Ordering.{int_eq}
 use Rattle.std.specs.List.{All}
 use Rattle.std.proofs.lemmas.List.{length-append}
@@ -15,20 +15,20 @@ use Rattle.c_types.specs.declared.library.LibFunc.TheVariants.{Malloc, Calloc, R
 use Rattle.c_types.specs.declared.library.LibFunc.TheVariants.{Strchr, Getchar, Putchar, Puts, Printf, Fprintf, Sprintf, Snprintf, Exit, Abort}
 use Rattle.mem_spec.specs.declared.stream.Stream.{Stream}
 use Rattle.mem_spec.specs.declared.stream.Stream.TheVariants as streams
-use Rattle.mem_spec.specs.Script.{Done, Give, Print, Raise, Script, Take, left, run, touch, ◌>>=◌, ◌>>◌}
+use Rattle.mem_spec.specs.Script.{Done, Give, Print, Raise, Script, Take, left, run, touch, ◌>>◌}
 use Rattle.mem_spec.specs.Store.{Store}
 use Rattle.mem_spec.specs.Streams.{Outputs, printed_to, total}
 use Rattle.libc_spec.specs.Library as lib
 use Rattle.libc_spec.specs.Library.{LibValue, address_in, argument_at, byte_or_end, integer_in, number, prov_in, read_numbers, size_of_value, text, without_zero}
 use Rattle.libc_spec.specs.Print.{Argument, print_to, text_of}
 use Rattle.libc_spec.specs.Formatted.{fprintf, sprintf}
-use Rattle.c_model.specs.Libraries.{library, passed, result, script, typed}
+use Rattle.c_model.specs.Libraries.{passed, result, script, typed}
 use Rattle.c_model.specs.Values.{Value, Int, Ptr, Fun, Missing, Nothing}
 use Rattle.c_model.specs.Values as values
-use Rattle.c_model.specs.World.{World}
 use Rattle.value_facts.specs.Held.{IsScalar, AreBytes, LibraryIsSmall}
 use Rattle.value_facts.specs.Small.{EndInTime, HasSmallBytes, IsSmall}
-use Rattle.value_facts.proofs.Calls.{AreSmallLib, IsSmallLib, library_so}
+use Rattle.value_facts.proofs.Calls.{library_so}
+use Rattle.value_facts.proofs.Parts.{AreSmallLib, IsSmallLib}
 use Rattle.value_facts.proofs.Formats.{print_any, sprintf_so}
 use Rattle.value_facts.proofs.Ran.{given, parted, went}
 use Rattle.value_facts.proofs.Scripts.{Any, GivesSo, runs_so}

@@ -1,5 +1,5 @@
 -- The nodes of a full expression with small constants, and the values of their operands.
-use Rattle.std.proofs.Common.{arith, ◌≡◌, ◌+◌, ◌<◌, ◌^◌, ℕ, zero, suc, ◌==◌, Bool, true, false, if◌then◌else◌, List, [], ◌∷◌, Option, Some, None, refl}
+use Rattle.std.proofs.Common.{arith, ◌≡◌, ◌+◌, ℕ, zero, suc, ◌==◌, Bool, true, false, if◌then◌else◌, List, [], ◌∷◌, Option, Some, None, refl}
 use Rattle.std.specs.Prelude.{nat_lt}
 use Rattle.std.specs.List.{All}
 use Rattle.std.proofs.lemmas.List.Elements.{All-nil, All-cons, All-head, All-tail, All-weaker}
@@ -7,7 +7,6 @@ use Rattle.ub_base.specs.declared.clause.Kind.{Kind}
 use Rattle.ub_base.specs.declared.clause.Kind.TheVariants.{Val}
 use Rattle.ub_base.specs.declared.names.Event.{Event}
 use Rattle.ub_base.specs.declared.names.ObjName.{ObjName}
-use Rattle.addr_map.specs.declared.map.Row.{Row}
 use Rattle.c_types.specs.Types.{CType, void, int, enumeration, pointer, array, struct, union, function}
 use Rattle.c_typed.specs.declared.tree.Conversion.TheVariants as conversion
 use Rattle.c_typed.specs.declared.tree.Place.{Place}

@@ -1,18 +1,16 @@
 -- Values stand in the rows that they were loaded from along a run, so arguments can be taken.
-use Rattle.std.proofs.Common.{arith, ◌≡◌, ◌+◌, ◌≤◌, ◌⊎◌, inl, inr, ℕ, zero, suc, ◌==◌, Bool, true, false, not, ◌&&◌, if◌then◌else◌, List, [], ◌∷◌, length, min}
+use Rattle.std.proofs.Common.{arith, ◌≡◌, ◌+◌, ◌≤◌, ◌⊎◌, inl, inr, ℕ, zero, suc, ◌==◌, Bool, true, false, not, ◌&&◌, if◌then◌else◌, List, [], ◌∷◌, length}
 use Rattle.std.proofs.Common.{Option, Some, None, refl, ap, subst, slice_get}
 use Rattle.std.specs.Prelude.{nat_lt}
 use Rattle.std.specs.List.{All}
 use Rattle.std.proofs.lemmas.Bool.Decides.{nat_tests}
 use Rattle.std.proofs.lemmas.List.Elements.{All-head, All-tail}
-use Rattle.ub_base.specs.declared.names.ObjName.{ObjName}
 use Rattle.ub_base.specs.Names.{same_object}
 use Rattle.addr_map.specs.declared.map.Row.{Row}
-use Rattle.addr_map.specs.Rows.{first_row, row_of}
+use Rattle.addr_map.specs.Rows.{first_row}
 use Rattle.addr_map.specs.Sound.{Above, Apart}
 use Rattle.c_model.specs.Nodes.{overlap_inexactly}
 use Rattle.c_model.specs.Values.{Value, Whole, address_after}
-use Rattle.c_model.specs.World.{World}
 use Rattle.value_facts.specs.Held.{HoldsOnly}
 use Rattle.value_facts.specs.Sources.{AreApart, ArgumentsFit, CanonicalPlaced, IsInRow, IsPlaced, IsSourced, OrdersPlaced, RowsAreApart, StartsPlaced, StepsPlaced}
 use Rattle.value_facts.proofs.Sources.{placed_kept}

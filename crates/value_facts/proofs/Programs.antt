@@ -1,6 +1,6 @@
 -- Lawful programs whose constants have bytes are seen as programs with small constants, and their runs keep values small.
-use Rattle.std.proofs.Common.{arith, ◌≡◌, ◌+◌, ◌<◌, ◌^◌, ℕ, zero, suc, Bool, true, false, List, [], ◌∷◌, map, length, Option, Some, None, slice_get, refl, sym, ap, ◌∙◌}
-use Rattle.std.proofs.Common.{subst, pos}
+use Rattle.std.proofs.Common.{arith, ◌≡◌, ◌+◌, ◌<◌, ◌^◌, ℕ, zero, suc, Bool, true, false, List, [], ◌∷◌, map, length, Option, Some, None, slice_get, refl, ap, ◌∙◌}
+use Rattle.std.proofs.Common.{pos}
 use Rattle.ub_base.specs.declared.names.ObjName.TheVariants as object
 use Rattle.std.specs.List.{All}
 use Rattle.std.proofs.lemmas.List.Elements.{All-nil, All-cons, All-head, All-tail}
@@ -17,7 +17,7 @@ use Rattle.c_model.specs.Values.{Int}
 use Rattle.c_model.specs.World.{World}
 use Rattle.program_view.specs.Statements.{definition}
 use Rattle.program_view.specs.Trees.{expr_of}
-use Rattle.program_view.specs.View.{function_of, main_values, passed_to, takes_arguments, world_of}
+use Rattle.program_view.specs.View.{function_of, passed_to, takes_arguments, world_of}
 use Rattle.value_facts.specs.Constants.{EachOf, IsSmallExpr}
 use Rattle.value_facts.specs.Small.{EndInTime}
 use Rattle.value_facts.specs.Sources.{IsPlaced}

@@ -1,7 +1,7 @@
 -- What acts give stands in the row of one object, where it was loaded.
-use Rattle.std.proofs.Common.{arith, ◌≡◌, ◌+◌, ◌-◌, ◌%◌, ◌<◌, ◌≤◌, ◌^◌, ◌⊎◌, inl, inr, ℕ, zero, suc, ◌==◌, Bool, true, false, not, ◌&&◌, ◌||◌, if◌then◌else◌}
-use Rattle.std.proofs.Common.{List, [], ◌∷◌, length, take, drop, Option, Some, None, refl, sym, ap, subst, ◌/◌, ℤ, pos, unsigned_abs, Result, Ok, Err}
-use Rattle.std.specs.Prelude.{nat_le, nat_lt, ◌-ℤ◌}
+use Rattle.std.proofs.Common.{arith, ◌≡◌, ◌+◌, ◌%◌, ◌<◌, ◌≤◌, ◌^◌, ◌⊎◌, inl, inr, ℕ, suc, ◌==◌, Bool, true, false, not, ◌||◌, if◌then◌else◌}
+use Rattle.std.proofs.Common.{List, [], ◌∷◌, length, Option, Some, None, refl, sym, subst, ◌/◌, ℤ, pos, unsigned_abs, Result, Ok, Err}
+use Rattle.std.specs.Prelude.{◌-ℤ◌}
 use Rattle.std.proofs.lemmas.Bool.Decides.{nat_tests}
 use Rattle.ub_base.specs.declared.clause.Clause.{Clause}
 use Rattle.ub_base.specs.declared.clause.Clause.TheVariants.{DeadObject, Indeterminate, InvalidPointer, OutOfBounds, OverlappingAssignment}
@@ -13,7 +13,6 @@ use Rattle.ub_base.specs.declared.names.ObjName.{ObjName}
 use Rattle.addr_map.specs.declared.map.Row.{Row}
 use Rattle.addr_map.specs.Rows.{row_of}
 use Rattle.exposure.specs.declared.prov.Prov.{Prov}
-use Rattle.c_types.specs.Shapes.{Form}
 use Rattle.c_types.specs.Types.{CType, int}
 use Rattle.c_types.specs.declared.kind.IntKind.{IntKind}
 use Rattle.c_types.specs.declared.kind.IntKind.TheVariants.{ULong}
@@ -34,7 +33,7 @@ use Rattle.mem_spec.specs.Acts as acts
 use Rattle.mem_spec.specs.Acts.{Accessed, declared_of, in_row, load_block, object_of, offset_in, retagged}
 use Rattle.mem_spec.specs.Agreement.{bytes_of_kind}
 use Rattle.mem_spec.specs.Bytes.{number_bytes, pointer_bytes}
-use Rattle.mem_spec.specs.Script.{Answer, Ask, Do, Exceed, Finish, Get, Give, Misplace, Raise, Script, require, touch, ◌>>=◌, ◌>>◌}
+use Rattle.mem_spec.specs.Script.{Ask, Get, Give, Script, require, touch, ◌>>=◌, ◌>>◌}
 use Rattle.mem_spec.specs.Store.{Life, TaggedByte, is_live}
 use Rattle.c_model.specs.Nodes as nodes
 use Rattle.c_model.specs.Nodes.{act_of, amount, call_value, changed, check_change, convert, equal, fill, given_back, last_value, load, part_of, put, put_whole}
@@ -45,61 +44,13 @@ use Rattle.c_model.specs.Values as values
 use Rattle.c_model.specs.Values.{Value, Int, Ptr, Fun, Missing, Nothing, Pointer, Whole, moved_source, part_bytes, pointer_of, value_at}
 use Rattle.c_model.specs.World.{World}
 use Rattle.value_facts.specs.Held.{IsScalar, KeepsSmall}
-use Rattle.value_facts.specs.Small.{EndInTime, FillsSmall, IsSmall, IsSmallByte}
+use Rattle.value_facts.specs.Small.{EndInTime, FillsSmall, IsSmall}
 use Rattle.value_facts.specs.Sources.{IsInRow, IsPlaced, IsSourced}
-use Rattle.value_facts.proofs.Acting.{AreSmallBytes, act_so, object_so, require_then, retagged_small}
+use Rattle.value_facts.proofs.Acting.{act_so}
+use Rattle.value_facts.proofs.Accesses.{AreSmallBytes, object_so, require_then, retagged_small}
 use Rattle.value_facts.proofs.Nodes.{IsKept}
 use Rattle.value_facts.proofs.Scripts.{Any, GivesSo, then_so}
-
--- ---- what a script gives, whatever its touches meet
-abbrev Only : {V : Type 0} → (V → Type 0) → Script V → Type 0
-Only P (Give v) = P v
-Only P (Do t k) = (a : Answer t) → Only P (k a)
-Only P p = Unit {0}
-
-only_then : {A B : Type 0} (P : A → Type 0) (Q : B → Type 0) (p : Script A) (k : A → Script B) → Only P p → ((a : A) → P a → Only Q (k a)) → Only Q (p >>= k)
-only_then P Q (Give v) k h g = g v h
-only_then P Q (Raise c) k h g = tt
-only_then P Q (Finish n) k h g = tt
-only_then P Q (Exceed c n) k h g = tt
-only_then P Q Misplace k h g = tt
-only_then P Q (Do t f) k h g = λ a. only_then P Q (f a) k (h a) g
-
-anything : {A : Type 0} (p : Script A) → Only Any p
-anything (Give v) = tt
-anything (Raise c) = tt
-anything (Finish n) = tt
-anything (Exceed c n) = tt
-anything Misplace = tt
-anything (Do t f) = λ a. anything (f a)
-
-only_on : {A B : Type 0} (Q : B → Type 0) (p : Script A) (k : A → Script B) → ((a : A) → Only Q (k a)) → Only Q (p >>= k)
-only_on Q p k g = only_then Any Q p k (anything p) (λ a any. g a)
-
-both_so : {V : Type 0} (P Q : V → Type 0) (p : Script V) → GivesSo P p → Only Q p → GivesSo (λ v. P v × Q v) p
-both_so P Q (Give v) h g = (h, g)
-both_so P Q (Raise c) h g = tt
-both_so P Q (Finish n) h g = tt
-both_so P Q (Exceed c n) h g = tt
-both_so P Q Misplace h g = tt
-both_so P Q (Do t f) h g = (h.0, λ a e. both_so P Q (f a) (h.1 a e) (g a))
-
--- ---- lengths
-retagged_length : (f : Option Form) (from : ℕ) (bs : List TaggedByte) → length (retagged f from bs) ≡ length bs
-retagged_length None from bs = refl
-retagged_length (Some form) from [] = refl
-retagged_length (Some form) from (b ∷ bs) = ap suc (retagged_length (Some form) (suc from) bs)
-
-taken_length : {A : Type 0} (n : ℕ) (xs : List A) → length (take n xs) ≤ length xs
-taken_length zero xs = omega arith
-taken_length (suc n) [] = omega arith
-taken_length (suc n) (x ∷ xs) = let l = taken_length n xs in omega (arith, l)
-
-part_length : (offset n : ℕ) (bs : List TaggedByte) → (length (part_bytes offset n bs) ≡ 0) ⊎ (offset + length (part_bytes offset n bs) ≤ length bs)
-part_length zero n bs = inr (let l = taken_length n bs in omega (arith, l))
-part_length (suc offset) zero [] = inl refl
-part_length (suc offset) (suc n) [] = inl refl
-part_length (suc offset) n (b ∷ bs) = elim (part_length offset n bs) [ inl e ↦ inl e | inr l ↦ inr (omega (arith, l)) ]
+use Rattle.value_facts.proofs.Only.{Only, both_so, only_on, only_then, part_length, retagged_length}
 
 module _ (rows : List Row) where
   abbrev Sourced : Value → Type 0

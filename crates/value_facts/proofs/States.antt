@@ -1,5 +1,5 @@
 -- A run holds small values from its start on.
-use Rattle.std.proofs.Common.{arith, ◌≡◌, ◌+◌, ◌≤◌, ◌<◌, ◌^◌, ℕ, suc, ◌==◌, Bool, true, false, ◌&&◌, if◌then◌else◌, List, [], ◌∷◌, Option, Some, None, is_some, is_none}
+use Rattle.std.proofs.Common.{arith, ◌≡◌, ◌≤◌, ℕ, suc, ◌==◌, Bool, true, false, if◌then◌else◌, List, [], ◌∷◌, Option, Some, None, is_some}
 use Rattle.std.proofs.Common.{refl, sym, ap, subst, ◌∙◌, slice_get}
 use Rattle.std.specs.Prelude.{nat_lt}
 use Rattle.std.specs.List.{All}
@@ -8,19 +8,17 @@ use Rattle.std.proofs.lemmas.List.Elements.{All-nil, All-head, All-tail}
 use Rattle.ub_base.specs.declared.clause.Cause.{Cause}
 use Rattle.ub_base.specs.declared.clause.Cause.TheVariants as cause
 use Rattle.ub_base.specs.declared.names.Item.{Item}
-use Rattle.addr_map.specs.Rows.{row_of}
-use Rattle.c_types.specs.Types.{CType}
 use Rattle.c_typed.specs.declared.tree.Place.{Place}
 use Rattle.c_typed.specs.Order.{is_body}
 use Rattle.mem_spec.specs.declared.kind.ObjKind.{ObjKind}
 use Rattle.mem_spec.specs.Acts.{create}
-use Rattle.mem_spec.specs.Script.{Done, Give, Script, run, ◌>>◌}
+use Rattle.mem_spec.specs.Script.{Done, Script, run}
 use Rattle.mem_spec.specs.Store.{Store}
 use Rattle.mem_spec.specs.Streams.{total}
 use Rattle.c_model.specs.Control.{ready_work}
-use Rattle.c_model.specs.Moves.{Move, Stay, Start, End}
+use Rattle.c_model.specs.Moves.{Move, Stay, Start}
 use Rattle.c_model.specs.Nodes.{fill}
-use Rattle.c_model.specs.Program.{Call, Expr, expr, Exprs, Function, Head, Isolated, Standing, Stmt}
+use Rattle.c_model.specs.Program.{Call, Expr, expr, Function, Head, Isolated, Standing, Stmt}
 use Rattle.c_model.specs.Runs.{Running, State, depth_of, fill_each, limit_passed, nothing_stands, stand, stand_each, start, step, work_of}
 use Rattle.c_model.specs.Steps.{Begun, Control, Ev, Local, Pick, Scene, at_node, body_frame, body_of, called_by, does, move, move_of, next, own_body, pointer_to}
 use Rattle.c_model.specs.Steps.{function_of, start_call, started, values_of}
@@ -29,14 +27,14 @@ use Rattle.c_model.specs.World.{Limits, World}
 use Rattle.value_facts.specs.Constants.{EachLeft, EachOf, IsSmallExpr, IsSmallHead}
 use Rattle.value_facts.specs.Held.{AreBytes, AreFramesOf, CanonicalSmall, HasSmallValues, HoldsOnly, IsBegunOf, IsFrameOf, KeepsSmall, OrdersSmall, StartsSmall}
 use Rattle.value_facts.specs.Held.{StepsSmall}
-use Rattle.value_facts.specs.Limits.{PassesNoLimit}
 use Rattle.value_facts.specs.Small.{AreSmallFillings, HasSmallBytes, IsSmall}
-use Rattle.value_facts.proofs.Acting.{act_so, fill_so}
+use Rattle.value_facts.proofs.Acting.{act_so}
+use Rattle.value_facts.proofs.Accesses.{fill_so}
 use Rattle.value_facts.proofs.Frames.{control_kept, control_so, create_any, event_kept, given_frame, result_kept, settled_kept}
 use Rattle.value_facts.proofs.Nodes.{IsKept, SmallIf, later_kept, node_small, nothing_kept, values_kept}
 use Rattle.value_facts.proofs.Ran.{given, same_input}
-use Rattle.value_facts.proofs.Scripts.{Any, GivesSo, after_so, runs_so, then_so}
-use Rattle.value_facts.proofs.Steps.{HasGone, canonical_keeps, has_gone, has_started, moved_keeps, orders_keep}
+use Rattle.value_facts.proofs.Scripts.{GivesSo, after_so, runs_so, then_so}
+use Rattle.value_facts.proofs.Steps.{canonical_keeps, has_gone, has_started, moved_keeps, orders_keep}
 
 -- ---- the output is within its limit
 output_within : (limits : Limits) (depth : ℕ) (s : Store) → limit_passed limits depth s ≡ None → total s.output ≤ limits.output

@@ -1,5 +1,5 @@
 -- What a pick that goes on did, and what picks keep, orders keep.
-use Rattle.std.proofs.Common.{◌≡◌, ℕ, zero, suc, List, [], ◌∷◌, Option, Some, None, refl, sym, ap, subst}
+use Rattle.std.proofs.Common.{◌≡◌, ℕ, zero, suc, List, [], ◌∷◌, Option, Some, None, refl, ap, subst}
 use Rattle.ub_base.specs.declared.clause.Cause.{Cause}
 use Rattle.ub_base.specs.declared.names.Item.{Item}
 use Rattle.c_typed.specs.declared.tree.Place.{Place}
@@ -8,10 +8,10 @@ use Rattle.mem_spec.specs.Store.{Store}
 use Rattle.c_model.specs.Moves.{Move, Stay, Start, End}
 use Rattle.c_model.specs.Runs.{After, Ends, Entry, No_row, Outcome, Over, Raises, Refused, Running, State, acted, back, canonical_after, canonical_pick}
 use Rattle.c_model.specs.Runs.{depth_of, enter_passes, entry_of, here, last, limit_passed, limited, main_frame, more, moved, on_running, refused, stand}
-use Rattle.c_model.specs.Runs.{nothing_stands, start, started_run, step, too_late, within, without_row}
+use Rattle.c_model.specs.Runs.{nothing_stands, start, started_run, step, too_late, within}
 use Rattle.c_model.specs.Steps.{Control, Ev, Local, Pick, does, move, next}
 use Rattle.c_model.specs.Values.{Value}
-use Rattle.c_model.specs.World.{Limits, World}
+use Rattle.c_model.specs.World.{World}
 use Rattle.value_facts.specs.Limits.{PassesNoLimit}
 
 -- ---- outcomes that run

@@ -1,5 +1,5 @@
 -- Lawful trees are seen as expressions with small constants.
-use Rattle.std.proofs.Common.{arith, ◌≡◌, ◌<◌, ◌^◌, ℕ, suc, Bool, true, false, ◌&&◌, ◌==◌, if◌then◌else◌, List, [], ◌∷◌, ◌++◌, map, ℤ, refl, sym, subst}
+use Rattle.std.proofs.Common.{arith, ◌<◌, ◌^◌, ℕ, suc, Bool, true, false, ◌&&◌, ◌==◌, if◌then◌else◌, List, [], ◌∷◌, ◌++◌, map, ℤ, sym, subst}
 use Rattle.std.specs.Prelude.{unsigned_abs}
 use Rattle.std.specs.List.{All}
 use Rattle.std.proofs.lemmas.List.Elements.{All-nil, All-cons, All-head, All-tail, All-append, All-map}
@@ -26,7 +26,7 @@ use Rattle.program_view.specs.View.{takes_arguments}
 use Rattle.value_facts.specs.Constants.{AreSmallExprs, IsSmallExpr, IsSmallHead}
 use Rattle.value_facts.specs.Held.{AreBytes}
 use Rattle.value_facts.specs.Small.{AreSmallFillings, IsSmallContent}
-use Rattle.value_facts.specs.Trees.{AreSmallConstants, HasByteConstants, LawfulTreesAreSmall, ListsBytes, StandingIsSmall}
+use Rattle.value_facts.specs.Trees.{AreSmallConstants, LawfulTreesAreSmall, ListsBytes, StandingIsSmall}
 
 -- ---- sites
 -- the number and the constants of a node

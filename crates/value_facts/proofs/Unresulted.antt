@@ -1,21 +1,19 @@
 -- A frame has its result only when just open blocks are left.
-use Rattle.std.proofs.Common.{◌≡◌, ◌⊎◌, inl, inr, ℕ, suc, Bool, true, false, ◌&&◌, List, [], ◌∷◌, Option, Some, None, is_none, if◌then◌else◌}
+use Rattle.std.proofs.Common.{◌≡◌, ◌⊎◌, inl, inr, ℕ, suc, Bool, true, false, List, [], ◌∷◌, Option, Some, None, if◌then◌else◌}
 use Rattle.std.proofs.Common.{refl, sym, ap, subst, ◌∙◌, ℤ}
 use Rattle.c_typed.specs.declared.tree.Place.{Place}
 use Rattle.c_typed.specs.Order.{is_body}
-use Rattle.c_types.specs.Types.{CType}
 use Rattle.c_model.specs.Control.{Todo, Enter, Leave, Unwrite, Begin, Nothing_to_do, Go_to, Go_out, Go_on, Go_back, To_do, Rest, Round, Again, Test}
 use Rattle.c_model.specs.Control.{Break_here, Use, Unused, Result, To_branch, To_enter, To_select, To_go_round, To_go_again, leaves, ready_work, work_after}
-use Rattle.c_model.specs.Moves.{Move, Stay, Start, End}
-use Rattle.c_model.specs.Program.{Head, Call, Isolated, Expr, expr, Exprs, Function, Stmt}
-use Rattle.c_model.specs.Runs.{State, main_frame}
-use Rattle.c_model.specs.Steps.{Begun, Control, Ev, Local, Pick, Scene, at_node, begin, body_frame, called_by, control_move, control_next, ends_with}
+use Rattle.c_model.specs.Moves.{Move, Stay, Start}
+use Rattle.c_model.specs.Program.{Head, Call, Isolated, Expr, expr, Function, Stmt}
+use Rattle.c_model.specs.Steps.{Begun, Control, Ev, Local, Pick, Scene, at_node, body_frame, called_by, control_next}
 use Rattle.c_model.specs.Steps.{is_result, move, move_of, next, own_body, root_value, settled, start_call, started, values_of, with_given}
-use Rattle.c_model.specs.Values.{Value, Nothing, integer_of, later_values, truth}
+use Rattle.c_model.specs.Values.{Value, integer_of, later_values, truth}
 use Rattle.c_model.specs.World.{World}
 use Rattle.value_facts.specs.Unresulted.{BusyHasNone, CanonicalUnresulted, GivesNothing, HasReturned, IsUnresulted, JustLeaves, OpenHasNone, OrdersUnresulted}
 use Rattle.value_facts.specs.Unresulted.{ResultIsLast, ResultsAreLast, StartsUnresulted, StepsUnresulted}
-use Rattle.value_facts.proofs.Steps.{HasGone, canonical_keeps, has_gone, has_started, moved_keeps, orders_keep}
+use Rattle.value_facts.proofs.Steps.{canonical_keeps, has_gone, has_started, moved_keeps, orders_keep}
 
 -- ---- leaves
 leaves_just : (todo : Todo) → JustLeaves (leaves todo)

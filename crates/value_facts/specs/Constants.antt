@@ -1,5 +1,5 @@
 -- Expressions, statements and programs whose constants are small (own).
-use Rattle.std.specs.Prelude.{◌≡◌, ◌<◌, ◌^◌, ℕ, List, [], ◌∷◌, Option, Some, None, slice_get, unsigned_abs}
+use Rattle.std.specs.Prelude.{◌≡◌, ◌<◌, ◌^◌, ℕ, [], ◌∷◌, Option, Some, None, slice_get, unsigned_abs}
 use Rattle.std.specs.List.{All}
 use Rattle.c_model.specs.Control.{Todo, Work, Use, Unused, To_branch, To_enter, To_select, To_go_round, To_go_again, Result}
 use Rattle.c_model.specs.Control.{Begin, To_do, Rest, Round, Again, Test}

@@ -1,6 +1,6 @@
 -- The bytes of a structure or union that was loaded stand in the row of one object (6.5.16.1p3), so a new object overlaps the source of what it takes exactly,
 -- or not at all.
-use Rattle.std.specs.Prelude.{◌≡◌, ◌≤◌, ◌⊎◌, ◌+◌, ℕ, false, List, [], ◌∷◌, length, Option, Some, None, slice_get}
+use Rattle.std.specs.Prelude.{◌≡◌, ◌≤◌, ◌⊎◌, ◌+◌, ℕ, false, List, length, Option, Some, slice_get}
 use Rattle.std.specs.List.{All}
 use Rattle.ub_base.specs.declared.names.ObjName.{ObjName}
 use Rattle.addr_map.specs.declared.map.Row.{Row}

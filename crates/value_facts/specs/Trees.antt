@@ -35,8 +35,7 @@ LawfulTreesAreSmall =
 abbrev pub ListsBytesIn : Expression → Type 0
 ListsBytesIn e = All (λ s. ListsBytes s.head) (sites e.tree)
 
--- The bytes of a program's constants and literals, and those of the arguments of `main`, are bytes: a typed program of the text has no others, since the types of
--- its code have none.
+-- The bytes of a program's constants and literals, and those of the arguments of `main`, are below 256; the types of the code have no others.
 pub record HasByteConstants (p : Program) (arguments : List (List ℕ)) : Type 0 where
   pub functions : All (λ f. Where (λ b. All ListsBytesIn (expressions b)) f.body) p.functions
   pub statics : All (λ s. AreSmallConstants s.constants) p.statics
