@@ -4,7 +4,8 @@ use Rattle.std.proofs.Common.{List, [], ◌∷◌, length, map, Option, Some, No
 use Rattle.std.specs.List.{All}
 use Rattle.std.proofs.lemmas.List.Elements.{All-nil, All-cons, All-head, All-tail}
 use Rattle.ub_base.specs.declared.clause.Clause.{Clause}
-use Rattle.ub_base.specs.declared.clause.Clause.TheVariants.{DeadObject, EffectiveType, Indeterminate, InvalidPointer, OutOfBounds, OverlappingAssignment, StoreToConst, StoreToLiteral, TrapRepresentation}
+use Rattle.ub_base.specs.declared.clause.Clause.TheVariants.{DeadObject, EffectiveType, Indeterminate, InvalidPointer, OutOfBounds, OverlappingAssignment}
+use Rattle.ub_base.specs.declared.clause.Clause.TheVariants.{StoreToConst, StoreToLiteral, TrapRepresentation}
 use Rattle.ub_base.specs.declared.names.Event.{Event}
 use Rattle.ub_base.specs.declared.names.ObjName.{ObjName}
 use Rattle.addr_map.specs.declared.map.Row.{Row}
@@ -329,7 +330,8 @@ pub pointer_small : (k i : ℕ) (p : Prov) (n : ℕ) → AreSmallBytes (pointer_
 pointer_small zero i p n = All-nil IsSmallByte
 pointer_small (suc k) i p n = All-cons IsSmallByte _ (pointer_bytes k (suc i) p (n / 256)) (low_byte n) (pointer_small k (suc i) p (n / 256))
 
-pub put_whole_so : (rows : List Row) (first : Bool) (size align : ℕ) (p : Pointer) (v : Value) → IsSmall v → GivesSo IsSmall (put_whole rows first size align p v)
+pub put_whole_so : (rows : List Row) (first : Bool) (size align : ℕ) (p : Pointer) (v : Value) → IsSmall v
+    → GivesSo IsSmall (put_whole rows first size align p v)
 put_whole_so rows first size align p (values.Whole bs source) h =
     let b = not (nodes.overlap_inexactly size p.address source) in
     after_so IsSmall (store rows first acts.whole align p.address p.prov bs) (require b OverlappingAssignment >> Give Nothing)

@@ -7,7 +7,8 @@ use Rattle.std.proofs.lemmas.List.Elements.{All-take, All-drop}
 use Rattle.ub_base.specs.declared.clause.Kind.{Kind}
 use Rattle.ub_base.specs.declared.clause.Kind.TheVariants.{Val, Eff, Body}
 use Rattle.ub_base.specs.declared.clause.Clause.{Clause}
-use Rattle.ub_base.specs.declared.clause.Clause.TheVariants.{Indeterminate, InvalidPointer, OutOfBounds, PointerAlignment, PointerComparison, PointerDifference, TrapRepresentation}
+use Rattle.ub_base.specs.declared.clause.Clause.TheVariants.{Indeterminate, InvalidPointer, OutOfBounds, PointerAlignment, PointerComparison}
+use Rattle.ub_base.specs.declared.clause.Clause.TheVariants.{PointerDifference, TrapRepresentation}
 use Rattle.ub_base.specs.declared.names.Event.{Event}
 use Rattle.ub_base.specs.declared.names.ObjName.{ObjName}
 use Rattle.addr_map.specs.declared.map.Row.{Row}
@@ -109,7 +110,8 @@ use Rattle.value_facts.specs.Small.{ActsGiveSmall, EndInTime, FillsSmall, IsSmal
 use Rattle.value_facts.proofs.Numbers.{bits_below, conv_small, IsSmallResult, complemented_small, negated_small, number_below, operated_small}
 use Rattle.value_facts.proofs.Numbers.{power_le, quotient_le, value_of_small}
 use Rattle.value_facts.proofs.Scripts.{Any, GivesSo, after_so, runs_so, then_so}
-use Rattle.value_facts.proofs.Accesses.{AreSmallBytes, IsFew, fill_so, from_int_so, load_so, number_small, pointer_small, put_so, require_then, show_each_so, show_pieces_so, store_so}
+use Rattle.value_facts.proofs.Accesses.{AreSmallBytes, IsFew, fill_so, from_int_so, load_so, number_small, pointer_small, put_so, require_then, show_each_so}
+use Rattle.value_facts.proofs.Accesses.{show_pieces_so, store_so}
 
 -- ---- pointers
 pub address_small : (v : Value) → IsSmall v → (pointer_of v).address < 2 ^ 64

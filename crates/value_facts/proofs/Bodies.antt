@@ -12,7 +12,8 @@ use Rattle.c_typed.specs.declared.statement.Block.{Block, fold-Block, fold-roll-
 use Rattle.c_typed.specs.declared.statement.Entry.{Entry, fold-Entry, fold-roll-Entry, map-Entry, roll-Entry}
 use Rattle.c_typed.specs.declared.statement.ForStart.{ForStart, fold-ForStart, fold-roll-ForStart, map-ForStart, roll-ForStart}
 use Rattle.c_typed.specs.declared.tree.Typed.{Typed}
-use Rattle.c_typed.specs.Sites.{Blocks, Expression, Found, Opened, Use, both, expressions, found_block, found_body, found_entries, found_entry, found_start, initializes}
+use Rattle.c_typed.specs.Sites.{Blocks, Expression, Found, Opened, Use, both, expressions, found_block, found_body, found_entries, found_entry, found_start}
+use Rattle.c_typed.specs.Sites.{initializes}
 use Rattle.c_typed.specs.Sites.{inside, no_block, one, returned, selects, tested, unused}
 use Rattle.c_typed.specs.Sites as found
 use Rattle.c_model.specs.Program as model
@@ -138,7 +139,8 @@ module _ (tags : List Tag) (Q : Expression → Type 0) (good : (e : Expression) 
   rolled_block : (z : Block-F Body Entry ForStart Block) → BlockAt z → BlockSmall (roll-Block z)
   rolled_block z h = λ blocks a.
       subst InnerIsSmall (sym (fold-roll-Block Stmt Stmt Loop Inner view.body_step view.entry_step view.start_step (view.block_step tags) z))
-      (h blocks (subst (λ (g : Opened). AllGood (g.found blocks)) (fold-roll-Block Found Found Opened Opened found_body found_entry found_start found_block z) a))
+      (h blocks
+      (subst (λ (g : Opened). AllGood (g.found blocks)) (fold-roll-Block Found Found Opened Opened found_body found_entry found_start found_block z) a))
 
   -- the parts, each with what holds of it
   abbrev SmallBody : Type 0

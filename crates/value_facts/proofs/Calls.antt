@@ -22,14 +22,17 @@ use Rattle.mem_spec.specs.Acts.{offset_in, settle_by, size_in, the_one_in}
 use Rattle.mem_spec.specs.Script.{Script, Give, Misplace, Ask, Put, Bear, require, touch, ◌>>=◌, ◌>>◌}
 use Rattle.mem_spec.specs.Store.{Life, TaggedByte, is_live}
 use Rattle.libc_spec.specs.Library as lib
-use Rattle.libc_spec.specs.Library.{LibValue, Text, address_in, argument_at, behind, bytes_at, check_target, ends_in_zero, heap_kind, heap_name, integer_in, is_given}
+use Rattle.libc_spec.specs.Library.{LibValue, Text, address_in, argument_at, behind, bytes_at, check_target, ends_in_zero, heap_kind, heap_name, integer_in}
+use Rattle.libc_spec.specs.Library.{is_given}
 use Rattle.libc_spec.specs.Library.{is_heap_start, new_object, number_of_byte, numbers, order_of, overlap, place_of, pointer_behind, prov_in, read_numbers}
 use Rattle.libc_spec.specs.Library.{size_of_value, start_object, text, text_at, text_from, until_zero, without_zero, write_numbers}
 use Rattle.value_facts.specs.Held.{AreBytes}
 use Rattle.value_facts.specs.Small.{EndInTime, IsSmallByte}
 use Rattle.value_facts.proofs.Accesses.{AreSmallBytes, IsFew, require_then}
 use Rattle.value_facts.proofs.Scripts.{Any, GivesSo, after_so, require_so, then_so}
-use Rattle.value_facts.proofs.Parts.{AreNumbersOf, AreSmallLib, EndsWithin, IsBelow, IsSmallLib, address_few, any_of, argument_small, copied_so, low_below, map_length, numbers_small, numbers_so, order_small, place_below, read_so, settle_so, started_so, target_so, when, written_so, zero_so}
+use Rattle.value_facts.proofs.Parts.{AreNumbersOf, AreSmallLib, EndsWithin, IsBelow, IsSmallLib, address_few, any_of, argument_small, copied_so, low_below}
+use Rattle.value_facts.proofs.Parts.{map_length, numbers_small, numbers_so, order_small, place_below, read_so, settle_so, started_so, target_so, when}
+use Rattle.value_facts.proofs.Parts.{written_so, zero_so}
 
 module _ (rows : List Row) (ends : EndInTime rows) where
   pub base_few : (x : ObjName) → base_in (row_of rows x) < 2 ^ 64

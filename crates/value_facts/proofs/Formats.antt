@@ -15,12 +15,15 @@ use Rattle.mem_spec.specs.Acts.{Accessed, argument, candidates, expose, size_in}
 use Rattle.mem_spec.specs.Script.{Do, Exceed, Finish, Give, Misplace, Raise, Script, item_of, ◌>>=◌, ◌>>◌}
 use Rattle.mem_spec.specs.Store.{TaggedByte}
 use Rattle.libc_spec.specs.Library as lib
-use Rattle.libc_spec.specs.Library.{LibValue, address_in, check_target, ends_in_zero, low_byte, numbers, prov_in, read_numbers, text, without_zero, write_numbers}
+use Rattle.libc_spec.specs.Library.{LibValue, address_in, check_target, ends_in_zero, low_byte, numbers, prov_in, read_numbers, text, without_zero}
+use Rattle.libc_spec.specs.Library.{write_numbers}
 use Rattle.libc_spec.specs.Directives as directives
 use Rattle.libc_spec.specs.Directives.{Directive, Flags, Form, taken, left_out, invalid, directive_of, form, is_in}
 use Rattle.libc_spec.specs.Print.{Argument, Field, Parts, Step, Taken, Width, address_parts, bare, base_of, before_zero, bounded_from, digit, digits_by}
-use Rattle.libc_spec.specs.Print.{field, hex_prefix, integer_field, integer_parts, is_signed_conversion, next_int, next_integer, next_pointer, own_size, padded}
-use Rattle.libc_spec.specs.Print.{next, is_int, is_target, fits_kind, signed_kind, precision_taken, put, put_address, put_byte, put_formed, put_integer, put_sized}
+use Rattle.libc_spec.specs.Print.{field, hex_prefix, integer_field, integer_parts, is_signed_conversion, next_int, next_integer, next_pointer, own_size}
+use Rattle.libc_spec.specs.Print.{padded}
+use Rattle.libc_spec.specs.Print.{next, is_int, is_target, fits_kind, signed_kind, precision_taken, put, put_address, put_byte, put_formed, put_integer}
+use Rattle.libc_spec.specs.Print.{put_sized}
 use Rattle.libc_spec.specs.Print.{print_to, put_string, sign, spaced, step, step_by, string_bytes, text_of, until_most, whole_size, width_taken}
 use Rattle.libc_spec.specs.Formatted.{Noted, Placed, array, ended, formatted, noting, overlaps, placed, room, short, short_text, sprintf, store_text}
 use Rattle.value_facts.specs.Held.{AreBytes}

@@ -25,7 +25,8 @@ use Rattle.c_model.specs.Control.{Break_here, ready_work, to_label}
 use Rattle.c_model.specs.Nodes.{act_of, put}
 use Rattle.c_model.specs.Program.{Call, Decl, Expr, expr, Exprs, Function, Head, Stmt, tree_of}
 use Rattle.c_model.specs.Steps.{Begun, Local, Scene, argument_types, auto_name, bear_all, body_of, call_act, call_by, call_through, called_by}
-use Rattle.c_model.specs.Steps.{control_act, control_next, event_act, event_of, first_type, found_label, function_type, is_result, kill_all, left_by, library_act}
+use Rattle.c_model.specs.Steps.{control_act, control_next, event_act, event_of, first_type, found_label, function_type, is_result, kill_all, left_by}
+use Rattle.c_model.specs.Steps.{library_act}
 use Rattle.c_model.specs.Steps.{object_at, object_kind, operand_values, own_kind, pass_all, quiet_value, result_of, root_value, settled, target, turn_of}
 use Rattle.c_model.specs.Steps.{values_of, with_given}
 use Rattle.c_model.specs.Values.{Value, Int, Missing, Nothing, integer_of, later_values, or_nothing, truth}

@@ -19,7 +19,8 @@ use Rattle.mem_spec.specs.Script.{Done, Give, Print, Raise, Script, Take, left, 
 use Rattle.mem_spec.specs.Store.{Store}
 use Rattle.mem_spec.specs.Streams.{Outputs, printed_to, total}
 use Rattle.libc_spec.specs.Library as lib
-use Rattle.libc_spec.specs.Library.{LibValue, address_in, argument_at, byte_or_end, integer_in, number, prov_in, read_numbers, size_of_value, text, without_zero}
+use Rattle.libc_spec.specs.Library.{LibValue, address_in, argument_at, byte_or_end, integer_in, number, prov_in, read_numbers, size_of_value, text}
+use Rattle.libc_spec.specs.Library.{without_zero}
 use Rattle.libc_spec.specs.Print.{Argument, print_to, text_of}
 use Rattle.libc_spec.specs.Formatted.{fprintf, sprintf}
 use Rattle.c_model.specs.Libraries.{passed, result, script, typed}

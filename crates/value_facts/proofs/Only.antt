@@ -14,7 +14,8 @@ Only P (Give v) = P v
 Only P (Do t k) = (a : Answer t) → Only P (k a)
 Only P p = Unit {0}
 
-pub only_then : {A B : Type 0} (P : A → Type 0) (Q : B → Type 0) (p : Script A) (k : A → Script B) → Only P p → ((a : A) → P a → Only Q (k a)) → Only Q (p >>= k)
+pub only_then : {A B : Type 0} (P : A → Type 0) (Q : B → Type 0) (p : Script A) (k : A → Script B)
+    → Only P p → ((a : A) → P a → Only Q (k a)) → Only Q (p >>= k)
 only_then P Q (Give v) k h g = g v h
 only_then P Q (Raise c) k h g = tt
 only_then P Q (Finish n) k h g = tt

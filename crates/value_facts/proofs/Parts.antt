@@ -12,12 +12,14 @@ use Rattle.ub_base.specs.declared.names.ObjName.{ObjName}
 use Rattle.exposure.specs.declared.prov.Prov.{Prov}
 use Rattle.exposure.specs.declared.prov.Prov.TheVariants.{Empty, Whole, Either}
 use Rattle.mem_spec.specs.Acts as acts
-use Rattle.mem_spec.specs.Acts.{Accessed, argument, argument_in, argument_object, base_in, check_writable, copy_between, create, declared_of, has_place, in_row}
+use Rattle.mem_spec.specs.Acts.{Accessed, argument, argument_in, argument_object, base_in, check_writable, copy_between, create, declared_of, has_place}
+use Rattle.mem_spec.specs.Acts.{in_row}
 use Rattle.mem_spec.specs.Acts.{offset_in, retagged, settle_by, show_pieces, size_in, stored_from, the_one_in, whole}
 use Rattle.mem_spec.specs.Script.{Script, Give, Raise, Finish, Exceed, Misplace, Do, ◌>>=◌, ◌>>◌}
 use Rattle.mem_spec.specs.Store.{TaggedByte}
 use Rattle.libc_spec.specs.Library as lib
-use Rattle.libc_spec.specs.Library.{LibValue, Text, address_in, argument_at, behind, bytes_at, check_target, ends_in_zero, heap_kind, heap_name, integer_in, is_given}
+use Rattle.libc_spec.specs.Library.{LibValue, Text, address_in, argument_at, behind, bytes_at, check_target, ends_in_zero, heap_kind, heap_name, integer_in}
+use Rattle.libc_spec.specs.Library.{is_given}
 use Rattle.libc_spec.specs.Library.{is_heap_start, new_object, number_of_byte, numbers, order_of, overlap, place_of, pointer_behind, prov_in, read_numbers}
 use Rattle.libc_spec.specs.Library.{size_of_value, start_object, text, text_at, text_from, until_zero, without_zero, write_numbers}
 use Rattle.value_facts.specs.Held.{AreBytes}
@@ -169,7 +171,8 @@ IsBelow n (Some i) = i < n
 pub place_below : (c i : ℕ) (ns : List ℕ) → IsBelow (i + length ns) (place_of c i ns)
 place_below c i [] = tt
 place_below c i (n ∷ ns) =
-    go (n == c) (subst (λ (k : ℕ). IsBelow k (place_of c (suc i) ns)) (let e : suc i + length ns ≡ i + suc (length ns) = omega arith in e) (place_below c (suc i) ns))
+    go (n == c) (subst (λ (k : ℕ). IsBelow k (place_of c (suc i) ns))
+    (let e : suc i + length ns ≡ i + suc (length ns) = omega arith in e) (place_below c (suc i) ns))
   where
     go : (b : Bool) → IsBelow (i + length (n ∷ ns)) (place_of c (suc i) ns) → IsBelow (i + length (n ∷ ns)) (if b then Some i else place_of c (suc i) ns)
     go true rest = omega arith

@@ -12,7 +12,8 @@ use Rattle.addr_map.specs.Sound.{Above, Apart}
 use Rattle.c_model.specs.Nodes.{overlap_inexactly}
 use Rattle.c_model.specs.Values.{Value, Whole, address_after}
 use Rattle.value_facts.specs.Held.{HoldsOnly}
-use Rattle.value_facts.specs.Sources.{AreApart, ArgumentsFit, CanonicalPlaced, IsInRow, IsPlaced, IsSourced, OrdersPlaced, RowsAreApart, StartsPlaced, StepsPlaced}
+use Rattle.value_facts.specs.Sources.{AreApart, ArgumentsFit, CanonicalPlaced, IsInRow, IsPlaced, IsSourced, OrdersPlaced, RowsAreApart, StartsPlaced}
+use Rattle.value_facts.specs.Sources.{StepsPlaced}
 use Rattle.value_facts.proofs.Sources.{placed_kept}
 use Rattle.value_facts.proofs.States.{start_kept, step_kept}
 use Rattle.value_facts.proofs.Steps.{canonical_keeps, orders_keep}
@@ -76,7 +77,8 @@ clash a b len (inl same) x y z = grind (arith, nat_tests, x, same)
 clash a b len (inr (inl l)) x y z = grind (arith, nat_tests, y, l)
 clash a b len (inr (inr l)) x y z = grind (arith, nat_tests, z, l)
 
-parted : (a b len : ℕ) → ((a ≡ b) ⊎ ((b + len ≤ a) ⊎ (a + len ≤ b))) → (not (a == b) && (nat_lt a (address_after b len) && nat_lt b (address_after a len))) ≡ false
+parted : (a b len : ℕ) → ((a ≡ b) ⊎ ((b + len ≤ a) ⊎ (a + len ≤ b)))
+    → (not (a == b) && (nat_lt a (address_after b len) && nat_lt b (address_after a len))) ≡ false
 parted a b len h = go (a == b) (nat_lt a (address_after b len)) (nat_lt b (address_after a len)) refl refl refl
   where
     go : (c d e : Bool) → (a == b) ≡ c → nat_lt a (address_after b len) ≡ d → nat_lt b (address_after a len) ≡ e → (not c && (d && e)) ≡ false

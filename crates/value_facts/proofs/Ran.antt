@@ -3,7 +3,8 @@ use Rattle.std.proofs.Common.{◌≡◌, Bool, true, false, List, [], ◌∷◌,
 use Rattle.ub_base.specs.declared.clause.Clause.{Clause}
 use Rattle.ub_base.specs.declared.names.Item.{Item}
 use Rattle.addr_map.specs.declared.map.Row.{Row}
-use Rattle.mem_spec.specs.Script.{Act, Answer, Done, Touch, Ask, Get, Put, Bear, Bury, Show, Find, Settle, Take, Print, answer, item_of, left, refused, refuses}
+use Rattle.mem_spec.specs.Script.{Act, Answer, Done, Touch, Ask, Get, Put, Bear, Bury, Show, Find, Settle, Take, Print, answer, item_of, left, refused}
+use Rattle.mem_spec.specs.Script.{refuses}
 use Rattle.mem_spec.specs.Script.{Do, Exceed, Finish, Give, Misplace, Raise, Script, require, run, touched, ◌>>=◌, ◌>>◌}
 use Rattle.mem_spec.specs.Store.{Store}
 use Rattle.value_facts.proofs.Scripts.{refused_none, touched_done}

@@ -36,7 +36,8 @@ use Rattle.mem_spec.specs.Bytes.{number_bytes, pointer_bytes}
 use Rattle.mem_spec.specs.Script.{Ask, Get, Give, Script, require, touch, ◌>>=◌, ◌>>◌}
 use Rattle.mem_spec.specs.Store.{Life, TaggedByte, is_live}
 use Rattle.c_model.specs.Nodes as nodes
-use Rattle.c_model.specs.Nodes.{act_of, amount, call_value, changed, check_change, convert, equal, fill, given_back, last_value, load, part_of, put, put_whole}
+use Rattle.c_model.specs.Nodes.{act_of, amount, call_value, changed, check_change, convert, equal, fill, given_back, last_value, load, part_of, put}
+use Rattle.c_model.specs.Nodes.{put_whole}
 use Rattle.c_model.specs.Nodes.{read_part, relational, unary_value, update_value}
 use Rattle.c_model.specs.Program as model
 use Rattle.c_model.specs.Program.{Filling, Head}

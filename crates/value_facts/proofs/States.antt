@@ -20,12 +20,14 @@ use Rattle.c_model.specs.Moves.{Move, Stay, Start}
 use Rattle.c_model.specs.Nodes.{fill}
 use Rattle.c_model.specs.Program.{Call, Expr, expr, Function, Head, Isolated, Standing, Stmt}
 use Rattle.c_model.specs.Runs.{Running, State, depth_of, fill_each, limit_passed, nothing_stands, stand, stand_each, start, step, work_of}
-use Rattle.c_model.specs.Steps.{Begun, Control, Ev, Local, Pick, Scene, at_node, body_frame, body_of, called_by, does, move, move_of, next, own_body, pointer_to}
+use Rattle.c_model.specs.Steps.{Begun, Control, Ev, Local, Pick, Scene, at_node, body_frame, body_of, called_by, does, move, move_of, next, own_body}
+use Rattle.c_model.specs.Steps.{pointer_to}
 use Rattle.c_model.specs.Steps.{function_of, start_call, started, values_of}
 use Rattle.c_model.specs.Values.{Value, Nothing, function_address, later_values, pointer_of}
 use Rattle.c_model.specs.World.{Limits, World}
 use Rattle.value_facts.specs.Constants.{EachLeft, EachOf, IsSmallExpr, IsSmallHead}
-use Rattle.value_facts.specs.Held.{AreBytes, AreFramesOf, CanonicalSmall, HasSmallValues, HoldsOnly, IsBegunOf, IsFrameOf, KeepsSmall, OrdersSmall, StartsSmall}
+use Rattle.value_facts.specs.Held.{AreBytes, AreFramesOf, CanonicalSmall, HasSmallValues, HoldsOnly, IsBegunOf, IsFrameOf, KeepsSmall, OrdersSmall}
+use Rattle.value_facts.specs.Held.{StartsSmall}
 use Rattle.value_facts.specs.Held.{StepsSmall}
 use Rattle.value_facts.specs.Small.{AreSmallFillings, HasSmallBytes, IsSmall}
 use Rattle.value_facts.proofs.Acting.{act_so}

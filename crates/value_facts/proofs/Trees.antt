@@ -19,7 +19,8 @@ use Rattle.c_typed.specs.Lawful.{IsConstant, SiteIsLawful, TypesAre}
 use Rattle.c_typed.specs.Sites.{Blocks, Head, Site, Seen, SeenNode, all_sites, seen, seen_node, seen_tree, sites}
 use Rattle.c_model.specs.Program as model
 use Rattle.c_model.specs.Program.{Expr, Filling, Standing}
-use Rattle.program_view.specs.Objects.{argument_of, arguments_from, filling, given_to_main, literal_of, literals_from, object_extent, pointers_from, program_name}
+use Rattle.program_view.specs.Objects.{argument_of, arguments_from, filling, given_to_main, literal_of, literals_from, object_extent, pointers_from}
+use Rattle.program_view.specs.Objects.{program_name}
 use Rattle.program_view.specs.Objects.{static_of, statics_from, vector_of}
 use Rattle.program_view.specs.Trees.{constant_head, expr_of, exprs_from, filling_of, is_pointer, node_head, typed_expr}
 use Rattle.program_view.specs.View.{takes_arguments}

@@ -152,7 +152,8 @@ module _ (world : World) where
     )
       where
         inl_or : b.what ≡ Unused → ((f.todo ≡ []) ⊎ ((x : Expr) × (f.todo ≡ Begin x Unused ∷ [])))
-            → (work_after (truth v) (integer_of v) b.what f.todo ≡ []) ⊎ ((x : Expr) × (work_after (truth v) (integer_of v) b.what f.todo ≡ Begin x Unused ∷ []))
+            → (work_after (truth v) (integer_of v) b.what f.todo ≡ [])
+            ⊎ ((x : Expr) × (work_after (truth v) (integer_of v) b.what f.todo ≡ Begin x Unused ∷ []))
         inl_or is todo =
             subst (λ (what : Use). (work_after (truth v) (integer_of v) what f.todo ≡ [])
             ⊎ ((x : Expr) × (work_after (truth v) (integer_of v) what f.todo ≡ Begin x Unused ∷ []))) (sym is) (unused (truth v) todo)
