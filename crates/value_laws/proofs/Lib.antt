@@ -8,5 +8,6 @@ pub mod Orders
 pub mod Stores
 pub mod Arguments
 mod ParameterStores
+mod ArgumentSizes
 mod Samples
 pub mod Layouts

@@ -14,7 +14,7 @@ use Rattle.c_model.specs.Control.{Todo, Enter, ready_work}
 use Rattle.c_model.specs.Steps.{Scene, Pick, Control, does, auto_name}
 use Rattle.c_model.specs.Runs.{State, Running}
 use Rattle.c_model.specs.Claims.{ComesTo}
-use Rattle.value_laws.specs.Sizes.{Sizes, HasSize, Keeps, StoreFits, ProgramFits}
+use Rattle.value_laws.specs.Sizes.{Sizes, HasBytes, HasSize, Keeps, StoreFits, ProgramFits}
 use Rattle.value_laws.specs.Wholes.{Each}
 
 abbrev pub parameters : CType → Params
@@ -80,3 +80,15 @@ ParametersAreStored =
     → ready_work st.top.todo ≡ Enter number ds ∷ rest
     → (v : Value) (is : List Item) (s : Store) → run world.rows (does world st.top None Control) st.store ≡ Done v is s
     → Each (WritesObject world st.top.scene (suc st.top.scene.turn) ds) is
+
+-- a value that is stored whole has as many bytes as it is stored to
+abbrev pub TakesBytes : Access → Value → Type 0
+TakesBytes (access.Whole n align) v = HasBytes n v
+TakesBytes how v = Unit {0}
+
+-- And where a block is entered next, each argument has as many bytes as its object, if it is a structure or union.
+abbrev pub ArgumentsHaveSizes : Type 0
+ArgumentsHaveSizes =
+    (size : Sizes) (world : World) (input : List ℕ) (vs : List Value) → ProgramFits size world → ProgramTakes size world vs → (ps : List Pick) (st : State)
+    → ComesTo world input vs ps (Running st) → (number : ℕ) (ds : List Decl) (rest : Todo) → ready_work st.top.todo ≡ Enter number ds ∷ rest
+    → (k : ℕ) (d : Decl) (v : Value) → slice_get ds k ≡ Some d → slice_get st.top.arguments k ≡ Some v → TakesBytes d.access v

@@ -5,7 +5,7 @@
 
 ghost use Rattle.value_laws.specs.Wholes.{ValuesHaveSizes, WholesAreStored, LibraryGivesPlain};
 ghost use Rattle.value_laws.specs.Layouts.{CompatibleCallsKeep};
-ghost use Rattle.value_laws.specs.Parameters.{ParametersAreStored};
+ghost use Rattle.value_laws.specs.Parameters.{ParametersAreStored, ArgumentsHaveSizes};
 ghost use Rattle.value_laws.specs.Samples.{PairsFit};
 
 /// In every order of a program that keeps the sizes of its types (6.5.16.1p2, 6.5.2.2, 6.8.6.4p3).
@@ -13,6 +13,7 @@ pub fn law_value_sizes()
     ensures values { ValuesHaveSizes }
     ensures stores { WholesAreStored }
     ensures parameters { ParametersAreStored }
+    ensures arguments { ArgumentsHaveSizes }
 {}
 
 /// Programs do keep sizes: those by layout are shared by compatible function types (6.5.2.2p9), the library gives no structure or union, and
