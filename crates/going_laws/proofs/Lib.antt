@@ -1,5 +1,5 @@
 mod Under
-mod Events
+pub mod Events
 mod Starts
 mod Started
 mod Controls

@@ -3,9 +3,12 @@
 //! A law function takes nothing and answers nothing: its contract is a law about the definitions.
 #![tactic(auto)]
 
+ghost use Rattle.pick_laws.specs.Next.{EventIsNext};
 ghost use Rattle.pick_laws.specs.Picks.{ControlComes, EventComes, InitializerComes, CallComes};
 
 use going_laws::law_going;
+use run_laws::law_given;
+use run_machine::law_picks;
 
 /// What run_machine promises of a canonical pick, of a machine that is going and can take it, comes to the outcome of the definitions' step: the run goes on
 /// and the machine is going again, or it ends with its status and what was written, raises the clause, passes the limit, or needs a row that isn't there. So
@@ -17,4 +20,12 @@ pub fn law_pick()
     ensures calls { CallComes }
 {
     law_going();
+}
+
+/// The event that is the canonical pick of such a machine may be taken, where it isn't a body.
+pub fn law_next()
+    ensures { EventIsNext }
+{
+    law_given();
+    law_picks();
 }
