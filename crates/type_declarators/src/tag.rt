@@ -18,7 +18,7 @@ ghost use Rattle.type_scope.specs.Reads.{Reads};
 ghost use Rattle.type_scope.specs.declared.fault.TypeFault.TheVariants as fault;
 ghost use Rattle.type_declarators.specs.Finds.{Finds};
 ghost use Rattle.type_declarators.specs.Keywords.{IsSaid};
-ghost use Rattle.type_declarators.specs.Members.{IsAdded, may_complete, without_members};
+ghost use Rattle.type_declarators.specs.Members.{IsAdded, may_complete};
 
 use crate::declarator::{Declared, is_complete_qual};
 use crate::words::{Storage, Words};
@@ -142,7 +142,7 @@ pub fn open(
     kind: TagKind,
     tag: Option<u32>,
 ) -> Result<u32, TypeFault>
-    ensures reads { (n : Naming) (env : Env) → Reads (λ number. number) (without_members (spec.open_tag kind tag (known_by n source.now state.old env))) result (known_by n source.now state.new env) }
+    ensures reads { (n : Naming) (env : Env) → Reads (λ number. number) (spec.open_tag kind tag (known_by n source.now state.old env)) result (known_by n source.now state.new env) }
     ensures rest { state.new ≡ record state.old { names = state.new.names; tags = state.new.tags; tag_rows = state.new.tag_rows } }
 {
     match tag {
