@@ -8,6 +8,10 @@ pub mod Keywords
 pub mod Meanings
 pub mod Members
 pub mod Named
+pub mod NamesAdded
+pub mod NamesKept
+pub mod NamesNoted
+pub mod NamesTold
 pub mod Opening
 pub mod Parameters
 pub mod Pointers

@@ -4,11 +4,11 @@ use Rattle.type_scope.specs.Known.{known_by}
 use Rattle.type_declarators.proofs.Opening.{new_opened, opened, opened_twice, not_opened}
 use Rattle.type_declarators.proofs.tag.open.Goals as goal
 
-pub returns-in_ok-add_tag-in-None-clause-reads : goal.returns-in_ok-add_tag-in-None-clause-reads
-returns-in_ok-add_tag-in-None-clause-reads c n env =
+pub returns-in_ok-new_tag-in-None-clause-reads : goal.returns-in_ok-new_tag-in-None-clause-reads
+returns-in_ok-new_tag-in-None-clause-reads c n env =
     ap (λ o. open_tag c.args.kind o (known_by n c.args.source.now c.args.state.now env)) c.in-None.is
-    ∙ new_opened n c.args.source.now c.args.state.now c.add_tag.new.self env c.args.kind c.in_ok-add_tag-in-None.field-0
-    c.in_ok-add_tag-in-None.ensures.number (c.in_ok-add_tag-in-None.ensures.known n c.args.source.now env)
+    ∙ new_opened n c.args.source.now c.args.state.now c.new_tag.new.state env c.args.kind c.in_ok-new_tag-in-None.field-0
+    c.in_ok-new_tag-in-None.ensures.number (c.in_ok-new_tag-in-None.ensures.known n c.args.source.now env)
 
 pub returns-then-has_members-clause-reads : goal.returns-then-has_members-clause-reads
 returns-then-has_members-clause-reads c n env other =
