@@ -69,7 +69,7 @@ texts_step n tags tag = tag_texts (names_by n tags) tags tag (slice_get tags tag
 
 -- 2. Members of a structure or union that has an extent.
 
-abbrev AllKnown : Known → List SeenMember → Type 0
+abbrev pub AllKnown : Known → List SeenMember → Type 0
 AllKnown known [] = Unit {0}
 AllKnown known (m ∷ ms) = (is_some (extent known (m.qual).ty) ≡ true) × AllKnown known ms
 
@@ -102,7 +102,7 @@ any_some : (ms : List SeenMember) (o : Option Extent) → is_some (if_any ms o) 
 any_some [] o e = absurd (true≢false (sym e))
 any_some (m ∷ ms) o e = e
 
-of_tag_known : (known : Known) (o : Option SeenTag) → is_some (extent_of_tag known o) ≡ true → AllKnown known (members_in o)
+pub of_tag_known : (known : Known) (o : Option SeenTag) → is_some (extent_of_tag known o) ≡ true → AllKnown known (members_in o)
 of_tag_known known None e = tt
 of_tag_known known (Some t) e =
     all_known t.kind known (Some no_members) t.members
@@ -178,13 +178,13 @@ completed_keeps tags tag ms none = (
       (λ e. true≢false (sym some ∙ ap (λ x. has_members (slice_get tags x)) e ∙ none)),
 )
 
-completed_members : (tags : List SeenTag) (tag : ℕ) (ms : List SeenMember) → is_some (slice_get tags tag) ≡ true
+pub completed_members : (tags : List SeenTag) (tag : ℕ) (ms : List SeenMember) → is_some (slice_get tags tag) ≡ true
     → members_in (slice_get (completed tags tag ms) tag) ≡ ms
 completed_members [] tag ms e = absurd (true≢false (sym e))
 completed_members (t ∷ ts) zero ms e = refl
 completed_members (t ∷ ts) (suc tag) ms e = completed_members ts tag ms e
 
-completed_there : (tags : List SeenTag) (tag : ℕ) (ms : List SeenMember) → is_some (slice_get (completed tags tag ms) tag) ≡ true
+pub completed_there : (tags : List SeenTag) (tag : ℕ) (ms : List SeenMember) → is_some (slice_get (completed tags tag ms) tag) ≡ true
     → is_some (slice_get tags tag) ≡ true
 completed_there [] tag ms e = e
 completed_there (t ∷ ts) zero ms e = refl
@@ -202,7 +202,7 @@ names_step (suc n) tags tag e =
     ∙ sym (all_same (texts_by (suc n) tags) (texts_by n tags) (known_by n tags) (members_in (slice_get tags tag))
     (λ k known. texts_stay n (suc n) tags tags (λ j has. refl) (omega arith) k known) (of_tag_known (known_by n tags) (slice_get tags tag) e))
 
-known_there : (l : ℕ) (tags : List SeenTag) (tag : ℕ) → is_some (known_by l tags tag) ≡ true → is_some (slice_get tags tag) ≡ true
+pub known_there : (l : ℕ) (tags : List SeenTag) (tag : ℕ) → is_some (known_by l tags tag) ≡ true → is_some (slice_get tags tag) ≡ true
 known_there zero tags tag e = absurd (true≢false (sym e))
 known_there (suc n) tags tag e = extent_there (known_by n tags) (slice_get tags tag) e
 

@@ -104,7 +104,7 @@ clash_by false b d q f = refl
 clash_by true false d q f = refl
 clash_by true true d q f = ap (λ x. if x then Some q else None) (f refl refl)
 
-not_true : (b : Bool) → not b ≡ true → b ≡ false
+pub not_true : (b : Bool) → not b ≡ true → b ≡ false
 not_true true e = sym e
 not_true false e = refl
 
@@ -130,7 +130,7 @@ clash_is t tags before m symbols others named brings apart kind number behind en
 noted_later : (t : TokenText) (tags now : List SeenTag) (tag : ℕ) (symbols : List ℕ) → Keeps tags now → IsNoted t tags tag symbols → IsNoted t now tag symbols
 noted_later t tags now tag symbols keeps noted later more = noted later (keeps_both tags now later keeps more)
 
-by_tag : (P : ℕ → Type 0) (number : ℕ) → P number → ((k : ℕ) → k ≢ number → P k) → (k : ℕ) → P k
+pub by_tag : (P : ℕ → Type 0) (number : ℕ) → P number → ((k : ℕ) → k ≢ number → P k) → (k : ℕ) → P k
 by_tag P number here others k = elim (eqb_tells k number) [ inl p ↦ subst P (sym p.1) here | inr p ↦ others k p.1 ]
 
 -- the symbols of the completed one are those of its members
@@ -146,7 +146,7 @@ pub closed_noted : (t : TokenText) (s now : State) (number : ℕ) (ms : List See
     → AreNamed t (map tag_seen s.tags) ms symbols → has_members (slice_get (map tag_seen s.tags) number) ≡ false
     → is_some (extents (completed (map tag_seen s.tags) number ms) number) ≡ true
     → length (now.tag_rows).items ≡ length (s.tag_rows).items → symbols_in now number ≡ symbols
-    → ((k : ℕ) → k ≢ number → symbols_in now k ≡ symbols_in s k) → HasSymbols t s → HasSymbols t now
+    → ((k : ℕ) → k ≢ number → slice_get (now.tag_rows).items k ≡ slice_get (s.tag_rows).items k) → HasSymbols t s → HasSymbols t now
 closed_noted t s now number ms symbols is named none whole count here others has =
     let tags = map tag_seen s.tags in
     let done = completed tags number ms in (
@@ -155,7 +155,7 @@ closed_noted t s now number ms symbols is named none whole count here others has
           (by_tag (λ k. has_members (slice_get done k) ≡ true → IsNoted t done k (symbols_in now k)) number
           (λ some. subst (λ xs. IsNoted t done number xs) (sym here) (completed_noted t tags number ms symbols named none whole))
           (λ k other some.
-          subst (λ xs. IsNoted t done k xs) (sym (others k other))
+          subst (λ xs. IsNoted t done k xs) (sym (ap symbols_of (others k other)))
           (noted_later t tags done k (symbols_in s k) (completed_keeps tags number ms none)
           (has.1 k (sym (ap has_members (completed_other tags number ms k other)) ∙ some))))),
     )
@@ -169,26 +169,27 @@ members_within (t ∷ ts) (suc k) ms some = let less = members_within ts k ms so
 within_by : (ts : List SeenTag) (k : ℕ) (ms : List SeenMember) → is_some (extents (completed ts k ms) k) ≡ true → k < length ts
 within_by ts k ms whole = members_within ts k ms (known_members (length (completed ts k ms)) (completed ts k ms) k whole)
 
+pub row_at : (s : State) (number : ℕ) (ms : List SeenMember) → length (s.tag_rows).items ≡ length (map tag_seen s.tags)
+    → is_some (extents (completed (map tag_seen s.tags) number ms) number) ≡ true → number < length (s.tag_rows).items
+row_at s number ms e whole = let less = within_by (map tag_seen s.tags) number ms whole in omega (arith, e, less)
+
 pub noted_at : (t : TokenText) (s : State) (number : ℕ) (ms : List SeenMember) → HasSymbols t s
     → is_some (extents (completed (map tag_seen s.tags) number ms) number) ≡ true → number < length (s.tag_rows).items
-noted_at t s number ms has whole =
-    let e = has.0 in
-    let less = within_by (map tag_seen s.tags) number ms whole in
-    omega (arith, e, less)
+noted_at t s number ms has whole = row_at s number ms has.0 whole
 
-slice_get_more : (ts : List SeenTag) (x : SeenTag) (k : ℕ) → x.members ≡ [] → has_members (slice_get (ts ++ x ∷ []) k) ≡ true
+pub slice_get_more : (ts : List SeenTag) (x : SeenTag) (k : ℕ) → x.members ≡ [] → has_members (slice_get (ts ++ x ∷ []) k) ≡ true
     → (slice_get (ts ++ x ∷ []) k ≡ slice_get ts k) × (k < length ts)
 slice_get_more [] x zero none some = absurd (true≢false (sym some ∙ ap (λ ms. has_members (Some (record x { members = ms }))) none))
 slice_get_more [] x (suc k) none some = absurd (true≢false (sym some))
 slice_get_more (t ∷ ts) x zero none some = (refl, omega arith)
 slice_get_more (t ∷ ts) x (suc k) none some = let p = slice_get_more ts x k none some in (p.0, (let q = p.1 in omega arith))
 
-get_before : (ts : List SeenTag) (x : SeenTag) (k : ℕ) → has_members (slice_get ts k) ≡ true → slice_get (ts ++ x ∷ []) k ≡ slice_get ts k
+pub get_before : (ts : List SeenTag) (x : SeenTag) (k : ℕ) → has_members (slice_get ts k) ≡ true → slice_get (ts ++ x ∷ []) k ≡ slice_get ts k
 get_before [] x k some = absurd (true≢false (sym some))
 get_before (t ∷ ts) x zero some = refl
 get_before (t ∷ ts) x (suc k) some = get_before ts x k some
 
-length_more : {A : Type 0} (ts : List A) (x : A) → length (ts ++ x ∷ []) ≡ length ts + 1
+pub length_more : {A : Type 0} (ts : List A) (x : A) → length (ts ++ x ∷ []) ≡ length ts + 1
 length_more [] x = refl
 length_more (t ∷ ts) x = let e = length_more ts x in omega (arith, e)
 
@@ -213,12 +214,12 @@ row_before (r ∷ rows) row zero less = refl
 row_before (r ∷ rows) row (suc k) less = row_before rows row k (omega arith)
 
 pub new_noted : {E : Type 0} (r : Result ℕ E) (s now : State) (kind : TagKind)
-    → OnOk r ((row : TagRow) × ((now.tag_rows).items ≡ (s.tag_rows).items ++ row ∷ []))
+    → OnOk r ((row : TagRow) × (row.constant ≡ false) × ((now.tag_rows).items ≡ (s.tag_rows).items ++ row ∷ []))
     → OnOk r (map tag_seen now.tags ≡ map tag_seen s.tags ++ record { kind = kind; members = [] } ∷ [])
     → OnOk r ((t : TokenText) → HasSymbols t s → HasSymbols t now)
 new_noted (Ok n) s now kind p e =
     λ t has.
-    more_noted t s now (record { kind = kind; members = [] }) refl e (ap length p.1 ∙ length_more (s.tag_rows).items p.0)
+    more_noted t s now (record { kind = kind; members = [] }) refl e (ap length p.2 ∙ length_more (s.tag_rows).items p.0)
     (λ k less.
-    ap (λ rows. symbols_of (slice_get rows k)) p.1 ∙ ap symbols_of (row_before (s.tag_rows).items p.0 k less)) has
+    ap (λ rows. symbols_of (slice_get rows k)) p.2 ∙ ap symbols_of (row_before (s.tag_rows).items p.0 k less)) has
 new_noted (Err e) s now kind p q = tt

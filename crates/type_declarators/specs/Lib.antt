@@ -1,3 +1,4 @@
+pub mod ConstantMembers
 pub mod Finds
 pub mod Keywords
 pub mod Literals

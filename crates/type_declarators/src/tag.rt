@@ -10,11 +10,14 @@ ghost use Rattle.typing_env.specs.Env.{Env, symbol_of};
 ghost use Rattle.typing_env.specs.Names.{tag_seen, with_new_tag};
 ghost use Rattle.typing_env.specs.Seen as seen;
 ghost use Rattle.typing_env.specs.Seen.{member_seen};
+ghost use Rattle.typing_words.specs.Tags.{has_const};
 ghost use Rattle.typing_words.specs.Words as spec;
 ghost use Rattle.typing_words.specs.Words.{plain, is_kind, flag_at, flagged};
 ghost use Rattle.type_scope.specs.Known.{Naming, known_by};
 ghost use Rattle.type_scope.specs.Reads.{Reads};
 ghost use Rattle.type_scope.specs.declared.fault.TypeFault.TheVariants as fault;
+ghost use Rattle.type_scope.specs.Tagged as noted;
+ghost use Rattle.type_declarators.specs.ConstantMembers.{HasConstant, HasConstants, TellsAmong, AreToldConstants, BeginNoted};
 ghost use Rattle.type_declarators.specs.Finds.{Finds};
 ghost use Rattle.type_declarators.specs.Keywords.{IsSaid};
 ghost use Rattle.type_declarators.specs.MemberNames.{HasNames, HasSymbols, HoldsSymbols, AddsSymbols, IsClash, IsWhole, are_apart, symbols_in, tag_number};
@@ -63,6 +66,7 @@ fn is_kind(a: TagKind, b: TagKind) -> bool
 fn new_tag(state: &mut State, kind: TagKind) -> Result<u32, NoMemory>
     ensures number { IfOk result (λ number. number ≡ length state.old.tags) }
     ensures symbols { OnOk result ((t : TokenText) → HasSymbols t state.old → HasSymbols t state.new) }
+    ensures constants { OnOk result (HasConstants state.old → HasConstants state.new) }
     ensures known { OnOk result ((n : Naming) (t : TokenText) (env : Env) → known_by n t state.new env ≡ with_new_tag kind (known_by n t state.old env)) }
     ensures rest { state.new ≡ record state.old { tags = state.new.tags; tag_rows = state.new.tag_rows } }
 {
@@ -77,6 +81,7 @@ fn declare_tag(
     kind: TagKind,
 ) -> Result<u32, NoMemory>
     ensures symbols { OnOk result ((t : TokenText) → HasSymbols t state.old → HasSymbols t state.new) }
+    ensures constants { OnOk result (HasConstants state.old → HasConstants state.new) }
     ensures known { IfOk result (λ number. (n : Naming) (env : Env) → spec.declare_tag at kind (known_by n source.now state.old env) ≡ Some (number, known_by n source.now state.new env)) }
     ensures rest { state.new ≡ record state.old { names = state.new.names; tags = state.new.tags; tag_rows = state.new.tag_rows } }
 {
@@ -98,6 +103,7 @@ fn tag_or_new(
     here: bool,
 ) -> Result<u32, TypeFault>
     ensures symbols { OnOk result ((t : TokenText) → HasSymbols t state.old → HasSymbols t state.new) }
+    ensures constants { OnOk result (HasConstants state.old → HasConstants state.new) }
     ensures reads { (n : Naming) (env : Env) → let k = known_by n source.now state.old env in Reads (λ number. number) (spec.tag_or_new at kind (tag_seen k here (symbol_of k at)) k) result (known_by n source.now state.new env) }
     ensures rest { state.new ≡ record state.old { names = state.new.names; tags = state.new.tags; tag_rows = state.new.tag_rows } }
 {
@@ -128,6 +134,7 @@ pub fn reference(
     alone: bool,
 ) -> Result<Ty, TypeFault>
     ensures symbols { OnOk result ((t : TokenText) → HasSymbols t state.old → HasSymbols t state.new) }
+    ensures constants { OnOk result (HasConstants state.old → HasConstants state.new) }
     ensures reads { (n : Naming) (env : Env) → Reads (λ ty. plain (type_of ty)) (spec.reference alone kind tag (known_by n source.now state.old env)) result (known_by n source.now state.new env) }
     ensures rest { state.new ≡ record state.old { names = state.new.names; tags = state.new.tags; tag_rows = state.new.tag_rows } }
 {
@@ -156,6 +163,7 @@ pub fn open(
     tag: Option<u32>,
 ) -> Result<u32, TypeFault>
     ensures symbols { OnOk result ((t : TokenText) → HasSymbols t state.old → HasSymbols t state.new) }
+    ensures constants { OnOk result (HasConstants state.old → HasConstants state.new) }
     ensures reads { (n : Naming) (env : Env) → Reads (λ number. number) (spec.open_tag kind tag (known_by n source.now state.old env)) result (known_by n source.now state.new env) }
     ensures rest { state.new ≡ record state.old { names = state.new.names; tags = state.new.tags; tag_rows = state.new.tag_rows } }
 {
@@ -189,6 +197,7 @@ impl MemberList {
     pub fn new(alloc: Global) -> MemberList
         ensures members { result.members ≡ [] }
         ensures named { (t : TokenText) (tags : List seen.SeenTag) → HasNames t tags result }
+        ensures constant { (tags : List seen.SeenTag) → HasConstant tags result }
     {
         MemberList {
             members: Items::new(alloc),
@@ -201,7 +210,7 @@ impl MemberList {
     // Adds a name; false where it is there already (6.7.2.3p1).
     fn add_name(&mut self, symbol: u32) -> Result<bool, NoMemory>
         ensures fresh { IfOk result (λ fresh. fresh ≡ not (contains nat_cmp self.old.names symbol)) }
-        ensures same { self.new.members ≡ self.old.members }
+        ensures rest { self.new ≡ record self.old { names = self.new.names; symbols = self.new.symbols } }
         ensures symbols { OnOk result (self.new.symbols.items ≡ self.old.symbols.items ++ symbol ∷ []) }
         ensures held { OnOk result ((k : ℕ) → contains nat_cmp self.new.names k ≡ (contains nat_cmp self.old.names k || (symbol == k))) }
     {
@@ -211,7 +220,7 @@ impl MemberList {
 
     // Adds these names; false where one is there already.
     fn add_symbols(&mut self, symbols: &[u32]) -> Result<bool, NoMemory>
-        ensures same { self.new.members ≡ self.old.members }
+        ensures rest { self.new ≡ record self.old { names = self.new.names; symbols = self.new.symbols } }
         ensures added { IfOk result (λ added. OnTrue added (AddsSymbols symbols.now self.old self.new)) }
         ensures twice { IfOk result (λ added. OnFalse added (HoldsSymbols self.old → are_apart (self.old.symbols.items ++ symbols.now) ≡ false)) }
     {
@@ -225,6 +234,7 @@ impl MemberList {
 
     fn add(&mut self, member: Member, constant: bool) -> Result<(), NoMemory>
         ensures ok { OnOk result (self.new.members ≡ self.old.members ++ member ∷ []) }
+        ensures constant { OnOk result (self.new.constant ≡ (self.old.constant || constant)) }
         ensures rest { self.new ≡ record self.old { members = self.new.members; constant = self.new.constant } }
     {
         self.members.push(member)?;
@@ -256,7 +266,8 @@ fn completed(tags: &mut Tags, number: u32, members: Items<Member>) -> Result<(),
 // Notes what else is known of a structure or union.
 fn note_row(state: &mut State, number: u32, constant: bool, symbols: Vec<u32>)
     ensures row { number < length state.old.tag_rows.items → symbols_in state.new number ≡ symbols.items }
-    ensures others { (k : ℕ) → k ≢ number → symbols_in state.new k ≡ symbols_in state.old k }
+    ensures constant { number < length state.old.tag_rows.items → noted.has_constant state.new number ≡ constant }
+    ensures others { (k : ℕ) → k ≢ number → slice_get state.new.tag_rows.items k ≡ slice_get state.old.tag_rows.items k }
     ensures count { length state.new.tag_rows.items ≡ length state.old.tag_rows.items }
     ensures rest { state.new ≡ record state.old { tag_rows = state.new.tag_rows } }
 {
@@ -277,6 +288,7 @@ pub fn close(
 ) -> Result<Ty, TypeFault>
     ensures reads { HasNames source.now (map seen.tag_seen state.old.tags) list → (n : Naming) (env : Env) → Reads (λ ty. plain (type_of ty)) (spec.close_tag kind number (map member_seen list.members) (known_by n source.now state.old env)) result (known_by n source.now state.new env) }
     ensures symbols { OnOk result (HasNames source.now (map seen.tag_seen state.old.tags) list → HasSymbols source.now state.old → HasSymbols source.now state.new) }
+    ensures constants { OnOk result (HasConstant (map seen.tag_seen state.old.tags) list → HasConstants state.old → HasConstants state.new) }
     ensures rest { state.new ≡ record state.old { tags = state.new.tags; tag_rows = state.new.tag_rows } }
 {
     let MemberList {
@@ -312,12 +324,21 @@ pub fn check_member_words(source: &Source<'_>, words: &Words, at: u32) -> Result
 }
 
 // Whether an object of this type has a const part (6.3.2.1p1).
-fn has_constant(state: &State, ty: &Ty) -> bool {
+fn has_constant(state: &State, ty: &Ty) -> bool
+    ensures { result ≡ has_const (noted.has_constant state.now) (type_of ty.now) }
+{
     match ty {
         Ty::Struct(tag) | Ty::Union(tag) => state.has_constant(*tag),
         Ty::Array(element, _) => element.get().constant || has_constant(state, &element.get().ty),
         _ => false,
     }
+}
+
+// Whether a member of this type is const or has a const part (6.3.2.1p1).
+fn is_constant(state: &State, qual: &Qual) -> bool
+    ensures { result ≡ ((qualified_of qual.now).constant || has_const (noted.has_constant state.now) (qualified_of qual.now).ty) }
+{
+    qual.constant || has_constant(state, &qual.ty)
 }
 
 /// Adds a member of complete object type (6.7.2.1p3).
@@ -331,6 +352,7 @@ pub fn add_member(
     ensures ok { IfOk result (λ l. (n : Naming) (env : Env) → IsAdded (spec.named_member member.name (qualified_of member.qual) (known_by n source.now state.now env)) (known_by n source.now state.now env) list.members l.members) }
     ensures err { IfErr result (λ e. e ≢ fault.NoMemory → (n : Naming) (env : Env) → (at : ℕ) → member.name ≡ Some at → contains nat_cmp list.names (symbol_of (known_by n source.now state.now env) at) ≡ false → spec.named_member member.name (qualified_of member.qual) (known_by n source.now state.now env) ≡ None) }
     ensures named { IfOk result (λ l. (at : ℕ) → member.name ≡ Some at → text_at source.now at ≢ [] → HasNames source.now (map seen.tag_seen state.now.tags) list → HasNames source.now (map seen.tag_seen state.now.tags) l) }
+    ensures constant { IfOk result (λ l. HasConstants state.now → HasConstant (map seen.tag_seen state.now.tags) list → HasConstant (map seen.tag_seen state.now.tags) l) }
     ensures twice { IfErr result (λ e. e ≢ fault.NoMemory → (n : Naming) (env : Env) (at : ℕ) → member.name ≡ Some at → text_at source.now at ≢ [] → HasNames source.now (map seen.tag_seen state.now.tags) list → spec.named_member member.name (qualified_of member.qual) (known_by n source.now state.now env) ≢ None → IsClash (map seen.tag_seen state.now.tags) (map member_seen list.members) (record { name = text_at source.now at; qual = qualified_of member.qual })) }
 {
     let mut list = list;
@@ -344,7 +366,7 @@ pub fn add_member(
     if !list.add_name(source.symbol(name))? {
         return Err(source.fault(name, Reason::DeclaredTwice));
     }
-    let constant = qual.constant || has_constant(state, &qual.ty);
+    let constant = is_constant(state, &qual);
     let name = Bytes::from_slice(state.alloc, source.spelling(name))?;
     list.add(Member { name, qual }, constant)?;
     Ok(list)
@@ -376,7 +398,7 @@ fn tag_number(ty: &Ty) -> Option<u32>
 
 // Adds the members of an unnamed structure or union to the names; false where one is there already.
 fn add_names(state: &State, number: u32, list: &mut MemberList) -> Result<bool, NoMemory>
-    ensures same { list.new.members ≡ list.old.members }
+    ensures rest { list.new ≡ record list.old { names = list.new.names; symbols = list.new.symbols } }
     ensures added { IfOk result (λ added. OnTrue added (AddsSymbols (symbols_in state.now number) list.old list.new)) }
     ensures twice { IfOk result (λ added. OnFalse added (HoldsSymbols list.old → are_apart (list.old.symbols.items ++ symbols_in state.now number) ≡ false)) }
 {
@@ -397,6 +419,7 @@ pub fn add_unnamed(
 ) -> Result<MemberList, TypeFault>
     ensures ok { IfOk result (λ l. map member_seen l.members ≡ map member_seen list.members ++ record { name = []; qual = qualified_of base } ∷ []) }
     ensures named { IfOk result (λ l. HasSymbols source.now state.now → IsWhole (map seen.tag_seen state.now.tags) (qualified_of base).ty → HasNames source.now (map seen.tag_seen state.now.tags) list → HasNames source.now (map seen.tag_seen state.now.tags) l) }
+    ensures constant { IfOk result (λ l. HasConstants state.now → IsWhole (map seen.tag_seen state.now.tags) (qualified_of base).ty → HasConstant (map seen.tag_seen state.now.tags) list → HasConstant (map seen.tag_seen state.now.tags) l) }
     ensures twice { IfErr result (λ e. e ≢ fault.NoMemory → spec.is_unnamed (specs.now).base ≡ true → HasSymbols source.now state.now → IsWhole (map seen.tag_seen state.now.tags) (qualified_of base).ty → HasNames source.now (map seen.tag_seen state.now.tags) list → IsClash (map seen.tag_seen state.now.tags) (map member_seen list.members) (record { name = []; qual = qualified_of base })) }
 {
     let mut list = list;
@@ -409,10 +432,22 @@ pub fn add_unnamed(
     if !add_names(state, number, &mut list)? {
         return Err(source.fault(at, Reason::UnnamedMemberTwice));
     }
-    let constant = base.constant || state.has_constant(number);
+    let constant = is_constant(state, &base);
     let name = Bytes::from_slice(state.alloc, &[])?;
     list.add(Member { name, qual: base }, constant)?;
     Ok(list)
+}
+
+/// The state tells which structures and unions have a const member (6.3.2.1p1).
+pub fn law_constants()
+    ensures { AreToldConstants }
+{
+}
+
+/// A unit begins with nothing noted of structures and unions (own).
+pub fn law_begin()
+    ensures { BeginNoted }
+{
 }
 
 fn enumeration_type(number: u32) -> Ty

@@ -11,6 +11,8 @@ use Rattle.type_declarators.proofs.Members.{member_refused, member_added, not_fr
 use Rattle.typing_env.specs.Seen.{member_seen, tag_seen}
 use Rattle.type_declarators.specs.MemberNames.{IsClash}
 use Rattle.c_lex.specs.TokenText.{text_at}
+use Rattle.type_declarators.specs.declared.tag.MemberList.{MemberList}
+use Rattle.type_declarators.proofs.ConstantsKept.{has_more_constant}
 use Rattle.type_declarators.proofs.Members.{one_more}
 use Rattle.type_declarators.proofs.NamesAdded.{adds_none, adds_more, there_by}
 use Rattle.type_declarators.proofs.NamesNoted.{brings_name, has_more_names, clash_is}
@@ -37,7 +39,7 @@ returns-clause-ok c n env =
     subst P (sym c.in-Some.is)
     (member_added n c.args.source.now c.args.state.now env c.in-Some.name q c.args.list.members c.add_name.new.self.members c.add.new.self.members
     (record { name = c.in_ok-name.name; qual = c.args.member.qual }) (sym c.is_complete_qual.ensures ∙ c.if-not-is_complete_qual.false)
-    c.add_name.ensures.same c.in_ok-add.ensures.ok (λ i. record { name = (c.in_ok-name.ensures ∙ c.spelling.ensures) i; qual = q }))
+    (ap (λ (l : MemberList). l.members) c.add_name.ensures.rest) c.in_ok-add.ensures.ok (λ i. record { name = (c.in_ok-name.ensures ∙ c.spelling.ensures) i; qual = q }))
 
 pub returns-then-not-is_complete_qual-clause-twice : goal.returns-then-not-is_complete_qual-clause-twice
 returns-then-not-is_complete_qual-clause-twice c other n env at is text has some =
@@ -71,7 +73,19 @@ returns-clause-named c at is text has =
     c.if-not-branch.false c.in_ok-add_name.ensures.symbols c.in_ok-add_name.ensures.held (adds_none c.args.list))
     c.add.ensures.rest
     (one_more c.args.list.members c.add.new.self.members (record { name = c.in_ok-name.name; qual = c.args.member.qual }) m
-    (c.in_ok-add.ensures.ok ∙ ap (λ ms. ms ++ record { name = c.in_ok-name.name; qual = c.args.member.qual } ∷ []) c.add_name.ensures.same)
+    (c.in_ok-add.ensures.ok ∙ ap (λ ms. ms ++ record { name = c.in_ok-name.name; qual = c.args.member.qual } ∷ []) (ap (λ (l : MemberList). l.members) c.add_name.ensures.rest))
     (λ i. record { name = (c.in_ok-name.ensures ∙ c.spelling.ensures) i; qual = q }))
     (brings_name c.args.source.now tags c.in-Some.name c.symbol.result q
     (λ none. text (ap (text_at c.args.source.now) (sym e) ∙ none)) c.symbol.ensures)
+
+pub returns-clause-constant : goal.returns-clause-constant
+returns-clause-constant c noted has =
+    let q = qualified_of c.args.member.qual in
+    let m = record { name = text_at c.args.source.now c.in-Some.name; qual = q } in
+    has_more_constant c.args.state.now c.args.list c.add_name.new.self c.add.new.self m c.is_constant.result noted
+    (sym c.is_complete_qual.ensures ∙ c.if-not-is_complete_qual.false) has (ap (λ (l : MemberList). l.constant) c.add_name.ensures.rest)
+    c.in_ok-add.ensures.constant c.is_constant.ensures
+    (one_more c.args.list.members c.add.new.self.members (record { name = c.in_ok-name.name; qual = c.args.member.qual }) m
+    (c.in_ok-add.ensures.ok ∙ ap (λ ms. ms ++ record { name = c.in_ok-name.name; qual = c.args.member.qual } ∷ [])
+    (ap (λ (l : MemberList). l.members) c.add_name.ensures.rest))
+    (λ i. record { name = (c.in_ok-name.ensures ∙ c.spelling.ensures) i; qual = q }))

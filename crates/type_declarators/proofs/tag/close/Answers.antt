@@ -5,7 +5,8 @@ use Rattle.typing_words.specs.Words.{plain, tagged}
 use Rattle.type_scope.specs.Known.{known_by}
 use Rattle.type_scope.specs.declared.state.State.{State}
 use Rattle.type_declarators.proofs.Completing.{closed, not_closed, may_parts, completed_seen}
-use Rattle.type_declarators.proofs.NamesNoted.{closed_noted, noted_at}
+use Rattle.type_declarators.proofs.ConstantsKept.{closed_constants}
+use Rattle.type_declarators.proofs.NamesNoted.{closed_noted, noted_at, row_at}
 use Rattle.type_declarators.proofs.NamesTold.{completed_distinct}
 use Rattle.type_declarators.proofs.tag.close.Goals as goal
 
@@ -37,4 +38,16 @@ returns-in-Ok-clause-symbols c has noted =
     ∙ sym (completed_seen (c.args.state.now).tags c.args.number c.args.list.members))
     has.named may.0 may.1 c.note_row.ensures.count
     (c.note_row.ensures.row (noted_at c.args.source.now c.args.state.now c.args.number ms noted may.1))
+    c.note_row.ensures.others noted
+
+pub returns-in-Ok-clause-constants : goal.returns-in-Ok-clause-constants
+returns-in-Ok-clause-constants c has noted =
+    let tags = map tag_seen (c.args.state.now).tags in
+    let ms = map member_seen c.args.list.members in
+    let may = may_parts (c.args.state.now).tags c.args.number c.args.list.members (sym c.in-Ok.ensures.value) in
+    closed_constants c.args.state.now c.note_row.new.state c.args.number ms c.args.list.constant
+    (ap (λ (s : State). map tag_seen s.tags) c.note_row.ensures.rest ∙ ap (map tag_seen) c.in-Ok.ensures.done
+    ∙ sym (completed_seen (c.args.state.now).tags c.args.number c.args.list.members))
+    has may.0 may.1 c.note_row.ensures.count
+    (c.note_row.ensures.constant (row_at c.args.state.now c.args.number ms noted.rows may.1))
     c.note_row.ensures.others noted

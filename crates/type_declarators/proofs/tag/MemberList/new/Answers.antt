@@ -10,3 +10,6 @@ returns-clause-named c t tags = record {
   held = λ symbol. ap (λ ks. list_any (is_at (nat_cmp symbol)) ks) c.new.ensures.empty;
   apart = refl;
 }
+
+pub returns-clause-constant : goal.returns-clause-constant
+returns-clause-constant c tags now keeps = refl
