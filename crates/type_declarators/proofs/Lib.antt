@@ -2,6 +2,7 @@ pub mod Applied
 pub mod Bytes
 pub mod Completing
 pub mod ConstantsKept
+pub mod Declared
 pub mod Derived
 pub mod Enumerations
 pub mod Extents
