@@ -1,9 +1,9 @@
 -- Which structures and unions have a const member, as further tags are declared and completed.
-use Rattle.std.proofs.Common.{◌≡◌, ◌≢◌, ℕ, zero, suc, ◌+◌, ◌<◌, ◌≤◌, Bool, true, false, List, [], ◌∷◌, ◌++◌, length, map, refl, sym, ap, ◌∙◌, subst, true≢false, arith}
+use Rattle.std.proofs.Common.{◌≡◌, ◌≢◌, ℕ, zero, suc, ◌+◌, ◌≤◌, Bool, true, false, List, [], ◌∷◌, ◌++◌, length, map, refl, sym, ap, ◌∙◌, subst, true≢false, arith}
 use Rattle.std.specs.Prelude.{◌||◌, is_some, slice_get, Option, Some, None, Result, Ok, Err, OnOk}
 use Rattle.std.proofs.lemmas.Option.{none-some, same_Some}
 use Rattle.c_lex.specs.TokenText.{TokenText}
-use Rattle.c_types.specs.Types.{CType, Qualified, void, int, enumeration, pointer, array, struct, union, function}
+use Rattle.c_types.specs.Types.{CType, void, int, enumeration, pointer, array, struct, union, function}
 use Rattle.c_types.specs.declared.tags.Extent.{Extent}
 use Rattle.c_types.specs.Layout.{Known, extent, repeated}
 use Rattle.typing_env.specs.Seen.{SeenMember, SeenTag, member_seen, tag_seen}
@@ -191,10 +191,10 @@ closed_constants s now number ms flag is told none whole count here others has =
     }
 
 row_more : (rows : List TagRow) (row : TagRow) (k : ℕ) → row.constant ≡ false → constant_in (slice_get (rows ++ row ∷ []) k) ≡ constant_in (slice_get rows k)
-row_more [] row zero no = no
-row_more [] row (suc k) no = refl
-row_more (r ∷ rows) row zero no = refl
-row_more (r ∷ rows) row (suc k) no = row_more rows row k no
+row_more [] row zero clear = clear
+row_more [] row (suc k) clear = refl
+row_more (r ∷ rows) row zero clear = refl
+row_more (r ∷ rows) row (suc k) clear = row_more rows row k clear
 
 none_before : (ts : List SeenTag) (x : SeenTag) (k : ℕ) → has_members (slice_get (ts ++ x ∷ []) k) ≡ false → has_members (slice_get ts k) ≡ false
 none_before [] x k e = refl
@@ -203,12 +203,12 @@ none_before (t ∷ ts) x (suc k) e = none_before ts x k e
 
 more_constants : (s now : State) (x : SeenTag) (row : TagRow) → x.members ≡ [] → row.constant ≡ false
     → map tag_seen now.tags ≡ map tag_seen s.tags ++ x ∷ [] → (now.tag_rows).items ≡ (s.tag_rows).items ++ row ∷ [] → HasConstants s → HasConstants now
-more_constants s now x row none no is rows has =
+more_constants s now x row none clear is rows has =
     let tags = map tag_seen s.tags in
     let more = tags ++ x ∷ [] in
     let keeps : Keeps tags more = ((let e = length_more tags x in omega (arith, e)), λ k some. get_before tags x k some) in
     let same : (k : ℕ) → has_constant now k ≡ has_constant s k =
-        λ k. ap (λ (rs : List TagRow). constant_in (slice_get rs k)) rows ∙ row_more (s.tag_rows).items row k no in
+    λ k. ap (λ (rs : List TagRow). constant_in (slice_get rs k)) rows ∙ row_more (s.tag_rows).items row k clear in
     record {
       rows = ap length rows ∙ length_more (s.tag_rows).items row ∙ ap (λ n. n + 1) has.rows ∙ sym (length_more tags x) ∙ sym (ap length is);
       noted = subst (λ (ts : List SeenTag). (k : ℕ) → has_members (slice_get ts k) ≡ true → TellsIn ts k (has_constant now k)) (sym is)

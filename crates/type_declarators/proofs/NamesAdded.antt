@@ -1,13 +1,17 @@
 -- A name more in a list of members: its symbol in the set and in the list.
-use Rattle.std.proofs.Common.{◌≡◌, ℕ, zero, suc, ◌<◌, ◌+◌, Bool, true, false, cond, List, [], ◌∷◌, ◌++◌, length, take, drop, refl, sym, ap, ◌∙◌, subst, true≢false, arith}
+use Rattle.std.proofs.Common.{◌≡◌, ℕ, zero, suc, ◌<◌, ◌+◌, Bool, true, false, cond, List, [], ◌∷◌, ◌++◌, length, map, take, drop, refl, sym, ap, ◌∙◌, subst, true≢false, arith}
 use Rattle.std.specs.Prelude.{◌==◌, get_or, not, ◌&&◌, ◌||◌}
 use Rattle.std.specs.BTreeSet.{BTreeSet, contains}
 use Rattle.std.specs.BTreeMap.{is_at}
+use Rattle.std.specs.List.{list_any}
 use Rattle.std.specs.Ordering.{nat_cmp, is_eq}
 use Rattle.std.specs.Cmp.{unsigned_ties}
-use Rattle.std.proofs.lemmas.List.{append_assoc}
+use Rattle.std.proofs.lemmas.List.{append_assoc, take_more}
+use Rattle.c_lex.specs.TokenText.{TokenText, text_at}
+use Rattle.c_types.specs.declared.tags.Member.{Member}
+use Rattle.typing_env.specs.Seen.{SeenTag, member_seen}
 use Rattle.type_declarators.specs.declared.tag.MemberList.{MemberList}
-use Rattle.type_declarators.specs.MemberNames.{has_symbol, are_apart, HoldsSymbols, AddsSymbols}
+use Rattle.type_declarators.specs.MemberNames.{names_in, all_brought, symbol_of_name, has_symbol, are_apart, HoldsSymbols, HasNames, AddsSymbols}
 use Rattle.type_declarators.proofs.NamesTold.{has_one_more, apart_more, clash}
 
 -- 1. In the set.
@@ -75,28 +79,38 @@ there_by fresh had told is = not_false had (sym told ∙ is)
 
 -- 3. In a loop.
 
-next : (i : ℕ) → suc i + 1 ≡ suc (i + 1)
-next i = omega arith
-
-take_next : (xs : List ℕ) (i : ℕ) → i < length xs → take (i + 1) xs ≡ take i xs ++ get_or xs i 0 ∷ []
-take_next [] i less = absurd (omega arith)
-take_next (x ∷ xs) zero less = refl
-take_next (x ∷ xs) (suc i) less = ap (λ k. take k (x ∷ xs)) (next i) ∙ ap (λ ys. x ∷ ys) (take_next xs i (omega arith))
-
-pub adds_next : (xs : List ℕ) (i : ℕ) (l m now : MemberList) (fresh : Bool) → i < length xs → fresh ≡ not (contains nat_cmp m.names (get_or xs i 0))
-    → fresh ≡ true → (now.symbols).items ≡ (m.symbols).items ++ get_or xs i 0 ∷ []
-    → ((k : ℕ) → contains nat_cmp now.names k ≡ (contains nat_cmp m.names k || (get_or xs i 0 == k)))
+pub adds_next : (xs : List ℕ) (i x d : ℕ) (l m now : MemberList) (fresh : Bool) → i < length xs → fresh ≡ not (contains nat_cmp m.names x)
+    → fresh ≡ true → (now.symbols).items ≡ (m.symbols).items ++ x ∷ []
+    → ((k : ℕ) → contains nat_cmp now.names k ≡ (contains nat_cmp m.names k || (x == k))) → x ≡ get_or xs i d
     → AddsSymbols (take i xs) l m → AddsSymbols (take (i + 1) xs) l now
-adds_next xs i l m now fresh less told is more held adds =
-    subst (λ ys. AddsSymbols ys l now) (sym (take_next xs i less)) (adds_more (take i xs) (get_or xs i 0) l m now fresh told is more held adds)
+adds_next xs i x d l m now fresh less told new more held is adds =
+    subst (λ ys. AddsSymbols ys l now) (ap (λ y. take i xs ++ y ∷ []) is ∙ sym (take_more xs i d less))
+    (adds_more (take i xs) x l m now fresh told new more held adds)
 
-split_at : (xs : List ℕ) (i : ℕ) → i < length xs → take i xs ++ get_or xs i 0 ∷ drop (suc i) xs ≡ xs
-split_at [] i less = absurd (omega arith)
-split_at (x ∷ xs) zero less = refl
-split_at (x ∷ xs) (suc i) less = ap (λ ys. x ∷ ys) (split_at xs i (omega arith))
+split_by : (xs : List ℕ) (i d : ℕ) → i < length xs → take i xs ++ get_or xs i d ∷ drop (suc i) xs ≡ xs
+split_by [] i d less = absurd (omega arith)
+split_by (x ∷ xs) zero d less = refl
+split_by (x ∷ xs) (suc i) d less = ap (λ ys. x ∷ ys) (split_by xs i d (omega arith))
 
-pub twice_next : (xs : List ℕ) (i : ℕ) (l m : MemberList) (fresh : Bool) → i < length xs → fresh ≡ not (contains nat_cmp m.names (get_or xs i 0))
-    → fresh ≡ false → AddsSymbols (take i xs) l m → HoldsSymbols l → are_apart ((l.symbols).items ++ xs) ≡ false
-twice_next xs i l m fresh less told is adds held =
-    ap (λ ys. are_apart ((l.symbols).items ++ ys)) (sym (split_at xs i less))
-    ∙ adds_twice (take i xs) (drop (suc i) xs) (get_or xs i 0) l m fresh told is adds held
+pub twice_next : (xs : List ℕ) (i x d : ℕ) (l m : MemberList) (fresh : Bool) → i < length xs → fresh ≡ not (contains nat_cmp m.names x)
+    → fresh ≡ false → x ≡ get_or xs i d → AddsSymbols (take i xs) l m → HoldsSymbols l → are_apart ((l.symbols).items ++ xs) ≡ false
+twice_next xs i x d l m fresh less told old is adds held =
+    ap (λ ys. are_apart ((l.symbols).items ++ ys)) (sym (ap (λ y. take i xs ++ y ∷ drop (suc i) xs) is ∙ split_by xs i d less))
+    ∙ adds_twice (take i xs) (drop (suc i) xs) x l m fresh told old adds held
+
+pub rest_next : (l m now : MemberList) → m ≡ record l { names = m.names; symbols = m.symbols }
+    → now ≡ record m { names = now.names; symbols = now.symbols } → now ≡ record l { names = now.names; symbols = now.symbols }
+rest_next l m now before e = e ∙ ap (λ (x : MemberList). record x { names = now.names; symbols = now.symbols }) before
+
+-- 4. None so far.
+
+pub nothing_named : (t : TokenText) (tags : List SeenTag) (l : MemberList) → l.members ≡ [] → (l.names).keys ≡ [] → (l.symbols).items ≡ []
+    → HasNames t tags l
+nothing_named t tags l none empty blank = record {
+  named = λ now keeps. (
+    ap (map (text_at t)) blank ∙ sym (ap (λ (ms : List Member). all_brought (names_in now) (map member_seen ms)) none),
+    ap (λ (ms : List Member). map (symbol_of_name t) (all_brought (names_in now) (map member_seen ms))) none ∙ sym blank,
+  );
+  held = λ symbol. ap (list_any (is_at (nat_cmp symbol))) empty ∙ sym (ap (has_symbol symbol) blank);
+  apart = ap are_apart blank;
+}

@@ -1,5 +1,5 @@
 -- The names in a structure or union stay when further tags are declared and completed.
-use Rattle.std.proofs.Common.{◌≡◌, ◌≢◌, ℕ, zero, suc, ◌+◌, ◌≤◌, Bool, true, false, List, [], ◌∷◌, ◌++◌, length, map, refl, sym, ap, ◌∙◌, subst, true≢false, arith}
+use Rattle.std.proofs.Common.{◌≡◌, ◌≢◌, ℕ, zero, suc, ◌+◌, ◌≤◌, Bool, true, false, List, [], ◌∷◌, ◌++◌, length, map, refl, sym, ap, ◌∙◌, true≢false, arith}
 use Rattle.std.specs.Prelude.{is_some, slice_get, Option, Some, None}
 use Rattle.std.proofs.lemmas.List.{map-append}
 use Rattle.c_types.specs.Types.{CType, void, int, enumeration, pointer, array, struct, union, function}
@@ -9,9 +9,9 @@ use Rattle.c_types.specs.Layout.{Known, extent, placed, and_then, padded, no_mem
 use Rattle.layout.specs.Names.{Named, if_named, also_const, farther}
 use Rattle.layout.specs.Names as layout
 use Rattle.typing_env.specs.Seen.{SeenMember, SeenTag}
-use Rattle.typing_words.specs.Tags.{members_extent, if_any, tag_extent, extent_of_tag, known_by, extents, is_complete, completed, members_in, inside}
-use Rattle.typing_words.specs.Tags.{offset_in, itself, brought, member_names, tag_names, names_by, names}
-use Rattle.typing_words.specs.Words.{has_members, tagged}
+use Rattle.typing_words.specs.Tags.{members_extent, if_any, extent_of_tag, known_by, extents, completed, members_in, inside}
+use Rattle.typing_words.specs.Tags.{offset_in, itself, brought, member_names, tag_names, names_by}
+use Rattle.typing_words.specs.Words.{has_members}
 use Rattle.type_declarators.specs.MemberNames.{names_in, own_or, brought_by, all_brought, Keeps}
 
 -- 1. Names alone.

@@ -1,6 +1,6 @@
 -- The symbols of members that are noted, as members are added and structures and unions are completed.
-use Rattle.std.proofs.Common.{◌≡◌, ◌≢◌, ℕ, zero, suc, ◌+◌, ◌<◌, ◌≤◌, Bool, true, false, List, [], ◌∷◌, ◌++◌, length, map, refl, sym, ap, ◌∙◌, subst, true≢false, arith, inl, inr}
-use Rattle.std.specs.Prelude.{not, ◌&&◌, if◌then◌else◌, is_some, slice_get, Option, Some, None, Result, Ok, Err, OnOk}
+use Rattle.std.proofs.Common.{◌≡◌, ◌≢◌, ℕ, zero, suc, ◌+◌, ◌<◌, Bool, true, false, List, [], ◌∷◌, ◌++◌, length, map, refl, sym, ap, ◌∙◌, subst, true≢false, arith, inl, inr}
+use Rattle.std.specs.Prelude.{not, ◌&&◌, if◌then◌else◌, is_some, slice_get, Some, None, Result, Ok, Err, OnOk}
 use Rattle.std.proofs.lemmas.Bool.Decides.{eqb_tells}
 use Rattle.std.proofs.lemmas.List.{append_assoc}
 use Rattle.std.proofs.lemmas.Option.{none-some, same_Some}
@@ -9,10 +9,10 @@ use Rattle.std.specs.Ordering.{nat_cmp}
 use Rattle.c_lex.specs.TokenText.{TokenText, text_at}
 use Rattle.c_types.specs.Types.{CType, Qualified, void, int, enumeration, pointer, array, struct, union, function}
 use Rattle.c_types.specs.declared.tags.TagKind.{TagKind}
-use Rattle.typing_env.specs.Env.{Env, symbol_in}
+use Rattle.typing_env.specs.Env.{symbol_in}
 use Rattle.typing_env.specs.Seen.{SeenMember, SeenTag, member_seen, tag_seen}
 use Rattle.typing_words.specs.Tags.{inside, is_complete, are_distinct, names, completed, extents}
-use Rattle.typing_words.specs.Words.{plain, tagged, has_members, close_tag}
+use Rattle.typing_words.specs.Words.{plain, tagged, has_members}
 use Rattle.type_scope.specs.declared.rows.TagRow.{TagRow}
 use Rattle.type_scope.specs.declared.state.State.{State}
 use Rattle.type_declarators.specs.MemberNames.{names_in, own_or, brought_by, all_brought, Keeps, AreSymbols, are_apart, AreNamed, IsClash, IsWhole}

@@ -1,8 +1,8 @@
 -- The names of members, and their symbols: no name is there twice where no symbol is.
-use Rattle.std.proofs.Common.{◌≡◌, ◌≢◌, ℕ, zero, suc, ◌+◌, Bool, true, false, List, [], ◌∷◌, ◌++◌, length, map, refl, sym, ap, ◌∙◌, true≢false, arith}
+use Rattle.std.proofs.Common.{◌≡◌, ◌≢◌, ℕ, zero, suc, ◌+◌, Bool, true, false, List, [], ◌∷◌, ◌++◌, map, refl, sym, ap, ◌∙◌, true≢false, arith}
 use Rattle.std.specs.Prelude.{◌==◌, not, ◌&&◌, ◌||◌, if◌then◌else◌, is_some, slice_get, Option, Some, None}
 use Rattle.std.specs.Str.{bytes_eq}
-use Rattle.std.proofs.lemmas.Bool.{eq-eqb, eqb-true, false_from_ne_true}
+use Rattle.std.proofs.lemmas.Bool.{eq-eqb, eqb-true}
 use Rattle.std.proofs.lemmas.List.{map-append}
 use Rattle.std.proofs.lemmas.Option.{none-some}
 use Rattle.std.proofs.lemmas.Slice.Eq.{bytes_eq-Decides}
@@ -13,7 +13,7 @@ use Rattle.typing_env.specs.Env.{spelled_first, symbol_in}
 use Rattle.typing_env.specs.Seen.{SeenMember, SeenTag}
 use Rattle.typing_words.specs.Tags.{has_name, are_distinct, names, completed, extents}
 use Rattle.typing_words.specs.Words.{has_members}
-use Rattle.type_declarators.specs.MemberNames.{names_in, all_brought, Keeps, symbol_of_name, AreSymbols, has_symbol, are_apart, AreNamed}
+use Rattle.type_declarators.specs.MemberNames.{symbol_of_name, AreSymbols, has_symbol, are_apart, AreNamed}
 use Rattle.type_declarators.proofs.NamesKept.{completed_keeps, names_completed}
 
 -- 1. Names that are apart.

@@ -84,12 +84,7 @@ pub fn literal_bytes(
 }
 
 // The literal of this number as an operand: an array of `char` with so many elements (6.4.5p6).
-fn literal_operand(
-    alloc: Global,
-    number: u32,
-    count: u64,
-    line: u32,
-) -> Result<Operand, NoMemory>
+fn literal_operand(alloc: Global, number: u32, count: u64, line: u32) -> Result<Operand, NoMemory>
     ensures { IfOk result (λ o. expression_of o ≡ string_literal number count line) }
 {
     let element = Qual {

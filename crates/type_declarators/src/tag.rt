@@ -396,6 +396,13 @@ fn tag_number(ty: &Ty) -> Option<u32>
     }
 }
 
+// .. of the type without its qualifier.
+fn qualified_tag(qual: &Qual) -> Option<u32>
+    ensures { result ≡ tag_number (qualified_of qual.now).ty }
+{
+    tag_number(&qual.ty)
+}
+
 // Adds the members of an unnamed structure or union to the names; false where one is there already.
 fn add_names(state: &State, number: u32, list: &mut MemberList) -> Result<bool, NoMemory>
     ensures rest { list.new ≡ record list.old { names = list.new.names; symbols = list.new.symbols } }
@@ -426,7 +433,7 @@ pub fn add_unnamed(
     if !is_unnamed(specs) {
         return Err(source.fault(at, Reason::UnnamedMember));
     }
-    let Some(number) = tag_number(&base.ty) else {
+    let Some(number) = qualified_tag(&base) else {
         return Err(source.fault(at, Reason::UnnamedMember));
     };
     if !add_names(state, number, &mut list)? {
@@ -441,14 +448,12 @@ pub fn add_unnamed(
 /// The state tells which structures and unions have a const member (6.3.2.1p1).
 pub fn law_constants()
     ensures { AreToldConstants }
-{
-}
+{}
 
 /// A unit begins with nothing noted of structures and unions (own).
 pub fn law_begin()
     ensures { BeginNoted }
-{
-}
+{}
 
 fn enumeration_type(number: u32) -> Ty
     ensures { type_of result ≡ enumeration number }

@@ -1,5 +1,5 @@
-use Rattle.std.proofs.Common.{◌≡◌, ap, sym, ◌∙◌, subst, refl, ℕ, ◌∷◌, ◌++◌, [], true, false, map}
-use Rattle.std.specs.Prelude.{not, Option}
+use Rattle.std.proofs.Common.{ap, sym, ◌∙◌, subst, ℕ, ◌∷◌, ◌++◌, [], map}
+use Rattle.std.specs.Prelude.{Option}
 use Rattle.std.proofs.lemmas.Option.{same_Some}
 use Rattle.std.specs.BTreeSet.{contains}
 use Rattle.std.specs.Ordering.{nat_cmp}
@@ -8,7 +8,7 @@ use Rattle.typing_words.specs.Words.{named_member}
 use Rattle.type_scope.specs.Known.{known_by}
 use Rattle.type_declarators.specs.Members.{IsAdded}
 use Rattle.type_declarators.proofs.Members.{member_refused, member_added, not_fresh}
-use Rattle.typing_env.specs.Seen.{member_seen, tag_seen}
+use Rattle.typing_env.specs.Seen.{SeenMember, member_seen, tag_seen}
 use Rattle.type_declarators.specs.MemberNames.{IsClash}
 use Rattle.c_lex.specs.TokenText.{text_at}
 use Rattle.type_declarators.specs.declared.tag.MemberList.{MemberList}
@@ -67,7 +67,7 @@ returns-clause-named c at is text has =
     let tags = map tag_seen (c.args.state.now).tags in
     let q = qualified_of c.args.member.qual in
     let e = same_Some c.in-Some.name at (sym c.in-Some.is ∙ is) in
-    let m = record { name = text_at c.args.source.now c.in-Some.name; qual = q } in
+    let m : SeenMember = record { name = text_at c.args.source.now c.in-Some.name; qual = q } in
     has_more_names c.args.source.now tags c.args.list c.add_name.new.self c.add.new.self m (c.symbol.result ∷ []) has
     (adds_more [] c.symbol.result c.args.list c.args.list c.add_name.new.self c.in_ok-add_name.field-0 c.in_ok-add_name.ensures.fresh
     c.if-not-branch.false c.in_ok-add_name.ensures.symbols c.in_ok-add_name.ensures.held (adds_none c.args.list))
@@ -81,10 +81,10 @@ returns-clause-named c at is text has =
 pub returns-clause-constant : goal.returns-clause-constant
 returns-clause-constant c noted has =
     let q = qualified_of c.args.member.qual in
-    let m = record { name = text_at c.args.source.now c.in-Some.name; qual = q } in
-    has_more_constant c.args.state.now c.args.list c.add_name.new.self c.add.new.self m c.is_constant.result noted
+    let m : SeenMember = record { name = text_at c.args.source.now c.in-Some.name; qual = q } in
+    has_more_constant c.args.state.now c.args.list c.add_name.new.self c.add.new.self m c.is_constant-constant.result noted
     (sym c.is_complete_qual.ensures ∙ c.if-not-is_complete_qual.false) has (ap (λ (l : MemberList). l.constant) c.add_name.ensures.rest)
-    c.in_ok-add.ensures.constant c.is_constant.ensures
+    c.in_ok-add.ensures.constant c.is_constant-constant.ensures
     (one_more c.args.list.members c.add.new.self.members (record { name = c.in_ok-name.name; qual = c.args.member.qual }) m
     (c.in_ok-add.ensures.ok ∙ ap (λ ms. ms ++ record { name = c.in_ok-name.name; qual = c.args.member.qual } ∷ [])
     (ap (λ (l : MemberList). l.members) c.add_name.ensures.rest))
