@@ -424,7 +424,7 @@ pub fn add_unnamed(
     list: MemberList,
     at: u32,
 ) -> Result<MemberList, TypeFault>
-    ensures ok { IfOk result (λ l. map member_seen l.members ≡ map member_seen list.members ++ record { name = []; qual = qualified_of base } ∷ []) }
+    ensures ok { IfOk result (λ l. (n : Naming) (env : Env) → IsAdded (spec.unnamed_member (specs.now).base (qualified_of base) (known_by n source.now state.now env)) (known_by n source.now state.now env) list.members l.members) }
     ensures named { IfOk result (λ l. HasSymbols source.now state.now → IsWhole (map seen.tag_seen state.now.tags) (qualified_of base).ty → HasNames source.now (map seen.tag_seen state.now.tags) list → HasNames source.now (map seen.tag_seen state.now.tags) l) }
     ensures constant { IfOk result (λ l. HasConstants state.now → IsWhole (map seen.tag_seen state.now.tags) (qualified_of base).ty → HasConstant (map seen.tag_seen state.now.tags) list → HasConstant (map seen.tag_seen state.now.tags) l) }
     ensures twice { IfErr result (λ e. e ≢ fault.NoMemory → spec.is_unnamed (specs.now).base ≡ true → HasSymbols source.now state.now → IsWhole (map seen.tag_seen state.now.tags) (qualified_of base).ty → HasNames source.now (map seen.tag_seen state.now.tags) list → IsClash (map seen.tag_seen state.now.tags) (map member_seen list.members) (record { name = []; qual = qualified_of base })) }

@@ -3,20 +3,23 @@ use Rattle.std.proofs.lemmas.Bool.{OnTrue_at, OnFalse_at}
 use Rattle.std.proofs.lemmas.Option.{none-some}
 use Rattle.c_types.specs.Types.{qualified_of}
 use Rattle.typing_env.specs.Seen.{SeenMember, member_seen, tag_seen}
+use Rattle.type_scope.specs.Known.{known_by}
 use Rattle.type_declarators.specs.MemberNames.{symbols_in}
 use Rattle.type_declarators.specs.declared.tag.MemberList.{MemberList}
 use Rattle.type_declarators.proofs.ConstantsKept.{has_more_constant, whole_extent}
-use Rattle.type_declarators.proofs.Members.{one_more}
+use Rattle.type_declarators.proofs.Members.{one_more, unnamed_added}
 use Rattle.type_declarators.proofs.NamesNoted.{brings_inside, has_more_names, clash_is}
 use Rattle.type_declarators.proofs.tag.add_unnamed.Goals as goal
 
 pub returns-clause-ok : goal.returns-clause-ok
-returns-clause-ok c =
+returns-clause-ok c n env =
     let q = qualified_of c.args.base in
-    one_more c.args.list.members c.add.new.self.members (record { name = c.in_ok-name.name; qual = c.args.base }) (record { name = []; qual = q })
+    unnamed_added (c.args.specs.now).base q (known_by n c.args.source.now c.args.state.now env) c.args.list.members c.add.new.self.members
+    (sym c.is_unnamed.ensures ∙ c.if-not-is_unnamed.false)
+    (one_more c.args.list.members c.add.new.self.members (record { name = c.in_ok-name.name; qual = c.args.base }) (record { name = []; qual = q })
     (c.in_ok-add.ensures.ok ∙ ap (λ ms. ms ++ record { name = c.in_ok-name.name; qual = c.args.base } ∷ [])
     (ap (λ (l : MemberList). l.members) c.add_names.ensures.rest))
-    (λ i. record { name = c.in_ok-name.ensures i; qual = q })
+    (λ i. record { name = c.in_ok-name.ensures i; qual = q }))
 
 pub returns-clause-named : goal.returns-clause-named
 returns-clause-named c noted whole has =
