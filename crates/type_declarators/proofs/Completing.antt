@@ -1,5 +1,5 @@
 -- The end of a member list: when a structure or union may have these members, and what is known then.
-use Rattle.std.proofs.Common.{◌≡◌, ℕ, zero, suc, ◌≤◌, Bool, true, false, List, [], ◌∷◌, length, map, refl, sym, ap, ◌∙◌, arith}
+use Rattle.std.proofs.Common.{◌≡◌, ℕ, zero, suc, ◌≤◌, Bool, true, false, true≢false, List, [], ◌∷◌, length, map, refl, sym, ap, ◌∙◌, arith}
 use Rattle.std.specs.Prelude.{not, ◌&&◌, if◌then◌else◌, is_some, slice_get, Option, Some, None}
 use Rattle.std.specs.Option.{option_map}
 use Rattle.std.proofs.lemmas.Option.{slice_get-map, none-some}
@@ -11,8 +11,8 @@ use Rattle.c_types.specs.declared.tags.Tag.{Tag}
 use Rattle.c_types.specs.declared.tags.TagKind.{TagKind}
 use Rattle.c_types.specs.declared.tags.TagKind.TheVariants.{Struct, Union}
 use Rattle.typing_env.specs.Env.{Env, and_then}
-use Rattle.typing_env.specs.Seen.{SeenMember, member_seen, tag_seen}
-use Rattle.typing_words.specs.Tags.{is_complete, are_distinct, names, completed}
+use Rattle.typing_env.specs.Seen.{SeenMember, SeenTag, member_seen, tag_seen}
+use Rattle.typing_words.specs.Tags.{extents, is_complete, are_distinct, names, completed}
 use Rattle.typing_words.specs.Words.{plain, tagged, has_members, close_tag}
 use Rattle.type_declarators.specs.Members.{may_complete}
 use Rattle.type_declarators.proofs.Extents.{extents_same}
@@ -80,6 +80,10 @@ complete_tagged : (tags : List Tag) (kind : TagKind) (tag : ℕ) → is_complete
 complete_tagged tags Struct tag = ap is_some (extents_same tags tag)
 complete_tagged tags Union tag = ap is_some (extents_same tags tag)
 
+pub complete_number : (tags : List SeenTag) (kind : TagKind) (tag : ℕ) → is_complete tags (tagged kind tag) ≡ is_some (extents tags tag)
+complete_number tags Struct tag = refl
+complete_number tags Union tag = refl
+
 tested : {A : Type 0} (a b d : Bool) (q : A) (f : Env → Env) (env : Env)
     → and_then (if a then Some (tt {0}, env) else None) (λ _. λ (x : Env). and_then (if b then Some (tt {0}, x) else None)
     (λ _. λ (y : Env). and_then (if d then Some (tt {0}, y) else None) (λ _. λ (z : Env). Some (q, f z))))
@@ -89,7 +93,7 @@ tested true true false q f env = refl
 tested true false d q f env = refl
 tested false b d q f env = refl
 
-close_is : (kind : TagKind) (number : ℕ) (members : List SeenMember) (env : Env)
+pub close_is : (kind : TagKind) (number : ℕ) (members : List SeenMember) (env : Env)
     → close_tag kind number members env
     ≡ (if not (has_members (slice_get env.tags number)) && (is_complete (completed env.tags number members) (tagged kind number)
     && are_distinct (names (completed env.tags number members) number))
@@ -134,10 +138,36 @@ pub closed : (kind : TagKind) (number : ℕ) (tags : List Tag) (members : List M
     ≡ Some (plain (tagged kind number), record env { tags = map tag_seen (below.completed tags number members) })
 closed kind number tags members env is apart may = closed_by kind number tags members env true is apart may
 
+not_may : {A : Type 0} (a b d : Bool) (q : A) → (a && b) ≡ false → (if a && (b && d) then Some q else None) ≡ None
+not_may true true d q e = absurd (true≢false e)
+not_may true false d q e = refl
+not_may false b d q e = refl
+
 pub not_closed : (kind : TagKind) (number : ℕ) (tags : List Tag) (members : List Member) (env : Env) → map tag_seen tags ≡ env.tags
-    → are_distinct (names (completed (map tag_seen tags) number (map member_seen members)) number) ≡ true → may_complete tags number members ≡ false
-    → close_tag kind number (map member_seen members) env ≡ None
-not_closed kind number tags members env is apart may = closed_by kind number tags members env false is apart may
+    → may_complete tags number members ≡ false → close_tag kind number (map member_seen members) env ≡ None
+not_closed kind number tags members env is may =
+    let ms = map member_seen members in
+    close_is kind number ms env
+    ∙ not_may (not (has_members (slice_get env.tags number))) (is_complete (completed env.tags number ms) (tagged kind number))
+    (are_distinct (names (completed env.tags number ms) number)) (plain (tagged kind number), record env { tags = completed env.tags number ms })
+    (ap (λ ts. not (has_members (slice_get ts number)) && is_complete (completed ts number ms) (tagged kind number)) (sym is)
+    ∙ ap (λ b. not (has_members (slice_get (map tag_seen tags) number)) && b)
+    (ap (λ ts. is_complete ts (tagged kind number)) (completed_seen tags number members) ∙ complete_tagged (below.completed tags number members) kind number)
+    ∙ may)
+
+both_true : (a b : Bool) → (not a && b) ≡ true → (a ≡ false) × (b ≡ true)
+both_true true b e = absurd (true≢false (sym e))
+both_true false b e = (refl, e)
+
+-- one that may be completed has no members, and is complete with these
+pub may_parts : (tags : List Tag) (number : ℕ) (members : List Member) → may_complete tags number members ≡ true
+    → (has_members (slice_get (map tag_seen tags) number) ≡ false)
+    × (is_some (extents (completed (map tag_seen tags) number (map member_seen members)) number) ≡ true)
+may_parts tags number members may =
+    let p = both_true (has_members (slice_get (map tag_seen tags) number)) (is_some (below.extents (below.completed tags number members) number)) may in (
+      p.0,
+      ap is_some (ap (λ ts. extents ts number) (completed_seen tags number members) ∙ extents_same (below.completed tags number members) number) ∙ p.1,
+    )
 
 -- 4. When a structure or union may be completed.
 

@@ -1,6 +1,8 @@
 pub mod Applied
 pub mod Bytes
 pub mod Completing
+pub mod ConstantsKept
+pub mod Declared
 pub mod Derived
 pub mod Enumerations
 pub mod Extents
@@ -8,6 +10,10 @@ pub mod Keywords
 pub mod Meanings
 pub mod Members
 pub mod Named
+pub mod NamesAdded
+pub mod NamesKept
+pub mod NamesNoted
+pub mod NamesTold
 pub mod Opening
 pub mod Parameters
 pub mod Pointers

@@ -4,12 +4,13 @@ use Rattle.std.specs.Prelude.{not, if◌then◌else◌, slice_get, Option, Some,
 use Rattle.std.proofs.lemmas.List.{map-append}
 use Rattle.std.proofs.lemmas.Option.{same_Some}
 use Rattle.c_lex.specs.TokenText.{TokenText, text_at}
+use Rattle.c_ast.specs.declared.declaration.Base.{Base}
 use Rattle.c_types.specs.Types.{Qualified}
 use Rattle.c_types.specs.declared.tags.Member.{Member}
 use Rattle.typing_env.specs.Env.{Env, and_then, spelling, symbol_in, symbol_of}
 use Rattle.typing_env.specs.Seen.{SeenMember, member_seen, tag_seen}
 use Rattle.typing_words.specs.Tags.{is_complete}
-use Rattle.typing_words.specs.Words.{named_member}
+use Rattle.typing_words.specs.Words.{named_member, is_unnamed, unnamed_member}
 use Rattle.type_scope.specs.Known.{Naming, known_by}
 use Rattle.type_scope.specs.declared.state.State.{State}
 use Rattle.type_scope.proofs.Seen.{symbol_is}
@@ -58,6 +59,20 @@ member_added n t s env at q before middle after m e same is seen = (
   record { name = text_at t at; qual = q } ∷ [],
   member_by n t s env at q true e,
   one_more before after m (record { name = text_at t at; qual = q }) (is ∙ ap (λ ms. ms ++ m ∷ []) same) seen,
+)
+
+-- an unnamed structure or union without a tag
+unnamed_is : (base : Base) (q : Qualified) (env : Env)
+    → unnamed_member base q env ≡ (if is_unnamed base then Some (record { name = []; qual = q } ∷ [], env) else None)
+unfolding unnamed_member
+unnamed_is base q env = complete_by (is_unnamed base) (λ (_ : Env). record { name = []; qual = q } ∷ []) env
+
+pub unnamed_added : (base : Base) (q : Qualified) (env : Env) (before after : List Member) → is_unnamed base ≡ true
+    → map member_seen after ≡ map member_seen before ++ record { name = []; qual = q } ∷ [] → IsAdded (unnamed_member base q env) env before after
+unnamed_added base q env before after e is = (
+  record { name = []; qual = q } ∷ [],
+  unnamed_is base q env ∙ ap (λ b. if b then Some (record { name = []; qual = q } ∷ [], env) else None) e,
+  is,
 )
 
 -- a name that isn't new

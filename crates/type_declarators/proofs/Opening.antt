@@ -1,15 +1,14 @@
 -- Structures and unions by their tags, by the steps of the definition.
-use Rattle.std.proofs.Common.{◌≡◌, ℕ, Bool, true, false, List, [], ◌∷◌, ◌++◌, length, map, refl, sym, ap, ◌∙◌}
-use Rattle.std.specs.Prelude.{if◌then◌else◌, slice_get, Option, Some, None}
+use Rattle.std.proofs.Common.{◌≡◌, ℕ, Bool, true, false, length, map, refl, sym, ap, ◌∙◌}
+use Rattle.std.specs.Prelude.{not, if◌then◌else◌, slice_get, Option, Some, None}
 use Rattle.std.specs.Option.{option_map}
 use Rattle.std.proofs.lemmas.List.{length-map}
 use Rattle.c_lex.specs.TokenText.{TokenText}
 use Rattle.c_types.specs.declared.tags.TagKind.{TagKind}
-use Rattle.typing_env.specs.Env.{Env, a_tag, an_enumeration, symbol_in, symbol_of}
+use Rattle.typing_env.specs.Env.{Env, and_then, a_tag, an_enumeration, symbol_in, symbol_of}
 use Rattle.typing_env.specs.Names.{tag_seen, with_tag_name, with_new_tag}
 use Rattle.typing_env.specs.Seen as seen
 use Rattle.typing_words.specs.Words.{plain, tagged, is_kind, new_tag, declare_tag, tag_or_new, reference, has_members, open_tag}
-use Rattle.type_declarators.specs.Members.{without_members}
 use Rattle.type_scope.specs.InScope.{InScope, tag_in, with_tag}
 use Rattle.type_scope.specs.Known.{Naming, tag_meaning_seen, with_scopes, with_tables, known_by}
 use Rattle.type_scope.specs.declared.state.State.{State}
@@ -118,41 +117,57 @@ not_referred alone kind at env e = rw e refl
 
 -- 4. One whose member list begins.
 
-last_of : (ts : List seen.SeenTag) (x : seen.SeenTag) → slice_get (ts ++ x ∷ []) (length ts) ≡ Some x
-last_of [] x = refl
-last_of (t ∷ ts) x = last_of ts x
-
 open_new : (kind : TagKind) (env : Env) → open_tag kind None env ≡ Some (length env.tags, with_new_tag kind env)
 unfolding open_tag new_tag
 open_new kind env = refl
 
--- a new one has no members
 pub new_opened : (n : Naming) (t : TokenText) (s s1 : State) (env : Env) (kind : TagKind) (number : ℕ) → number ≡ length s.tags
     → known_by n t s1 env ≡ with_new_tag kind (known_by n t s env)
-    → without_members (open_tag kind None (known_by n t s env)) ≡ Some (number, known_by n t s1 env)
+    → open_tag kind None (known_by n t s env) ≡ Some (number, known_by n t s1 env)
 new_opened n t s s1 env kind number next known =
     let k = known_by n t s env in
-    ap without_members (open_new kind k)
-    ∙ ap (λ o. if has_members o then None else Some (length k.tags, with_new_tag kind k)) (last_of k.tags (record { kind = kind; members = [] }))
-    ∙ ap (λ m. Some (m, with_new_tag kind k)) (counted s ∙ sym next)
-    ∙ ap (λ e. Some (number, e)) (sym known)
+    open_new kind k ∙ ap (λ m. Some (m, with_new_tag kind k)) (counted s ∙ sym next) ∙ ap (λ e. Some (number, e)) (sym known)
 
-open_is : (kind : TagKind) (at : ℕ) (env : Env) → open_tag kind (Some at) env ≡ tag_or_new at kind (tag_seen env true (symbol_of env at)) env
+-- one that has no members
+begun : Option (ℕ × Env) → Option (ℕ × Env)
+begun None = None
+begun (Some p) = if not (has_members (slice_get (p.1).tags p.0)) then Some p else None
+
+held_by : (b : Bool) (p : ℕ × Env) → and_then (if b then Some (tt {0}, p.1) else None) (λ _. λ (e : Env). Some (p.0, e)) ≡ (if b then Some p else None)
+held_by true p = refl
+held_by false p = refl
+
+begun_by : (o : Option (ℕ × Env))
+    → and_then o (λ (number : ℕ). λ (e : Env). and_then (if not (has_members (slice_get e.tags number)) then Some (tt {0}, e) else None)
+    (λ _. λ (x : Env). Some (number, x)))
+    ≡ begun o
+unfolding begun
+begun_by None = refl
+begun_by (Some p) = held_by (not (has_members (slice_get (p.1).tags p.0))) p
+
+open_is : (kind : TagKind) (at : ℕ) (env : Env) → open_tag kind (Some at) env ≡ begun (tag_or_new at kind (tag_seen env true (symbol_of env at)) env)
 unfolding open_tag
-open_is kind at env = refl
+open_is kind at env = begun_by (tag_or_new at kind (tag_seen env true (symbol_of env at)) env)
+
+begun_if : (number : ℕ) (now : Env) (b : Bool) → has_members (slice_get now.tags number) ≡ b
+    → begun (Some (number, now)) ≡ (if not b then Some (number, now) else None)
+unfolding begun
+begun_if number now b e = ap (λ x. if not x then Some (number, now) else None) e
 
 pub opened : (kind : TagKind) (at number : ℕ) (env now : Env)
     → tag_or_new at kind (tag_seen env true (symbol_of env at)) env ≡ Some (number, now) → has_members (slice_get now.tags number) ≡ false
-    → without_members (open_tag kind (Some at) env) ≡ Some (number, now)
-opened kind at number env now e none =
-    ap without_members (open_is kind at env ∙ e) ∙ ap (λ b. if b then None else Some (number, now)) none
+    → open_tag kind (Some at) env ≡ Some (number, now)
+opened kind at number env now e none = open_is kind at env ∙ ap begun e ∙ begun_if number now false none
 
 pub opened_twice : (kind : TagKind) (at number : ℕ) (env now : Env)
     → tag_or_new at kind (tag_seen env true (symbol_of env at)) env ≡ Some (number, now) → has_members (slice_get now.tags number) ≡ true
-    → without_members (open_tag kind (Some at) env) ≡ None
-opened_twice kind at number env now e some =
-    ap without_members (open_is kind at env ∙ e) ∙ ap (λ b. if b then None else Some (number, now)) some
+    → open_tag kind (Some at) env ≡ None
+opened_twice kind at number env now e some = open_is kind at env ∙ ap begun e ∙ begun_if number now true some
+
+begun_none : begun None ≡ None
+unfolding begun
+begun_none = refl
 
 pub not_opened : (kind : TagKind) (at : ℕ) (env : Env) → tag_or_new at kind (tag_seen env true (symbol_of env at)) env ≡ None
-    → without_members (open_tag kind (Some at) env) ≡ None
-not_opened kind at env e = ap without_members (open_is kind at env ∙ e)
+    → open_tag kind (Some at) env ≡ None
+not_opened kind at env e = open_is kind at env ∙ ap begun e ∙ begun_none

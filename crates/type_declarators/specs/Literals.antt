@@ -1,15 +1,17 @@
 -- Constants and string literals (6.4.4, 6.4.5), and static assertions (6.7.10). The functions of constants are typing_spec's word for word.
 use Rattle.std.specs.Prelude.{ℕ, zero, suc, ◌+◌, ◌==◌, ℤ, pos, unsigned_abs, Bool, true, false, if◌then◌else◌, List, [], ◌∷◌, ◌++◌, Option, Some, None}
-use Rattle.std.specs.Prelude.{is_some, Result, Ok, Err}
+use Rattle.std.specs.Prelude.{length, is_some, Result, Ok, Err}
 use Rattle.c_lex.specs.TokenText.{TokenText, text_at}
 use Rattle.c_lit.specs.Literals.{string_value}
 use Rattle.c_lit.specs.declared.integer.IntLit.{IntLit}
 use Rattle.c_lit.specs.declared.fault.LitFault.{LitFault}
-use Rattle.c_types.specs.Types.{int}
+use Rattle.c_types.specs.Types.{int, pointer}
 use Rattle.c_types.specs.declared.kind.IntKind.TheVariants.{Int}
+use Rattle.c_typed.specs.declared.tree.Node.TheOpen as shape
+use Rattle.c_typed.specs.Lawful.{literal_type}
 use Rattle.type_operands.specs.declared.operand.Form.{Form}
 use Rattle.type_operands.specs.declared.operand.Form.TheVariants as form
-use Rattle.type_operands.specs.Terms.{constant as constant_term, Expression, as_value}
+use Rattle.type_operands.specs.Terms.{leaf, constant as constant_term, Expression, as_value, as_place}
 
 -- 1. Constants.
 
@@ -38,6 +40,14 @@ bytes_then _ _ = None
 abbrev pub bytes_from : TokenText → ℕ → ℕ → Option (List ℕ)
 bytes_from t zero at = Some (0 ∷ [])
 bytes_from t (suc n) at = bytes_then (string_value (text_at t at)) (bytes_from t n (at + 1))
+
+-- the literal of a number as an operand: an array of `char` with static storage (6.4.5p6)
+abbrev pub string_literal : (number count line : ℕ) → Expression
+string_literal number count line = as_place false (leaf (shape.Str number) (pointer false (literal_type count)) line)
+
+abbrev pub strings_as : (number line : ℕ) → Option (List ℕ) → Option Expression
+strings_as number line None = None
+strings_as number line (Some bytes) = Some (string_literal number (length bytes) line)
 
 -- 3. Static assertions.
 

@@ -1,16 +1,11 @@
 -- Members of structures and unions as they are added, and what completes one (6.7.2.1).
-use Rattle.std.specs.Prelude.{◌≡◌, ℕ, Bool, not, ◌&&◌, if◌then◌else◌, List, ◌++◌, map, slice_get, Option, Some, None, is_some}
+use Rattle.std.specs.Prelude.{◌≡◌, ℕ, Bool, not, ◌&&◌, List, ◌++◌, map, slice_get, Option, Some, is_some}
 use Rattle.c_types.specs.Layout.{extents, completed}
 use Rattle.c_types.specs.declared.tags.Member.{Member}
 use Rattle.c_types.specs.declared.tags.Tag.{Tag}
 use Rattle.typing_env.specs.Env.{Env}
 use Rattle.typing_env.specs.Seen.{SeenMember, member_seen, tag_seen}
 use Rattle.typing_words.specs.Words.{has_members}
-
--- a member list begins only where no other one ended: the definition refuses the second one at its end (6.7.2.3p1)
-abbrev pub without_members : Option (ℕ × Env) → Option (ℕ × Env)
-without_members None = None
-without_members (Some p) = if has_members (slice_get (p.1).tags p.0) then None else Some p
 
 -- what the definition finds are the members behind those before, and nothing else is known then
 abbrev pub IsAdded : Option (List SeenMember × Env) → Env → List Member → List Member → Type 0

@@ -2,7 +2,8 @@
 use Rattle.std.specs.Prelude.{◌^◌, Bool, true, false, not, ◌&&◌, ◌||◌, if◌then◌else◌, pos, ◌<ℤ◌, List, [], ◌∷◌, map, reverse, Option, Some, None}
 use Rattle.c_types.specs.Types.{Qualified, qualified_of, params_of}
 use Rattle.c_ast.specs.declared.declaration.Base.{Base}
-use Rattle.c_ast.specs.declared.declaration.Base.TheBlock.{Plain}
+use Rattle.c_ast.specs.declared.declaration.Base.TheBlock.{Plain, Ident}
+use Rattle.c_ast.specs.declared.declaration.Declarator.{Declarator}
 use Rattle.typing_env.specs.Env.{if_found}
 use Rattle.typing_env.specs.Seen.{SeenTag}
 use Rattle.typing_words.specs.Words.{Words, Derivation, pointer_to, array_of, function_of, derived_by}
@@ -41,6 +42,11 @@ parts_seen parts = map part_seen (reverse parts)
 abbrev pub applied : List SeenTag → List Derivation → Qualified → Option Qualified
 applied tags [] q = Some q
 applied tags (d ∷ ds) q = if_found (derived_by tags q d) (applied tags ds)
+
+-- the declarator is a name alone
+abbrev pub is_name : Declarator → Bool
+is_name (Ident (Some at)) = true
+is_name _ = false
 
 -- the count of an array is one that an integer type has
 abbrev pub FitsCount : held.Derivation → Type 0

@@ -1,6 +1,7 @@
 // Specifiers, declarators and static assertions, from their parts (6.7, 6.7.2 to 6.7.6, 6.7.8, 6.7.10).
 ghost use Rattle.std.specs.Prelude.{◌≡◌, ◌+◌, ◌<◌, ◌^◌, ◌<ℤ◌, ℤ, List, Bool, true, Option, Some, None, IfOk, MatchOption, map, not, ◌||◌, if◌then◌else◌, pos, int_le, reverse, drop};
 ghost use Rattle.std.specs.Option.{option_map, option_copied};
+ghost use Rattle.c_grammar.specs.Grammar as grammar;
 ghost use Rattle.c_lex.specs.declared.token.Word.{Word};
 ghost use Rattle.c_types.specs.Types.{type_of, qualified_of, params_of, pointer, array, function, Params};
 ghost use Rattle.type_name_space.specs.Scopes.{visible};
@@ -16,7 +17,7 @@ ghost use Rattle.type_scope.specs.Strings.{strings_of};
 ghost use Rattle.type_declarators.specs.Finds.{Finds};
 ghost use Rattle.type_declarators.specs.Keywords.{Says, IsSaid, AreCounted, storage_seen};
 ghost use Rattle.type_declarators.specs.Literals as literals;
-ghost use Rattle.type_declarators.specs.Parts.{qualified_so, is_plain, with_keywords, part_seen, parts_seen, applied, FitsCount, AllFit};
+ghost use Rattle.type_declarators.specs.Parts.{is_name, qualified_so, is_plain, with_keywords, part_seen, parts_seen, applied, FitsCount, AllFit};
 
 use crate::literal::literal_bytes;
 use crate::words::{Storage, Words, pointer_words};
@@ -401,12 +402,16 @@ pub fn derived(
 }
 
 /// Whether the declarator is a name alone.
-pub fn is_name(d: &Declarator) -> bool {
+pub fn is_name(d: &Declarator) -> bool
+    ensures { result ≡ is_name d.now }
+{
     matches!(d, Declarator::Ident(Some(_)))
 }
 
 /// The number of the token of the name that it declares.
-pub fn name_of(d: &Declarator) -> Option<u32> {
+pub fn name_of(d: &Declarator) -> Option<u32>
+    ensures { result ≡ grammar.name_of d.now }
+{
     match d {
         Declarator::Ident(name) => *name,
         Declarator::Pointer(_, d) => name_of(d.get()),

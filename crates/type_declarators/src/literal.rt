@@ -1,5 +1,5 @@
 // Constants and string literals (6.4.4, 6.4.5).
-ghost use Rattle.std.specs.Prelude.{◌≡◌, ◌+◌, ◌<◌, ◌^◌, IfOk};
+ghost use Rattle.std.specs.Prelude.{◌≡◌, ℕ, ◌+◌, ◌<◌, ◌^◌, List, [], ◌∷◌, ◌++◌, length, Option, IfOk, OnOk};
 ghost use Rattle.c_lex.specs.TokenText.{text_at, line_at};
 ghost use Rattle.c_lit.specs.Integers as integers;
 ghost use Rattle.c_lit.specs.Literals as characters;
@@ -9,7 +9,9 @@ ghost use Rattle.type_operands.specs.Terms.{expression_of};
 ghost use Rattle.typing_env.specs.Env.{line_in};
 ghost use Rattle.type_scope.specs.declared.fault.TypeFault.TheVariants as told;
 ghost use Rattle.type_declarators.specs.Finds.{Finds};
-ghost use Rattle.type_declarators.specs.Literals.{literal_in, character_in, bytes_from};
+ghost use Rattle.type_scope.specs.Numbered.{HasLiterals};
+ghost use Rattle.type_scope.specs.Numbered.{literal_bytes as state_literals};
+ghost use Rattle.type_declarators.specs.Literals.{literal_in, character_in, bytes_from, string_literal, strings_as};
 
 use c_lit::{LitFault, char_value, int_value, string_bytes};
 use c_typed::Node;
@@ -18,7 +20,7 @@ use std::alloc::Global;
 use type_operands::{Operand, integer, leaf, place, value};
 use type_reasons::Reason;
 use type_scope::{Source, State, TypeFault};
-use ub_base::Bytes;
+use ub_base::{Bytes, NoMemory};
 
 // The fault of a constant or literal that has no value: for this reason, where it isn't too wide.
 fn literal_fault(source: &Source<'_>, at: u32, fault: LitFault, reason: Reason) -> TypeFault
@@ -81,12 +83,20 @@ pub fn literal_bytes(
     Ok(bytes)
 }
 
-fn array_of_char(alloc: Global, count: u64) -> Result<Ty, TypeFault> {
+// The literal of this number as an operand: an array of `char` with so many elements (6.4.5p6).
+fn literal_operand(alloc: Global, number: u32, count: u64, line: u32) -> Result<Operand, NoMemory>
+    ensures { IfOk result (λ o. expression_of o ≡ string_literal number count line) }
+{
     let element = Qual {
         ty: Ty::Int(IntKind::Char),
         constant: false,
     };
-    Ok(Ty::Array(Shared::new(alloc, element)?, Some(count)))
+    let array = Qual {
+        ty: Ty::Array(Shared::new(alloc, element)?, Some(count)),
+        constant: false,
+    };
+    let ty = Ty::Pointer(Shared::new(alloc, array)?);
+    Ok(place(leaf(alloc, Node::Str(number), ty, line), false))
 }
 
 /// String literals as an expression: an array of `char` with static storage (6.4.5p6).
@@ -95,15 +105,13 @@ pub fn strings(
     state: &mut State,
     first: u32,
     count: u32,
-) -> Result<Operand, TypeFault> {
-    let alloc = state.alloc;
-    let bytes = literal_bytes(alloc, source, first, count)?;
-    let array = Qual {
-        ty: array_of_char(alloc, bytes.len() as u64)?,
-        constant: false,
-    };
+) -> Result<Operand, TypeFault>
+    ensures reads { first + count < 2 ^ 32 → Finds expression_of (strings_as (length (state_literals state.old)) (line_in source.now.list (line_at source.now first)) (bytes_from source.now count first)) result }
+    ensures named { first + count < 2 ^ 32 → OnOk result ((bytes_at : ℕ → Option (List ℕ)) (names : List ℕ) (name : ℕ) → bytes_at name ≡ bytes_from source.now count first → HasLiterals bytes_at names state.old → HasLiterals bytes_at (names ++ name ∷ []) state.new) }
+    ensures rest { state.new ≡ record state.old { literals = state.new.literals } }
+{
+    let bytes = literal_bytes(state.alloc, source, first, count)?;
+    let length = bytes.len() as u64;
     let number = state.add_literal(bytes)?;
-    let ty = Ty::Pointer(Shared::new(alloc, array)?);
-    let tree = leaf(alloc, Node::Str(number), ty, source.line(first));
-    Ok(place(tree, false))
+    Ok(literal_operand(state.alloc, number, length, source.line(first))?)
 }

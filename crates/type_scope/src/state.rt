@@ -78,6 +78,8 @@ impl State {
         ensures uses { IfOk result (λ s. (n : Naming) → HasUses n s []) }
         ensures evaluated { IfOk result (λ s. s.unevaluated ≡ false) }
         ensures literals { IfOk result (λ s. literal_bytes s ≡ []) }
+        ensures tags { IfOk result (λ s. s.tags ≡ []) }
+        ensures tag_rows { IfOk result (λ s. s.tag_rows.items ≡ []) }
     {
         let symbols = source.symbol_count();
         let objects = empty_rows(alloc, order.len())?;
@@ -348,7 +350,7 @@ impl State {
     pub fn add_tag(&mut self, kind: TagKind) -> Result<u32, NoMemory>
         ensures number { IfOk result (λ number. number ≡ length self.old.tags) }
         ensures known { OnOk result ((n : Naming) (t : TokenText) (env : Env) → known_by n t self.new env ≡ with_new_tag kind (known_by n t self.old env)) }
-        ensures row { OnOk result ((row : TagRow) × (self.new.tag_rows.items ≡ self.old.tag_rows.items ++ row ∷ [])) }
+        ensures row { OnOk result ((row : TagRow) × (row.constant ≡ false) × (self.new.tag_rows.items ≡ self.old.tag_rows.items ++ row ∷ [])) }
         ensures rest { self.new ≡ record self.old { tags = self.new.tags; tag_rows = self.new.tag_rows } }
     {
         if self.tags.is_full() {

@@ -337,15 +337,19 @@ abbrev pub has_members : Option SeenTag → Bool
 has_members None = false
 has_members (Some t) = is_any t.members
 
--- the structure whose member list begins: that of the same tag in this scope, or a new one (6.7.2.3p4)
+-- the structure whose member list begins: that of the same tag in this scope, whose content isn't defined so far (6.7.2.3p1), or a new
+-- one (6.7.2.3p4)
 unfoldable pub open_tag : TagKind → Option ℕ → Typing ℕ
 open_tag kind None = new_tag kind
 open_tag kind (Some at) = do
   env ← known
-  tag_or_new at kind (tag_seen env true (symbol_of env at))
+  number ← tag_or_new at kind (tag_seen env true (symbol_of env at))
+  here ← known
+  holds (not (has_members (slice_get here.tags number)))
+  pure number
 
--- the end of the member list: the content is defined once (6.7.2.3p1), there is a member (6.7.2.1p8), and no more bytes than a
--- type may have
+-- the end of the member list: the content is defined once, and so not by a list inside this one (6.7.2.3p1), there is a member
+-- (6.7.2.1p8), and no more bytes than a type may have
 unfoldable pub close_tag : TagKind → ℕ → List SeenMember → Typing Qualified
 close_tag kind number members = do
   env ← known
