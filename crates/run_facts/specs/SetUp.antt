@@ -16,7 +16,7 @@ use Rattle.run_statements.specs.declared.numbers.Numbers.{Numbers}
 use Rattle.code_view.specs.Known.{AreInOrder}
 use Rattle.code_view.specs.Laws.{IsCodeOfProgram}
 use Rattle.frame_laws.specs.Named.{MainIsBlock}
-use Rattle.run_laws.specs.Small.{EndInTime}
+use Rattle.value_facts.specs.Small.{EndInTime}
 
 -- the limits of the profile on open frames and created bytes
 pub record IsProfile (limits : Limits) : Type 0 where

@@ -29,7 +29,7 @@ use Rattle.run_machine.specs.Picks.{top_of}
 use Rattle.code_view.specs.Named.{NamesAreOpen, OpenIsKnown}
 use Rattle.run_laws.specs.Beginning.{BeginsOpen, HasJustBegun}
 use Rattle.run_laws.specs.Open.{IsLawfulCode}
-use Rattle.run_laws.specs.Small.{AreSmall}
+use Rattle.value_facts.specs.Small.{AreSmall}
 use Rattle.run_laws.proofs.Frames.{each_at, one_open, top_frame}
 use Rattle.run_laws.proofs.Given.{addresses_of}
 

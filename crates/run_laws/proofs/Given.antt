@@ -42,7 +42,7 @@ use Rattle.code_view.specs.Named.{ListIsThere, NamedIsOpen, NamesAreOpen, OpenIs
 use Rattle.run_laws.specs.Asked.{CodeHasRooms}
 use Rattle.run_laws.specs.Given.{MovesAreNear, OpenCanBeTaken, OpenMayTake, OpenMayTakeNext, OpenTakesGiven}
 use Rattle.run_laws.specs.Open.{aside, IsOpen}
-use Rattle.run_laws.specs.Small.{EndInTime}
+use Rattle.value_facts.specs.Small.{EndInTime}
 use Rattle.run_laws.proofs.Frames.{one_open, top_frame}
 
 -- each row begins at an address

@@ -1,7 +1,4 @@
 mod Asked
-mod Numbers
-mod Scripts
-mod Acting
 mod Sites
 mod Near
 mod Frames

@@ -48,8 +48,8 @@ use Rattle.run_events.specs.Nodes.{head_of, IsNearBy}
 use Rattle.run_laws.proofs.Sites.{all_both, in_nodes, parts, site_in}
 use Rattle.run_laws.specs.Given.{MovesAreNear}
 use Rattle.run_laws.specs.Sited.{IsLawfulTree}
-use Rattle.run_laws.specs.Small.{AreSmall, EndInTime, IsSmall}
-use Rattle.run_laws.proofs.Numbers.{conv_small}
+use Rattle.value_facts.specs.Small.{AreSmall, EndInTime, IsSmall}
+use Rattle.value_facts.proofs.Numbers.{conv_small}
 
 pub integer_small : (v : Value) → IsSmall v → unsigned_abs (integer_of v) < 2 ^ 64
 integer_small (Int z) h = h

@@ -58,7 +58,7 @@ use Rattle.run_machine.specs.Taking.{Decides, EventStands, IsPast, TakesEvent, a
 use Rattle.code_view.specs.Events.{EventsAreEvaluated, IsListedAt}
 use Rattle.code_view.specs.Named.{NamedIsOpen, NamesAreOpen, SlotIsOpen}
 use Rattle.run_laws.specs.Open.{aside, IsLawfulCode, IsOpen}
-use Rattle.run_laws.specs.Small.{ActsGiveSmall, AreSmall, EndInTime, FillsSmall, HasSmallBytes, IsSmall, NodeFillsSmall}
+use Rattle.value_facts.specs.Small.{ActsGiveSmall, AreSmall, EndInTime, FillsSmall, HasSmallBytes, IsSmall, NodeFillsSmall}
 use Rattle.run_laws.specs.Staying.{MovesOn, OpenStays, moved_on}
 use Rattle.run_laws.proofs.Frames.{top_frame}
 use Rattle.run_laws.proofs.Given.{Laws, act_is, end_is, first_is, in_listing, part_same, root_is, rooms_is}

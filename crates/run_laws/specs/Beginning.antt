@@ -19,7 +19,7 @@ use Rattle.run_machine.specs.Ending.{KeepToRooms}
 use Rattle.run_machine.specs.Picks.{top_of}
 use Rattle.code_view.specs.Named.{NamesAreOpen}
 use Rattle.run_laws.specs.Open.{IsLawfulCode, IsOpen}
-use Rattle.run_laws.specs.Small.{EndInTime, HasSmallBytes, ListsAreSmall}
+use Rattle.value_facts.specs.Small.{EndInTime, HasSmallBytes, ListsAreSmall}
 
 -- What the beginning leaves in the machine, beside that it stands for the definitions' next state: this full expression is open in the top frame, with just
 -- the choices that are made at once, and there are rooms for its values.

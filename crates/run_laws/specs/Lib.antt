@@ -1,5 +1,4 @@
 pub mod Asked
-pub mod Small
 pub mod Sited
 pub mod Open
 pub mod Given

@@ -17,7 +17,7 @@ use Rattle.run_machine.specs.Taking.{AreLawful, StandsOpen}
 use Rattle.code_view.specs.Known.{AreInOrder}
 use Rattle.code_view.specs.Named.{NamesAreOpen}
 use Rattle.run_laws.specs.Sited.{IsLawfulTree}
-use Rattle.run_laws.specs.Small.{AreSmall, EndInTime, HasSmallBytes, ListsAreSmall}
+use Rattle.value_facts.specs.Small.{AreSmall, EndInTime, HasSmallBytes, ListsAreSmall}
 
 -- the code of a lawful program: its full expressions are the program's in turn, the nodes of each are lawful, and so are its constants
 pub record IsLawfulCode (p : Program) (code : Code) : Type 0 where

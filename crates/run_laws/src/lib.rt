@@ -7,7 +7,6 @@ ghost use Rattle.run_laws.specs.Asked.{RoomsAreAsked, CodeHasRooms, EventsAreAsk
 ghost use Rattle.run_laws.specs.Given.{MovesAreNear, OpenTakesGiven, OpenCanBeTaken, OpenMayTake, OpenMayTakeNext};
 ghost use Rattle.run_laws.specs.Initial.{OpenIsInitializer, OpenMayStart, OpenMayStartNext};
 ghost use Rattle.run_laws.specs.Beginning.{BeginsOpen};
-ghost use Rattle.run_laws.specs.Small.{ActsGiveSmall};
 ghost use Rattle.run_laws.specs.Staying.{OpenStays};
 
 use code_view::{law_constants, law_events, law_named, law_rooms};
@@ -15,6 +14,7 @@ use run_code::law_choices;
 use run_events::law_acts;
 use run_machine::{law_events as law_taken_events, law_picks};
 use run_state::law_operands;
+use value_facts::law_small;
 
 /// What code_view proves of the rooms, the events, the labels and the constants of a lawful program's code is what run_machine asks of them.
 pub fn law_asked()
@@ -27,11 +27,6 @@ pub fn law_asked()
     law_rooms();
     law_constants();
 }
-
-/// From integers and addresses below 2^64 in size, in a store whose bytes are below 256, an event that isn't a body gives such a value, and leaves such bytes.
-pub fn law_small()
-    ensures { ActsGiveSmall }
-{}
 
 /// A node of a lawful tree moves a pointer by fewer than 2^127 bytes, where the values that were given are small (6.5.6p8).
 pub fn law_near()

@@ -1,6 +1,6 @@
 -- The sizes of types by their layout, which compatible types share.
 use Rattle.std.specs.Prelude.{◌≡◌, Bool, ℕ, false, List, Option, Some, None}
-use Rattle.c_types.specs.Types.{CType, array, function, Params, none, more, Compatible}
+use Rattle.c_types.specs.Types.{CType, function, Compatible}
 use Rattle.c_types.specs.Layout.{extent, extents}
 use Rattle.c_types.specs.declared.tags.Extent.{Extent}
 use Rattle.c_types.specs.declared.tags.Tag.{Tag}
