@@ -48,7 +48,7 @@ use Rattle.run_state.specs.declared.machine.Machine.{Machine}
 use Rattle.run_state.specs.Operands.{StandsObjects, is_open, IsThere, is_integer, IsNamed}
 use Rattle.run_state.specs.Stands.{StandsMemory, StandLocals}
 use Rattle.code_view.specs.Known.{IsPlaced, NamedIsPlaced}
-use Rattle.code_view.specs.Named.{SlotIsOpen, NamedIsOpen, ListIsThere, NodeIsNamed, OpenIsPlaced, OpenIsKnown, OpenIsNamed}
+use Rattle.code_view.specs.Named.{SlotIsOpen, NamedIsOpen, ListIsThere, NodeIsNamed, OpenIsPlaced, OpenIsKnown, OpenIsNamed, OpenRootIsNamed}
 use Rattle.code_view.proofs.Viewed.{all_both}
 use Rattle.code_view.proofs.Whole.{both_give}
 use Rattle.code_view.proofs.Each.{each_laid}
@@ -300,3 +300,12 @@ open_named m firsts open_blocks nodes n laid i x lawful order at are is node_at 
     let fine =
     both_give (SiteIsLawful p h.0) (λ y. NamedIsOpen m firsts open_blocks y.head) (Fine h.0 m firsts open_blocks) (λ y l o. (l, o)) (sites t) h.1 is in
     node_named h.0 m firsts open_blocks x.tree.now (in_nodes (Fine h.0 m firsts open_blocks) firsts t nodes i x are fine node_at)
+
+pub open_root_named : OpenRootIsNamed
+open_root_named m firsts open_blocks n laid lawful order at is quiet =
+    let t = laid.root.now in
+    let p = m.program.now in
+    let h = each_laid p (IsLawfulTree p) (own_lawful p) (λ g e l. (e.blocks, l.nodes)) m.code.now n laid lawful order at in
+    let fine =
+    both_give (SiteIsLawful p h.0) (λ y. NamedIsOpen m firsts open_blocks y.head) (Fine h.0 m firsts open_blocks) (λ y l o. (l, o)) (sites t) h.1 is in
+    (names h.0 m firsts open_blocks t fine).0 quiet

@@ -68,3 +68,9 @@ OpenIsNamed = (m : Machine) (firsts : List ℕ) (open_blocks : List (ℕ × ℕ)
     → IsLawful m.program.now → AreInOrder m.program.now m.code.now → slice_get m.code.now.expressions.items n ≡ Some laid
     → AreNodes firsts laid.root.now nodes → NamesAreOpen m firsts open_blocks laid.root.now → slice_get nodes i ≡ Some x
     → NodeIsNamed m firsts open_blocks x.tree.now
+
+-- 4. So does the whole expression, where it is known beforehand: a constant, or the address of an object.
+abbrev pub OpenRootIsNamed : Type 0
+OpenRootIsNamed = (m : Machine) (firsts : List ℕ) (open_blocks : List (ℕ × ℕ)) (n : ℕ) (laid : Laid) → IsLawful m.program.now
+    → AreInOrder m.program.now m.code.now → slice_get m.code.now.expressions.items n ≡ Some laid → NamesAreOpen m firsts open_blocks laid.root.now
+    → is_quiet (tree_of (expr_of laid.root.now)) ≡ true → IsNamed m firsts open_blocks (expr_of laid.root.now)

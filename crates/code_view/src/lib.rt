@@ -9,7 +9,7 @@ ghost use Rattle.code_view.specs.Events.{EventsAreOfClasses, EventsAreEvaluated,
 ghost use Rattle.code_view.specs.Labels.{DefinedKeepLabels};
 ghost use Rattle.code_view.specs.Rooms.{RoomsAreThere};
 ghost use Rattle.code_view.specs.Blocks.{BlocksStandInCode, OpenBlocksAreThere, ExpressionsStandInCode};
-ghost use Rattle.code_view.specs.Named.{OpenIsPlaced, OpenIsKnown, OpenIsNamed};
+ghost use Rattle.code_view.specs.Named.{OpenIsPlaced, OpenIsKnown, OpenIsNamed, OpenRootIsNamed};
 ghost use Rattle.code_view.specs.Starting.{LawfulStartStands};
 
 /// The number of a full expression in the code stands for the expression of its typed tree.
@@ -52,12 +52,13 @@ pub fn law_views()
 {}
 
 /// Where the blocks of the automatic objects are open that a full expression of a lawful program names, each object that it names stands (6.2.4), so
-/// that what the code takes to be known beforehand is so; and each of its nodes has the operands that its operator takes, with what is known beforehand of them
-/// named.
+/// that what the code takes to be known beforehand is so; each of its nodes has the operands that its operator takes, with what is known beforehand of them
+/// named; and so is the whole, where it is known beforehand.
 pub fn law_named()
     ensures placed { OpenIsPlaced }
     ensures known { OpenIsKnown }
     ensures nodes { OpenIsNamed }
+    ensures root { OpenRootIsNamed }
 {}
 
 /// Each event that is listed of a full expression is one that its node has, so of a node that isn't known beforehand, and each effect stores. In the code

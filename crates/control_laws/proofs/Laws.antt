@@ -26,7 +26,7 @@ use Rattle.run_state.specs.Stands.{Stands, StandsFrame}
 use Rattle.code_view.specs.Blocks.{BlocksStandInCode, ExpressionsStandInCode, OpenBlocksAreThere}
 use Rattle.code_view.specs.Known.{CodeIsKnown}
 use Rattle.code_view.specs.Labels.{DefinedKeepLabels}
-use Rattle.code_view.specs.Named.{OpenIsPlaced}
+use Rattle.code_view.specs.Named.{OpenIsPlaced, OpenRootIsNamed}
 use Rattle.run_laws.specs.Asked.{CodeHasRooms, LabelsAreAsked}
 
 pub record Laws : Type 0 where
@@ -37,12 +37,13 @@ pub record Laws : Type 0 where
   pub labels : DefinedKeepLabels
   pub placed : OpenIsPlaced
   pub known : CodeIsKnown
+  pub root : OpenRootIsNamed
   pub rooms : CodeHasRooms
   pub asked : LabelsAreAsked
 
-pub laws_of : TextIsKept → BlocksStandInCode → OpenBlocksAreThere → ExpressionsStandInCode → DefinedKeepLabels → OpenIsPlaced → CodeIsKnown → CodeHasRooms
-    → LabelsAreAsked → Laws
-laws_of text blocks there expressions labels placed known rooms asked = record {
+pub laws_of : TextIsKept → BlocksStandInCode → OpenBlocksAreThere → ExpressionsStandInCode → DefinedKeepLabels → OpenIsPlaced → CodeIsKnown → OpenRootIsNamed
+    → CodeHasRooms → LabelsAreAsked → Laws
+laws_of text blocks there expressions labels placed known root rooms asked = record {
   text = text;
   blocks = blocks;
   there = there;
@@ -50,6 +51,7 @@ laws_of text blocks there expressions labels placed known rooms asked = record {
   labels = labels;
   placed = placed;
   known = known;
+  root = root;
   rooms = rooms;
   asked = asked;
 }

@@ -1,11 +1,17 @@
 -- Where a full expression is open in the top frame, it stands as picks ask it; and where the control step is the canonical pick, it can be settled.
-use Rattle.std.proofs.Common.{◌≡◌, ℕ, Bool, true, false, [], ◌∷◌, length, reverse, Option, Some, None, slice_get, refl, sym}
+use Rattle.std.proofs.Common.{◌≡◌, ℕ, Bool, true, false, List, [], ◌∷◌, length, reverse, Option, Some, None, slice_get, refl, sym}
 use Rattle.std.proofs.Common.{ap, subst, ◌∙◌}
 use Rattle.std.specs.Prelude.{is_none}
 use Rattle.std.proofs.lemmas.List.{length-reverse}
+use Rattle.std.proofs.lemmas.List.Elements.{All-weaker}
 use Rattle.std.proofs.lemmas.Option.{same_Some}
 use Rattle.c_typed.specs.declared.program.Program.{Program}
+use Rattle.c_typed.specs.declared.tree.Node.TheOpen as shape
 use Rattle.c_typed.specs.declared.tree.Place.{Place}
+use Rattle.c_typed.specs.declared.tree.Slot.{Slot}
+use Rattle.c_typed.specs.declared.tree.Slot.TheVariants as slot
+use Rattle.c_typed.specs.declared.tree.Typed.{Typed}
+use Rattle.c_typed.specs.Sites.{Head, sites}
 use Rattle.c_model.specs.ChoiceLaws.{IsClosed}
 use Rattle.c_model.specs.Control.{Todo, ready_work}
 use Rattle.c_model.specs.Runs.{State, canonical_pick, chosen_pick}
@@ -29,7 +35,7 @@ use Rattle.run_machine.specs.Ending.{IsResultOf}
 use Rattle.run_machine.specs.Jumps.{HasCases}
 use Rattle.run_machine.specs.Settling.{CanSettle, GoesBehind, IsUsable}
 use Rattle.run_machine.specs.Taking.{StandsOpen}
-use Rattle.code_view.specs.Named.{NamesAreOpen}
+use Rattle.code_view.specs.Named.{NamedIsOpen, NamesAreOpen, SlotIsOpen}
 use Rattle.frame_laws.specs.Facts.{IsBehind}
 use Rattle.frame_laws.specs.Frames.{open_blocks}
 use Rattle.frame_laws.specs.Scopes.{ExprFits}
@@ -42,7 +48,23 @@ use Rattle.control_laws.proofs.Laws.{Laws}
 use Rattle.control_laws.proofs.Rooms.{LaysOut, lays_out}
 use Rattle.control_laws.proofs.Seen.{firsts}
 use Rattle.control_laws.proofs.Steps.{can_step, labels_of}
-use Rattle.control_laws.proofs.Top.{can_end, code, frame, meaning, names_open, objects, rooms}
+use Rattle.control_laws.proofs.Top.{can_end, code, frame, lawful_now, meaning, names_open, objects, order_now, rooms}
+
+-- what is open is so whatever was touched
+slot_clear : (m : Machine) (firsts : List ℕ) (bs : List (ℕ × ℕ)) (s : Slot) → SlotIsOpen m firsts bs s → SlotIsOpen (record m { items = [] }) firsts bs s
+slot_clear m firsts bs (slot.Auto block decl) h = h
+slot_clear m firsts bs (slot.Static number) h = h
+
+name_clear : (m : Machine) (firsts : List ℕ) (bs : List (ℕ × ℕ)) (h : Head) → NamedIsOpen m firsts bs h → NamedIsOpen (record m { items = [] }) firsts bs h
+name_clear m firsts bs (shape.Obj named) is = slot_clear m firsts bs named is
+name_clear m firsts bs (shape.List named bytes) is = slot_clear m firsts bs named is
+name_clear m firsts bs _ is = tt
+
+names_clear : (m : Machine) (firsts : List ℕ) (bs : List (ℕ × ℕ)) (t : Typed) → NamesAreOpen m firsts bs t
+    → NamesAreOpen (record m { items = [] }) firsts bs t
+names_clear m firsts bs t all =
+    All-weaker (λ s. NamedIsOpen m firsts bs s.head) (λ s. NamedIsOpen (record m { items = [] }) firsts bs s.head)
+    (λ s h. name_clear m firsts bs s.head h) (sites t) all
 
 open_here : (world : World) (meaning : Meaning) (m : Machine) (height : ℕ) (o : Open) (stage : Option Stage) (f : Scene) (b : Option Begun) (s : Stage)
     (e : Begun) → StandsBegun world meaning m height o stage f b None → stage ≡ Some s → b ≡ Some e → StandsExpression world meaning m height o s f e None
@@ -142,14 +164,17 @@ module _ (laws : Laws) (world : World) (p : Program) (numbers : Numbers) (m : Ma
   cases_of (Some k) (for_use.GoAgain b) is stands = tt
   cases_of (Some k) for_use.Result is stands = tt
 
-  usable : IsAtControl world p m st → (s : Stage) (laid : Laid) → m.top.stage ≡ Some s → slice_get m.code.now.expressions.items s.expression ≡ Some laid
+  usable : (s : Stage) (laid : Laid) → m.top.stage ≡ Some s → slice_get m.code.now.expressions.items s.expression ≡ Some laid
       → IsUsable m st.top.scene laid
-  usable a s laid stage at =
+  usable s laid stage at =
       let names = open_names s stage laid at in
       record {
         firsts = firsts world p m m.top st.top st.held (code laws world p numbers m st n g);
         value = (lays_here s stage laid at).lays.value;
-        named = λ quiet. a.named s laid (firsts world p m m.top st.top st.held (code laws world p numbers m st n g)) stage at names quiet;
+        named = λ quiet.
+            laws.root (record m { items = [] }) (firsts world p m m.top st.top st.held (code laws world p numbers m st n g)) st.top.scene.blocks s.expression
+            laid (lawful_now laws world p numbers m st n g) (order_now laws world p numbers m st n g) at
+            (names_clear m (firsts world p m m.top st.top st.held (code laws world p numbers m st n g)) st.top.scene.blocks laid.root.now names) quiet;
       }
 
   can_settle : IsAtControl world p m st → CanSettle world m st e
@@ -157,7 +182,7 @@ module _ (laws : Laws) (world : World) (p : Program) (numbers : Numbers) (m : Ma
     behind = behind a.result m.top.function refl;
     chooses = cases_of m.top.function m.top.how refl a.tests;
     addresses = g.set_up.world.addresses;
-    usable = λ s laid stage at. usable a s laid stage at;
+    usable = λ s laid stage at. usable s laid stage at;
   }
 
   -- ---- it stands as picks ask it

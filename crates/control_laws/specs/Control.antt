@@ -1,16 +1,14 @@
 -- What control steps ask of a machine along the canonical order of a run, and what picks ask of its open full expression (own).
-use Rattle.std.specs.Prelude.{◌≡◌, ℕ, suc, true, List, [], ◌∷◌, length, Option, Some, None, slice_get}
+use Rattle.std.specs.Prelude.{◌≡◌, ℕ, suc, List, [], ◌∷◌, length, Option, Some, None, slice_get}
 use Rattle.c_types.specs.declared.ty.FuncTy.{out-FuncTy}
 use Rattle.c_typed.specs.declared.program.Function.{Function}
 use Rattle.c_typed.specs.declared.program.Program.{Program}
-use Rattle.c_typed.specs.Tree.{is_quiet}
 use Rattle.c_model.specs.Control.{Todo, Enter, ready_work}
-use Rattle.c_model.specs.Program.{Decl, tree_of}
+use Rattle.c_model.specs.Program.{Decl}
 use Rattle.c_model.specs.Runs.{State, canonical_pick}
 use Rattle.c_model.specs.Steps.{Begun, Control, auto_name}
 use Rattle.c_model.specs.Values.{Value}
 use Rattle.c_model.specs.World.{World}
-use Rattle.program_view.specs.Trees.{expr_of}
 use Rattle.run_control.specs.declared.work.Use.{Use}
 use Rattle.run_control.specs.declared.work.Use.TheVariants as for_use
 use Rattle.run_statements.specs.declared.numbers.Numbers.{Numbers}
@@ -21,11 +19,9 @@ use Rattle.run_code.specs.declared.steps.FunctionCode.{FunctionCode}
 use Rattle.run_code.specs.declared.whole.Code.{Code}
 use Rattle.run_state.specs.declared.machine.Machine.{Machine}
 use Rattle.run_state.specs.declared.machine.Stage.{Stage}
-use Rattle.run_state.specs.Operands.{IsNamed}
 use Rattle.run_machine.specs.Answering.{MayGoOn}
 use Rattle.run_machine.specs.Ending.{IsResultOf}
 use Rattle.run_machine.specs.Passing.{TakesValue}
-use Rattle.code_view.specs.Named.{NamesAreOpen}
 use Rattle.code_view.specs.Numbering.{meaning_of}
 use Rattle.run_laws.specs.Open.{IsLawfulCode, IsOpen}
 use Rattle.value_facts.specs.Small.{AreSmall, HasSmallBytes, ListsAreSmall}
@@ -55,10 +51,6 @@ pub record IsAtControl (world : World) (p : Program) (m : Machine) (st : State) 
   pub result : IsResultOf m.memory m.left
   pub enters : st.top.begun ≡ None → AsksOfEnter world p st (ready_work st.top.todo)
   pub tests : TestStands m.code.now m.top.function m.top.how
-  -- where the open full expression is known beforehand, it is named, if what it names is open
-  pub named : (s : Stage) (laid : Laid) (firsts : List ℕ) → m.top.stage ≡ Some s → slice_get m.code.now.expressions.items s.expression ≡ Some laid
-      → NamesAreOpen m firsts st.top.scene.blocks laid.root.now → is_quiet (tree_of (expr_of laid.root.now)) ≡ true
-      → IsNamed (record m { items = [] }) firsts st.top.scene.blocks (expr_of laid.root.now)
 
 -- 2. Where the control step is the canonical pick, the machine can take it.
 abbrev pub ControlGoesOn : Type 0

@@ -6,4 +6,4 @@ pub returns : goal.returns
 returns c =
     control_goes_on
     (laws_of c.law_view.ensures.text c.law_blocks.ensures.stand c.law_blocks.ensures.there c.law_blocks.ensures.expressions c.law_labels.ensures
-    c.law_named.ensures.placed c.law_views.ensures c.law_asked.ensures.code c.law_asked.ensures.labels)
+    c.law_named.ensures.placed c.law_views.ensures c.law_named.ensures.root c.law_asked.ensures.code c.law_asked.ensures.labels)
