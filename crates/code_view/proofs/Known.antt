@@ -43,7 +43,7 @@ use Rattle.run_code.specs.AtOnce.{is_known, truth_of}
 use Rattle.run_code.specs.Branches.{IsChoiceOf, is_choice}
 use Rattle.run_code.specs.Chosen.{IsKnown, Views, ViewAll}
 use Rattle.run_code.specs.Resolved.{NodeResolved, node_resolved, tree_resolved, resolved, converted, member_of, constant_of, null_of, object_of}
-use Rattle.code_view.specs.Known.{IsPlaced, NamedIsPlaced, CodeIsKnown}
+use Rattle.code_view.specs.Known.{IsLawfulTree, TreesAreLawful, IsPlaced, NamedIsPlaced, CodeIsKnown}
 use Rattle.code_view.proofs.Viewed.{all_both}
 use Rattle.code_view.proofs.Own.{all_own}
 use Rattle.code_view.proofs.Whole.{both_give}
@@ -402,16 +402,16 @@ module _ (p : Program) (blocks : Blocks) (world : World) (f : Scene) (firsts : L
       ))
 
 -- ---- the full expressions of a lawful program
-abbrev pub IsLawfulTree : Program → Typed → Type 0
-IsLawfulTree p t = (blocks : Blocks) × All (SiteIsLawful p blocks) (sites t)
-
 pub own_lawful : (p : Program) (t : Typed) → IsLawfulTree p t → All (IsLawfulTree p) (full_trees t)
 own_lawful p t h =
     All-weaker (λ u. All (SiteIsLawful p h.0) (sites u)) (IsLawfulTree p) (λ u k. (h.0, k)) (full_trees t) (all_own (SiteIsLawful p h.0) t h.1)
 
+pub trees_lawful : TreesAreLawful
+trees_lawful p code n laid lawful order at = each_laid p (IsLawfulTree p) (own_lawful p) (λ s e l. (e.blocks, l.nodes)) code n laid lawful order at
+
 pub code_known : CodeIsKnown
 code_known p code world f firsts n laid lawful order at placed =
     let t = laid.root.now in
-    let h = each_laid p (IsLawfulTree p) (own_lawful p) (λ s e l. (e.blocks, l.nodes)) code n laid lawful order at in
+    let h = trees_lawful p code n laid lawful order at in
     viewed p h.0 world f firsts t
     (both_give (SiteIsLawful p h.0) (λ s. NamedIsPlaced world f s.head) (Fine p h.0 world f firsts) (λ s l m. (l, m)) (sites t) h.1 placed) 0

@@ -51,8 +51,7 @@ use Rattle.code_view.specs.Known.{IsPlaced, NamedIsPlaced}
 use Rattle.code_view.specs.Named.{SlotIsOpen, NamedIsOpen, ListIsThere, NodeIsNamed, OpenIsPlaced, OpenIsKnown, OpenIsNamed, OpenRootIsNamed}
 use Rattle.code_view.proofs.Viewed.{all_both}
 use Rattle.code_view.proofs.Whole.{both_give}
-use Rattle.code_view.proofs.Each.{each_laid}
-use Rattle.code_view.proofs.Known.{IsLawfulTree, own_lawful, code_known, no_integer, there_pointer, function_pointer, member_pointer}
+use Rattle.code_view.proofs.Known.{trees_lawful, code_known, no_integer, there_pointer, function_pointer, member_pointer}
 use Rattle.code_view.proofs.Parts.{type_in, site_in, parts, in_nodes}
 
 -- ---- an object that was created stands
@@ -284,7 +283,7 @@ pub open_placed : OpenIsPlaced
 open_placed world m f s firsts n laid lawful order at memory objects is =
     let t = laid.root.now in
     let p = m.program.now in
-    let h = each_laid p (IsLawfulTree p) (own_lawful p) (λ g e l. (e.blocks, l.nodes)) m.code.now n laid lawful order at in
+    let h = trees_lawful p m.code.now n laid lawful order at in
     both_give (SiteIsLawful p h.0) (λ x. NamedIsOpen m firsts f.blocks x.head) (λ x. NamedIsPlaced world f x.head)
     (λ x l o. head_placed h.0 m firsts f.blocks world f s memory objects refl x (l, o)) (sites t) h.1 is
 
@@ -296,7 +295,7 @@ pub open_named : OpenIsNamed
 open_named m firsts open_blocks nodes n laid i x lawful order at are is node_at =
     let t = laid.root.now in
     let p = m.program.now in
-    let h = each_laid p (IsLawfulTree p) (own_lawful p) (λ g e l. (e.blocks, l.nodes)) m.code.now n laid lawful order at in
+    let h = trees_lawful p m.code.now n laid lawful order at in
     let fine =
     both_give (SiteIsLawful p h.0) (λ y. NamedIsOpen m firsts open_blocks y.head) (Fine h.0 m firsts open_blocks) (λ y l o. (l, o)) (sites t) h.1 is in
     node_named h.0 m firsts open_blocks x.tree.now (in_nodes (Fine h.0 m firsts open_blocks) firsts t nodes i x are fine node_at)

@@ -178,7 +178,7 @@ kept_effect firsts tables (shape.List slot bytes) s a room v k = none_kept a _ r
 kept_effect firsts tables _ s a room v k = none_kept a act.Nothing room v refl k
 
 kept_body : (tables : Tables) (initializer : ℕ) (h : Head) (s : Sight) (a : Act) (room : ℕ) → IsBody tables initializer h s a → kept_at a ≡ Some room → ⊥
-kept_body tables initializer (shape.Call discarded) s a room v k = none_kept a _ room v.5 refl k
+kept_body tables initializer (shape.Call discarded) s a room v k = none_kept a _ room v.4 refl k
 kept_body tables initializer (shape.Isolated tree) s a room v k = none_kept a _ room v refl k
 kept_body tables initializer _ s a room v k = none_kept a act.Nothing room v refl k
 

@@ -7,8 +7,8 @@ use Rattle.addr_map.specs.Rows.{row_of}
 use Rattle.c_typed.specs.declared.program.Program.{Program}
 use Rattle.c_typed.specs.declared.tree.Node.TheOpen as shape
 use Rattle.c_typed.specs.declared.tree.Typed.{Typed}
-use Rattle.c_typed.specs.Lawful.{IsLawful}
-use Rattle.c_typed.specs.Sites.{Head, sites}
+use Rattle.c_typed.specs.Lawful.{IsLawful, SiteIsLawful}
+use Rattle.c_typed.specs.Sites.{Blocks, Head, sites}
 use Rattle.mem_spec.specs.Acts.{base_in}
 use Rattle.c_model.specs.Steps.{Scene, name_of}
 use Rattle.c_model.specs.World.{World}
@@ -21,6 +21,15 @@ use Rattle.run_code.specs.Roots.{code_trees, roots_in}
 -- the full expressions of the code are those of the program's functions in turn, as `code_of` gives them
 abbrev pub AreInOrder : Program → Code → Type 0
 AreInOrder p code = roots_in code.expressions.items ≡ flat_map code_trees p.functions
+
+-- the nodes of a tree are lawful in the program, with some blocks round it
+abbrev pub IsLawfulTree : Program → Typed → Type 0
+IsLawfulTree p t = (around : Blocks) × All (SiteIsLawful p around) (sites t)
+
+-- so are those of each full expression of a lawful program's code, isolated initializers among them
+abbrev pub TreesAreLawful : Type 0
+TreesAreLawful = (p : Program) (code : Code) (n : ℕ) (laid : Laid) → IsLawful p → AreInOrder p code → slice_get code.expressions.items n ≡ Some laid
+    → IsLawfulTree p laid.root.now
 
 -- an object stands at an address, which isn't that of a null pointer (6.3.2.3p3)
 abbrev pub IsPlaced : World → ObjName → Type 0

@@ -4,7 +4,7 @@
 #![tactic(auto)]
 
 ghost use Rattle.code_view.specs.Laws.{RootsStand, BodiesStand, SwitchesStand, TreesFit, TreesAreFormed, ConstantsAreLawful, LawfulCodeStands};
-ghost use Rattle.code_view.specs.Known.{CodeIsKnown};
+ghost use Rattle.code_view.specs.Known.{CodeIsKnown, TreesAreLawful};
 ghost use Rattle.code_view.specs.Events.{EventsAreOfClasses, EventsAreEvaluated, EffectsStore, EventsAreOfCode, EventsAreInCode};
 ghost use Rattle.code_view.specs.Labels.{DefinedKeepLabels};
 ghost use Rattle.code_view.specs.Rooms.{RoomsAreThere};
@@ -27,6 +27,11 @@ pub fn law_code_bodies()
 /// Each node of the full expressions of a lawful program stores a pointer by its own type, and fills objects with lawful constants.
 pub fn law_code_trees()
     ensures { TreesFit }
+{}
+
+/// The nodes of each full expression of a lawful program's code are lawful in the program, with some blocks round it.
+pub fn law_trees()
+    ensures { TreesAreLawful }
 {}
 
 /// The nodes of the full expressions of a lawful program have the operands that their operators take.

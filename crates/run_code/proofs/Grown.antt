@@ -117,8 +117,8 @@ stores_grown old new how first object place value a g s = (s.0, s.1, g.stores s.
 fills_grown : (old new : Tables) (object : Operand) (bytes : List Constant) (a : Act) → AreGrown old new → Fills old object bytes a → Fills new object bytes a
 fills_grown old new object bytes a g s = (s.0, s.1, g.constants s.0 s.1 s.2, s.3, s.4)
 
-calls_grown : (old new : Tables) (os : List Operand) (a : Act) → AreGrown old new → Calls old os a → Calls new os a
-calls_grown old new os a g s = (s.0, s.1, g.calls s.0 s.1 s.2, s.3, s.4, s.5)
+calls_grown : (old new : Tables) (s : Sight) (a : Act) → AreGrown old new → Calls old s a → Calls new s a
+calls_grown old new s a g c = (c.0, c.1, g.calls c.0 c.1 c.2, c.3, c.4)
 
 effect_grown : (firsts : List ℕ) (old new : Tables) (h : Head) (s : Sight) (a : Act) → AreGrown old new → IsEffect firsts old h s a → IsEffect firsts new h s a
 effect_grown firsts old new (shape.Assign first how) s a g e = stores_grown old new _ _ _ _ _ a g e
@@ -128,7 +128,7 @@ effect_grown firsts old new _ s a g e = e
 
 body_grown : (old new : Tables) (initializer : ℕ) (h : Head) (s : Sight) (a : Act) → AreGrown old new → IsBody old initializer h s a →
     IsBody new initializer h s a
-body_grown old new initializer (shape.Call discarded) s a g e = calls_grown old new s.operands a g e
+body_grown old new initializer (shape.Call discarded) s a g e = calls_grown old new s a g e
 body_grown old new initializer (shape.Isolated tree) s a g e = e
 body_grown old new initializer _ s a g e = e
 

@@ -16,7 +16,7 @@ use Rattle.run_code.specs.declared.steps.Act.{Act}
 use Rattle.run_code.specs.declared.steps.Act.TheVariants as act
 use Rattle.run_code.specs.declared.tables.Tables.{Tables}
 use Rattle.run_code.specs.Resolved.{value_at}
-use Rattle.run_code.specs.EventActs.{head_at, pointed, first_type, seen, amount, change_access, IsValue, Stores, IsEffect}
+use Rattle.run_code.specs.EventActs.{head_at, pointed, first_type, seen, amount, change_access, IsValue, Stores, IsEffect, Calls, IsBody}
 
 abbrev head_seen : SeenNode → Head
 head_seen s = s.head
@@ -31,6 +31,16 @@ head_at-Assign n first a e = ap head_at (e ∙ sym (nodes.rolls-Assign first a))
 pub head_at-Update : (n : Node) (c : Change) (old : Bool) → n ≡ nodes.Update c old → head_at n ≡ shape.Update c old
 head_at-Update n c old e = ap head_at (e ∙ sym (nodes.rolls-Update c old)) ∙ ap head_seen
     (fold-roll-Node SeenNode Seen seen_node seen_tree (shape.Update c old))
+
+head_at-Call : (n : Node) (discarded : Bool) → n ≡ nodes.Call discarded → head_at n ≡ shape.Call discarded
+head_at-Call n discarded e =
+    ap head_at (e ∙ sym (nodes.rolls-Call discarded)) ∙ ap head_seen (fold-roll-Node SeenNode Seen seen_node seen_tree (shape.Call discarded))
+
+pub calls : (tables : Tables) (t : Typed) (discarded : Bool) (os : List Operand) (own : Operand) (room initializer : ℕ) (a : Act)
+    → (out-Typed t).node ≡ nodes.Call discarded → Calls tables (seen t os own room) a
+    → IsBody tables initializer (head_at (out-Typed t).node) (seen t os own room) a
+calls tables t discarded os own room initializer a e s =
+    subst (λ h. IsBody tables initializer h (seen t os own room) a) (sym (head_at-Call (out-Typed t).node discarded e)) s
 
 pub loads : (t : Typed) (how : Access) (os : List Operand) (own place : Operand) (room : ℕ) (ty : Bor Ty) → (out-Typed t).node ≡ nodes.Load how
     → type_of ty.now ≡ pointed (first_type (type_of (out-Typed t).ty) (out-Typed t).children) → place ≡ value_at os 0 →

@@ -6,7 +6,7 @@ use Rattle.std.proofs.lemmas.Option.{slice_get_within}
 use Rattle.c_typed.specs.declared.tree.Typed.{Typed}
 use Rattle.c_typed.specs.declared.statement.Block.{Block}
 use Rattle.c_typed.specs.declared.program.Function.{Function}
-use Rattle.elaborate.specs.Expressions.{block_trees}
+use Rattle.elaborate.specs.Expressions.{block_trees, own_trees}
 use Rattle.run_code.specs.declared.expressions.Laid.{Laid}
 use Rattle.run_code.specs.declared.nodes.NodeInfo.{NodeInfo}
 use Rattle.run_code.specs.declared.steps.Expression.{Expression}
@@ -17,7 +17,8 @@ use Rattle.run_code.specs.declared.tables.Tables.{Tables}
 use Rattle.run_code.specs.Blocks.{firsts_from, rows_of_block}
 use Rattle.run_code.specs.AtOnce.{chosen_of, Lists}
 use Rattle.run_code.specs.EventActs.{AreEntries, AreGrown}
-use Rattle.run_code.specs.Functions.{OfEach, IsLaidAt, AreLaidFrom, HasExpressions, IsMore, AddsExpression, AddsExpressions}
+use Rattle.run_code.specs.Functions.{OfEach, IsLaidAt, IsLaidOutFrom, AreLaidFrom, HasExpressions, IsMore, AddsExpression, AddsExpressions}
+use Rattle.run_code.specs.Initializers.{HaveNumbers}
 use Rattle.run_code.specs.LaidOut.{LaidOutBy}
 use Rattle.run_code.specs.Numbered.{AreNodes}
 use Rattle.run_code.specs.Resolved.{resolved}
@@ -79,7 +80,7 @@ are_laid_later : (firsts : List ℕ) (old new : Tables) (a b : Laid) (at : ℕ) 
 are_laid_later firsts old new a b at [] g m h = tt
 are_laid_later firsts old new a b at (t ∷ ts) g m h =
     let e = h.0 in (
-      (e.0, m.all at e.0 e.1, e.2, (e.3.0, laid_later firsts e.3.0 old new a.entries.items b.entries.items e.0 g m.entries e.3.1)),
+      (e.0, m.all at e.0 e.1, e.2, (e.3.0, laid_later firsts e.3.0 old new a.entries.items b.entries.items e.0 g m.entries e.3.1, e.3.2)),
       are_laid_later firsts old new a b (suc at) ts g m h.1,
     )
 
@@ -94,8 +95,9 @@ expressions_later c old new a b range g m h = record {
 pub expression_added : (firsts : List ℕ) (t : Typed) (tables : Tables) (old new : Laid) (longer more : List Listed) (nodes : List NodeInfo) (e : Expression) →
     longer ≡ old.entries.items ++ more → new.entries.items ≡ longer → new.all.items ≡ old.all.items ++ e ∷ [] → e.root.now ≡ t →
     AreNodes firsts t nodes → IsRoomedBy nodes e.rooms → AreEntries firsts tables nodes more → Lists tables.chosen.items e.chosen (chosen_of firsts t 0) →
-    e.value ≡ resolved firsts t 0 → e.first ≡ length old.entries.items → e.end ≡ length longer → AddsExpression firsts t tables old new
-expression_added firsts t tables old new longer more nodes e l same all root n w a k v f end =
+    e.value ≡ resolved firsts t 0 → e.first ≡ length old.entries.items → e.end ≡ length longer →
+    HaveNumbers (suc (length old.all.items)) (own_trees t) nodes → AddsExpression firsts t tables old new
+expression_added firsts t tables old new longer more nodes e l same all root n w a k v f end numbers =
     let laid : LaidOutBy firsts nodes tables longer e =
     one_laid tables old.entries.items longer more firsts nodes e l (subst (λ u. AreNodes firsts u nodes) (sym root) n) w a
     (subst (λ u. Lists tables.chosen.items e.chosen (chosen_of firsts u 0)) (sym root) k) (v ∙ ap (λ u. resolved firsts u 0) (sym root)) f end in record {
@@ -103,7 +105,11 @@ expression_added firsts t tables old new longer more nodes e l same all root n w
       all = all;
       entries = front_of old.entries.items new.entries.items more (same ∙ l);
       root = root;
-      laid = (nodes, subst (λ es. LaidOutBy firsts nodes tables es e) (sym same) laid);
+      laid = (
+        nodes,
+        subst (λ es. LaidOutBy firsts nodes tables es e) (sym same) laid,
+        subst (λ u. HaveNumbers (suc (length old.all.items)) (own_trees u) nodes) (sym root) numbers,
+      );
     }
 
 laid_behind : (firsts : List ℕ) (tables : Tables) (laid : Laid) (at : ℕ) (ts : List Typed) (t : Typed) → AreLaidFrom firsts tables laid at ts →
@@ -129,7 +135,8 @@ next_added firsts all ts us t old new start mid end e g same h given =
     let added : AddsExpressions firsts (ts ++ t ∷ []) new start end = record {
       more = more_both start mid end h.more more;
       each = laid_behind firsts new end (length start.all.items) ts t
-          (are_laid_later firsts old new mid end (length start.all.items) ts g more h.each) (a.expression, at, a.root, a.laid);
+          (are_laid_later firsts old new mid end (length start.all.items) ts g more h.each)
+          (a.expression, at, a.root, subst (λ n. IsLaidOutFrom firsts new end.entries.items n a.expression) h.count a.laid);
       count = omega (arith, h.count, ap length a.all ∙ length-append mid.all.items (a.expression ∷ []), length-append ts (t ∷ []));
     } in
     subst (λ xs. AddsExpressions firsts xs new start end) (sym e) added
@@ -142,6 +149,19 @@ pub all_added : {A : Type 0} (f : A → Typed) (firsts : List ℕ) (items : List
     length items ≤ i → map f items ≡ ts → AddsExpressions firsts (map f (take i items)) tables start end → AddsExpressions firsts ts tables start end
 all_added f firsts items i ts tables start end l e h =
     subst (λ xs. AddsExpressions firsts xs tables start end) (ap (map f) (take_all i items l) ∙ e) h
+
+-- the one of this number among them
+pub expression_at : (firsts : List ℕ) (tables : Tables) (laid : Laid) (at k : ℕ) (ts : List Typed) (t : Typed) → AreLaidFrom firsts tables laid at ts →
+    slice_get ts k ≡ Some t → IsLaidAt firsts tables laid (at + k) t
+expression_at firsts tables laid at zero [] t h e = absurd (cc)
+expression_at firsts tables laid at (suc k) [] t h e = absurd (cc)
+expression_at firsts tables laid at zero (x ∷ ts) t h e =
+    let is : x ≡ t = same_some (Some x) x t refl e in
+    let same : at ≡ at + 0 = omega arith in
+    subst (IsLaidAt firsts tables laid (at + 0)) is (subst (λ n. IsLaidAt firsts tables laid n x) same h.0)
+expression_at firsts tables laid at (suc k) (x ∷ ts) t h e =
+    let same : suc at + k ≡ at + suc k = omega arith in
+    subst (λ n. IsLaidAt firsts tables laid n t) same (expression_at firsts tables laid (suc at) k ts t h.1 e)
 
 -- those of a function
 pub function_laid : (b : Block) (firsts : List ℕ) (ts : List Typed) (tables : Tables) (start end : Laid) (range : Range) →

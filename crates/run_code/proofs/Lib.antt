@@ -2,6 +2,7 @@ mod Entries
 mod Listings
 mod Collected
 mod Roomed
+mod Owned
 mod Grown
 mod Walked
 mod ResolvedLemmas
@@ -13,7 +14,8 @@ mod Termed
 mod FittingLemmas
 mod Coded
 mod Blocked
-mod InTurn
+pub mod InTurn
+pub mod Followed
 mod AtOnce
 mod ChosenLemmas
 mod Tested

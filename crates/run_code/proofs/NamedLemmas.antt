@@ -159,7 +159,7 @@ effect_named firsts tables _ s a e = quiet_named tables a (ap quiet e)
 
 body_named : (tables : Tables) (initializer : ℕ) (h : Head) (s : Sight) (a : Act) → IsBody tables initializer h s a → IsNamed tables a
 body_named tables initializer (shape.Call discarded) s a b =
-    call_named tables a b.0 (ap sort b.5) (ap named_call b.5) (slice_get_within tables.calls.items b.0 b.1 b.2)
+    call_named tables a b.0 (ap sort b.4) (ap named_call b.4) (slice_get_within tables.calls.items b.0 b.1 b.2)
 body_named tables initializer (shape.Isolated tree) s a b = quiet_named tables a (ap quiet b)
 body_named tables initializer _ s a b = quiet_named tables a (ap quiet b)
 

@@ -98,7 +98,7 @@ laid_none a b old new f oc rest left before after cs more all is was gained code
       (code_more a before cs f oc h.2 (subst (λ o. IsCodeOf a o oc) (sym by) (subst (IsCodeOf a None) (sym code) tt))))),
 )
 
-body_of_block : (x : Block) → body_trees (body.Block x) ≡ block_trees x
+pub body_of_block : (x : Block) → body_trees (body.Block x) ≡ block_trees x
 body_of_block x = search (rules, typed.the_lemmas)
 
 form_of : (z : Body-F Body Entry ForStart Block) (x : Block) → as_block z ≡ Some x → z ≡ form.Block x

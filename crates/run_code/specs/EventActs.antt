@@ -1,12 +1,13 @@
 -- What the events of a node do, by the node and where the values of its operands come from (6.5), and what is noted of them.
-use Rattle.std.specs.Prelude.{◌≡◌, ℕ, suc, ◌+◌, ◌^◌, ◌-◌, ◌<◌, ◌≤◌, min, pos, Bool, true, false, List, [], ◌∷◌, length, Some, slice_get}
+use Rattle.std.specs.Prelude.{◌≡◌, ℕ, suc, ◌+◌, ◌^◌, ◌-◌, ◌<◌, ◌≤◌, min, pos, Bool, true, false, List, [], ◌∷◌, length, map, Option, Some, None, slice_get}
 use Rattle.std.specs.List.{All}
 use Rattle.std.specs.Option.{ForSome}
 use Rattle.std.specs.Borrow.{Bor}
 use Rattle.ub_base.specs.declared.clause.Kind.{Kind}
 use Rattle.ub_base.specs.declared.clause.Kind.TheVariants.{Val, Eff, Body}
+use Rattle.c_types.specs.declared.ty.FuncTy.{FuncTy}
 use Rattle.c_types.specs.declared.ty.Ty.{Ty}
-use Rattle.c_types.specs.Types.{CType, pointer, type_of}
+use Rattle.c_types.specs.Types.{CType, function, pointer, qualified_of, signature_of, type_of}
 use Rattle.c_typed.specs.declared.program.Constant.{Constant}
 use Rattle.c_typed.specs.declared.tree.Access.{Access}
 use Rattle.c_typed.specs.declared.tree.Access.TheVariants as access
@@ -45,11 +46,20 @@ abbrev pub first_type : CType → List Typed → CType
 first_type ty [] = ty
 first_type ty (t ∷ ts) = type_of (out-Typed t).ty
 
--- what a node's events go by: the values of its operands, the type of the object that the first of them designates, the node's own
--- value, and the room for what an update will store
+abbrev pub rest_of : {A : Type 0} → List A → List A
+rest_of [] = []
+rest_of (x ∷ xs) = xs
+
+-- the types of a node's operands behind the first
+abbrev pub later_types : List Typed → List CType
+later_types ts = map (λ t. type_of (out-Typed t).ty) (rest_of ts)
+
+-- what a node's events go by: the values of its operands, the type of the object or function that the first of them designates and the types of the others,
+-- the node's own value, and the room for what an update will store
 pub record Sight : Type 0 where
   pub operands : List Operand
   pub object : CType
+  pub later : List CType
   pub own : Operand
   pub room : ℕ
 
@@ -57,10 +67,6 @@ abbrev pub last_of : List Operand → Operand
 last_of [] = Integer (pos 0)
 last_of (o ∷ []) = o
 last_of (o ∷ p ∷ os) = last_of (p ∷ os)
-
-abbrev pub rest_of : {A : Type 0} → List A → List A
-rest_of [] = []
-rest_of (x ∷ xs) = xs
 
 -- what an update adds: 1 for postfix `++` and `--` (6.5.2.4p2)
 abbrev pub amount : (old : Bool) → List Operand → Operand
@@ -119,15 +125,26 @@ IsEffect firsts tables (shape.Update c old) s a = Stores tables (change_access c
 IsEffect firsts tables (shape.List slot bytes) s a = Fills tables (object_of firsts slot) bytes a
 IsEffect firsts tables _ s a = a ≡ act.Nothing
 
--- a call: its designator's value, and its arguments
-abbrev pub Calls : Tables → List Operand → Act → Type 0
-Calls tables os a =
-    (n : ℕ) × (call : CallCode) × (slice_get tables.calls.items n ≡ Some call) × (call.designator ≡ value_at os 0) × (call.arguments.items ≡ rest_of os) ×
-    (a ≡ act.Call n)
+-- the function type to which a designator points, if it is one (6.5.2.2p1)
+abbrev pub GoesBy : CType → Option (Bor FuncTy) → Type 0
+GoesBy (function result params variadic) (Some f) = signature_of f.now ≡ record { result = result; params = params; variadic = variadic }
+GoesBy (function result params variadic) None = ⊥
+GoesBy ty (Some f) = ⊥
+GoesBy ty None = Unit {0}
+
+-- a call: its designator's value, the function type to which that points, and its arguments with their types
+pub record IsCallBy (s : Sight) (call : CallCode) : Type 0 where
+  pub designator : call.designator ≡ value_at s.operands 0
+  pub goes : GoesBy s.object call.ty
+  pub arguments : call.arguments.items ≡ rest_of s.operands
+  pub types : map (λ q. (qualified_of q).ty) call.types ≡ s.later
+
+abbrev pub Calls : Tables → Sight → Act → Type 0
+Calls tables s a = (n : ℕ) × (call : CallCode) × (slice_get tables.calls.items n ≡ Some call) × IsCallBy s call × (a ≡ act.Call n)
 
 -- the act of a node's body
 abbrev pub IsBody : Tables → (initializer : ℕ) → Head → Sight → Act → Type 0
-IsBody tables initializer (shape.Call discarded) s a = Calls tables s.operands a
+IsBody tables initializer (shape.Call discarded) s a = Calls tables s a
 IsBody tables initializer (shape.Isolated tree) s a = a ≡ act.Initialize initializer
 IsBody tables initializer _ s a = a ≡ act.Nothing
 
@@ -152,6 +169,7 @@ abbrev pub seen : Typed → List Operand → (own : Operand) → (room : ℕ) �
 seen t os own room = record {
   operands = os;
   object = pointed (first_type (type_of (out-Typed t).ty) (out-Typed t).children);
+  later = later_types (out-Typed t).children;
   own = own;
   room = room;
 }

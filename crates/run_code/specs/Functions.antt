@@ -6,7 +6,7 @@ use Rattle.c_typed.specs.declared.tree.Typed.{Typed}
 use Rattle.c_typed.specs.declared.statement.Block.{Block}
 use Rattle.c_typed.specs.declared.program.Function.{Function}
 use Rattle.c_typed.specs.Sites.{BlockRow}
-use Rattle.elaborate.specs.Expressions.{block_trees}
+use Rattle.elaborate.specs.Expressions.{block_trees, own_trees}
 use Rattle.run_code.specs.declared.expressions.Laid.{Laid}
 use Rattle.run_code.specs.declared.nodes.NodeInfo.{NodeInfo}
 use Rattle.run_code.specs.declared.steps.Expression.{Expression}
@@ -17,6 +17,7 @@ use Rattle.run_code.specs.declared.tables.Tables.{Tables}
 use Rattle.run_code.specs.declared.whole.Code.{Code}
 use Rattle.run_code.specs.Blocks.{AreBlocksFrom, firsts_from, objects_in, rows_of_block}
 use Rattle.run_code.specs.EventActs.{AreFirst}
+use Rattle.run_code.specs.Initializers.{HaveNumbers}
 use Rattle.run_code.specs.LaidOut.{LaidOutBy}
 use Rattle.run_code.specs.Roots.{block_in}
 
@@ -39,14 +40,16 @@ HaveBlocks tags tables = OfEach (λ f b c. HasBlocks tags (length (out-FuncTy f.
 
 -- 2. Full expressions.
 
--- a full expression is laid out where the objects of the blocks have numbers from these on
-abbrev pub IsLaidOutFrom : List ℕ → Tables → List Listed → Expression → Type 0
-IsLaidOutFrom firsts tables entries e = (nodes : List NodeInfo) × LaidOutBy firsts nodes tables entries e
+-- The full expression of this number is laid out where the objects of the blocks have numbers from these on. Its isolated initializers have the numbers of
+-- their own trees, which come behind it in turn (6.7.9p23).
+abbrev pub IsLaidOutFrom : List ℕ → Tables → List Listed → (at : ℕ) → Expression → Type 0
+IsLaidOutFrom firsts tables entries at e =
+    (nodes : List NodeInfo) × LaidOutBy firsts nodes tables entries e × HaveNumbers (suc at) (own_trees e.root.now) nodes
 
 -- the full expression of this number is that of this tree
 abbrev pub IsLaidAt : List ℕ → Tables → Laid → (at : ℕ) → Typed → Type 0
 IsLaidAt firsts tables laid at t =
-    (e : Expression) × (slice_get laid.all.items at ≡ Some e) × (e.root.now ≡ t) × IsLaidOutFrom firsts tables laid.entries.items e
+    (e : Expression) × (slice_get laid.all.items at ≡ Some e) × (e.root.now ≡ t) × IsLaidOutFrom firsts tables laid.entries.items at e
 
 -- those from this number on are these in turn
 abbrev pub AreLaidFrom : List ℕ → Tables → Laid → (at : ℕ) → List Typed → Type 0
@@ -79,7 +82,7 @@ pub record AddsExpression (firsts : List ℕ) (t : Typed) (tables : Tables) (old
   pub all : new.all.items ≡ old.all.items ++ expression ∷ []
   pub entries : AreFirst old.entries.items new.entries.items
   pub root : expression.root.now ≡ t
-  pub laid : IsLaidOutFrom firsts tables new.entries.items expression
+  pub laid : IsLaidOutFrom firsts tables new.entries.items (length old.all.items) expression
 
 -- some full expressions
 pub record AddsExpressions (firsts : List ℕ) (ts : List Typed) (tables : Tables) (old new : Laid) : Type 0 where

@@ -12,6 +12,7 @@ pub mod LaidOut
 pub mod Fitting
 pub mod Named
 pub mod Roots
+pub mod Initializers
 pub mod OfTrees
 pub mod Blocks
 pub mod Functions

@@ -22,11 +22,6 @@ pub struct Draft<'p> {
     pub function: FunctionDraft,
 }
 
-// How many there are.
-pub fn count_of<T>(items: &Vec<T>) -> u32 {
-    u32::try_from(items.len()).unwrap_or(u32::MAX)
-}
-
 // The finished code, with these functions.
 pub fn finished<'p>(draft: Draft<'p>, functions: Vec<Option<FunctionCode>>) -> Code<'p>
     ensures expressions { result.expressions.items ≡ draft.entry.expressions.laid.all.items }

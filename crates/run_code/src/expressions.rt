@@ -28,13 +28,15 @@ pub struct Expressions<'p> {
 }
 
 impl<'p> Expressions<'p> {
-    ghost use Rattle.std.specs.Prelude.{◌≡◌, ◌<◌, ◌^◌, ℕ, List, [], ◌∷◌, ◌++◌, Some, length, slice_get, IfOk, OnOk};
+    ghost use Rattle.std.specs.Prelude.{◌≡◌, ◌<◌, ◌^◌, ℕ, suc, List, [], ◌∷◌, ◌++◌, Some, length, slice_get, IfOk, OnOk};
     ghost use Rattle.run_code.specs.Roots.{roots_in};
     ghost use Rattle.run_code.specs.Numbered.{AreNodes};
     ghost use Rattle.run_code.specs.InRange.{IsRange, IsChoice, IsObject, IsBlock};
     ghost use Rattle.run_code.specs.AtOnce.{chosen_of, Lists};
     ghost use Rattle.run_code.specs.EventActs.{AreGrown, AreEntries};
     ghost use Rattle.run_code.specs.Rooms.{IsRoomedBy};
+    ghost use Rattle.run_code.specs.Initializers.{HaveNumbers};
+    ghost use Rattle.elaborate.specs.Expressions.{own_trees};
     ghost use Rattle.run_code.specs.Functions.{AddsExpression};
     ghost use Rattle.c_typed.specs.Tree.{tree_of, size};
     ghost use Rattle.core_ir.specs.declared.term.Core.{Core as CoreOf};
@@ -149,6 +151,7 @@ impl<'p> Expressions<'p> {
         ensures tables { self.new.tables ≡ self.old.tables }
         ensures added { (firsts : List ℕ) → AreNodes firsts root.now nodes.now → AreEntries firsts self.old.tables nodes.now entries.now
             → Lists self.old.tables.chosen.items chosen (chosen_of firsts root.now 0)
+            → HaveNumbers (suc (length self.old.laid.all.items)) (own_trees root.now) nodes.now
             → OnOk result (AddsExpression firsts root.now self.old.tables self.old.laid self.new.laid) }
     {
         let first = self.laid.entries.len();

@@ -1,6 +1,6 @@
 // The listing of one full expression, from its term.
-ghost use Rattle.std.specs.Prelude.{◌≡◌, ◌<◌, [], ◌∷◌, ◌++◌, ◌-◌, ◌^◌, ℕ, List, Option, min, length, OnOk, IfOk, Some, slice_get};
-ghost use Rattle.c_types.specs.Types.{type_of};
+ghost use Rattle.std.specs.Prelude.{◌≡◌, ◌<◌, [], ◌∷◌, ◌++◌, ◌-◌, ◌^◌, ℕ, List, Option, map, min, length, OnOk, IfOk, Some, slice_get};
+ghost use Rattle.c_types.specs.Types.{qualified_of, type_of};
 ghost use Rattle.c_typed.specs.declared.tree.Typed.{out-Typed};
 ghost use Rattle.c_typed.specs.Order.{place};
 ghost use Rattle.c_typed.specs.declared.program.Program.{Program as ProgramOf};
@@ -16,12 +16,12 @@ ghost use Rattle.run_code.specs.InRange.{IsRange, IsChoice};
 ghost use Rattle.run_code.specs.AtOnce.{chosen_of, Lists};
 ghost use Rattle.run_code.specs.Choices.{Goes, IsChoiceOf, MakesChoice, ChoosesAt};
 ghost use Rattle.run_code.specs.Fitting.{AccessFits, RootFits, NodesFit, TreeFits, AreFit};
-ghost use Rattle.run_code.specs.EventActs.{head_at, pointed, first_type, seen, last_of, rest_of, room_of, change_access, IsValue, Stores, IsEffect, Calls, IsBody, IsAct, ends_with, IsDue, AreEntries, AreGrown};
+ghost use Rattle.run_code.specs.EventActs.{head_at, pointed, first_type, later_types, seen, last_of, rest_of, GoesBy, room_of, change_access, IsValue, Stores, IsEffect, Calls, IsBody, IsAct, ends_with, IsDue, AreEntries, AreGrown};
 
 use crate::choices::{chosen, chosen_at_once, is_choice, operand_number};
-use crate::draft::{Draft, count_of};
+use crate::draft::Draft;
 use crate::nodes::{Counts, NodeInfo, collect, operands};
-use crate::numbers::{number_of, number_with};
+use crate::numbers::{next_number, number_of, number_with};
 use crate::steps::{
     Act, CallCode, Choice, Due, Expression, Listed, Operand, Range, StoreCode, Way,
 };
@@ -70,7 +70,7 @@ impl<'p> Draft<'p> {
     {
         let mut nodes = Vec::new(self.alloc);
         let mut counts = Counts {
-            initializers: count_of(&self.expressions.laid.all).saturating_add(1),
+            initializers: number_with(next_number(&self.expressions.laid.all)?, 1)?,
             olds: 0,
         };
         collect(&self.function.objects, root, None, &mut nodes, &mut counts)?;
@@ -503,7 +503,7 @@ impl<'p> Draft<'p> {
         ensures kept { OnOk result (self.new.expressions.laid ≡ self.old.expressions.laid) }
         ensures fit { (p : ProgramOf) → AreFit p self.old.expressions.tables → OnOk result (AreFit p self.new.expressions.tables) }
         ensures grown { OnOk result (AreGrown self.old.expressions.tables self.new.expressions.tables) }
-        ensures act { IfOk result (λ a. Calls self.new.expressions.tables operands.now a) }
+        ensures act { (own : OperandOf) (room : ℕ) → IfOk result (λ a. Calls self.new.expressions.tables (seen tree.now operands.now own room) a) }
     {
         let arguments = Vec::from_slice(self.alloc, behind_first(operands))?;
         let types = argument_types(self.alloc, tree)?;
@@ -517,26 +517,31 @@ impl<'p> Draft<'p> {
     }
 }
 
-fn called(ty: &Ty) -> Option<&FuncTy> {
+// The function type that a call goes by (6.5.2.2p1).
+fn called(ty: &Ty) -> Option<&FuncTy>
+    ensures { GoesBy (type_of ty.now) result }
+{
     match ty {
         Ty::Function(ty) => Some(ty.get()),
         _ => None,
     }
 }
 
-fn behind_first(operands: &[Operand]) -> &[Operand]
-    ensures { result.now ≡ rest_of operands.now }
+fn behind_first<T>(items: &[T]) -> &[T]
+    ensures { result.now ≡ rest_of items.now }
 {
-    match operands.split_first() {
+    match items.split_first() {
         Some((_, rest)) => rest,
-        None => operands,
+        None => items,
     }
 }
 
 // The types of a call's arguments.
-fn argument_types(alloc: Global, tree: &Typed) -> Result<Items<Qual>, NoMemory> {
+fn argument_types(alloc: Global, tree: &Typed) -> Result<Items<Qual>, NoMemory>
+    ensures { IfOk result (λ ts. map (λ q. (qualified_of q).ty) ts ≡ later_types (out-Typed tree.now).children) }
+{
     let mut types = Items::new(alloc);
-    for child in tree.children.as_slice().iter().skip(1) {
+    for child in behind_first(tree.children.as_slice()) {
         types.push(Qual {
             ty: copied(alloc, &child.ty)?,
             constant: false,

@@ -1,8 +1,10 @@
 // The nodes of a full expression by their numbers.
-ghost use Rattle.std.specs.Prelude.{◌≡◌, ◌<◌, ◌^◌, ℕ, List, OnOk, IfOk, suc, length, slice_get};
+ghost use Rattle.std.specs.Prelude.{◌≡◌, ◌+◌, ◌<◌, ◌^◌, ℕ, List, OnOk, IfOk, suc, length, slice_get};
 ghost use Rattle.c_typed.specs.declared.tree.Typed.{out-Typed};
 ghost use Rattle.c_types.specs.Types.{type_of};
 ghost use Rattle.run_code.specs.EventActs.{head_at};
+ghost use Rattle.elaborate.specs.Expressions.{own_trees};
+ghost use Rattle.run_code.specs.Initializers.{trees_at, AreOwned};
 ghost use Rattle.run_code.specs.Rooms.{olds_with, AreRoomed};
 ghost use Rattle.run_code.specs.Resolved.{object_of, local_number, constant_of, by_conversion, member_of, resolved, operands_from, value_at};
 ghost use Rattle.run_code.specs.Numbered.{AreAdded, AreNoted, AreBelow};
@@ -159,16 +161,28 @@ pub struct Counts {
     pub olds: u32,
 }
 
-// How many isolated initializers there are in a tree, and in their own trees.
-fn own_trees(root: &Typed) -> u32 {
-    let mut count: u32 = match &root.node {
-        Node::Isolated(own) => own_trees(own.get()).saturating_add(1),
-        _ => 0,
+// The number behind those of the own trees of the isolated initializers in a tree, which have numbers from this one on.
+fn behind_own(root: &Typed, first: u32) -> Result<u32, NoMemory>
+    ensures { IfOk result (λ n. n ≡ first + length (own_trees root.now)) }
+{
+    let mut next = match &root.node {
+        Node::Isolated(own) => behind_own(own.get(), number_with(first, 1)?)?,
+        _ => first,
     };
     for child in root.children.as_slice() {
-        count = count.saturating_add(own_trees(child));
+        next = behind_own(child, next)?;
     }
-    count
+    Ok(next)
+}
+
+// .. where only that of the root counts.
+fn behind_root(root: &Typed, first: u32) -> Result<u32, NoMemory>
+    ensures { IfOk result (λ n. n ≡ first + length (trees_at root.now)) }
+{
+    match &root.node {
+        Node::Isolated(own) => behind_own(own.get(), number_with(first, 1)?),
+        _ => Ok(first),
+    }
 }
 
 // Adds the nodes of a tree in preorder, and counts the rooms for old values.
@@ -183,6 +197,7 @@ pub fn collect<'p>(
     ensures counted { OnOk result (length nodes.new.items < 2 ^ 32) }
     ensures fit { (p : ProgramOf) → TreeFits p root.now → NodesFit p nodes.old.items → OnOk result (NodesFit p nodes.new.items) }
     ensures rooms { OnOk result (AreRoomed (length nodes.old.items) nodes.new.items counts.old.olds counts.new.olds) }
+    ensures owned { OnOk result (AreOwned (length nodes.old.items) (own_trees root.now) nodes.new.items counts.old.initializers counts.new.initializers) }
 {
     let number = number_of(nodes.len())?;
     let noted = info(objects, root, parent, number, counts)?;
@@ -217,13 +232,12 @@ fn info<'p>(
     ensures operand { IfOk result (λ x. x.operand ≡ resolved objects.now.first.items tree.now number) }
     ensures room { IfOk result (λ x. x.room ≡ counts.old.olds) }
     ensures olds { OnOk result (counts.new.olds ≡ olds_with (head_at (out-Typed tree.now).node) counts.old.olds) }
+    ensures initializer { IfOk result (λ x. x.initializer ≡ counts.old.initializers) }
+    ensures initializers { OnOk result (counts.new.initializers ≡ counts.old.initializers + length (trees_at tree.now)) }
 {
     let Counts { initializers, olds } = *counts;
     counts.olds = with_old(&tree.node, olds)?;
-    if let Node::Isolated(own) = &tree.node {
-        let next = initializers.saturating_add(1);
-        counts.initializers = next.saturating_add(own_trees(own.get()));
-    }
+    counts.initializers = behind_root(tree, initializers)?;
     Ok(NodeInfo {
         tree,
         parent,

@@ -267,7 +267,8 @@ module _ (world : World) (m : Machine) (f : Scene) (e : Begun) (firsts : List �
       (operand_values world f e.given (suc u.node) h (exprs_of ts)) (own_value k)
 
   abbrev sight : CType → List Typed → Operand → ℕ → Sight
-  sight ty ts own room = record { operands = Ops ts; object = pointed (code.first_type ty ts); own = own; room = room }
+  sight ty ts own room =
+      record { operands = Ops ts; object = pointed (code.first_type ty ts); later = code.later_types ts; own = own; room = room }
 
   -- the operands of a node are given
   abbrev Operands : Head → List Typed → Type 0

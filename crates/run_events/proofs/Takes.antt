@@ -463,7 +463,13 @@ module _ (quiet_gives : QuietGives) (world : World) (m : Machine) (f : Scene) (e
       → at_node 0 e.root due.place.node ≡ Some (expr (head_in d ty) ty line (exprs_of ts)) → CountIs (sites.head_of d) (length ts)
       → All (λ o. is_quiet (tree_of (expr_of o)) ≡ true → IsNamed m firsts f.blocks (expr_of o)) ts → ListIsThere m firsts f.blocks (head_in d ty)
       → IsAct firsts m.code.now.tables initializer (sites.head_of d)
-      (record { operands = operands_from firsts (suc due.place.node) ts; object = pointed (code.first_type ty ts); own = own; room = room }) k due.act
+      (record {
+        operands = operands_from firsts (suc due.place.node) ts;
+        object = pointed (code.first_type ty ts);
+        later = code.later_types ts;
+        own = own;
+        room = room;
+      }) k due.act
       → OwnIsGiven world m f firsts due.place.node room (head_in d ty) k (values_of world f e.given (suc due.place.node) (exprs_of ts))
       (or_nothing (e.given (place due.place.node (own_kind k))))
   own_gives (shape.Call discarded) ty line ts own room initializer Val is there counts named list act =

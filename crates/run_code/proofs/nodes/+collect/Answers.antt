@@ -3,6 +3,7 @@ use Rattle.std.proofs.lemmas.List.{drop_more}
 use Rattle.std.proofs.lemmas.Option.{slice_get_within, get_or_from_slice_get}
 use Rattle.run_code.proofs.Collected.{Between, begun, more_collected, collected, drop_past, relabelled}
 use Rattle.run_code.proofs.FittingLemmas.{root_fits, child_fits, node_pushed, nodes_set}
+use Rattle.run_code.proofs.Owned.{own_begun, own_more, own_all}
 use Rattle.run_code.proofs.Roomed.{one_roomed, more_roomed, all_roomed}
 use Rattle.run_code.proofs.nodes.+collect.Goals as goal
 
@@ -17,6 +18,9 @@ loop-child-init t c =
           c.in_ok-noted.ensures.tree (root_fits p c.args.root.now h),
       one_roomed c.in_ok-number.number c.args.nodes.now.items c.push.new.self.items c.in_ok-noted.noted c.args.root.now c.args.counts.now.olds
           c.info.new.counts.olds at c.in_ok-push.ensures.items c.in_ok-noted.ensures.tree c.in_ok-noted.ensures.room c.in_ok-noted.ensures.olds,
+      own_begun c.in_ok-number.number c.args.nodes.now.items c.push.new.self.items c.in_ok-noted.noted c.args.root.now c.as_slice-child-items.result.now
+          c.args.counts.now.initializers c.info.new.counts.initializers at c.in_ok-push.ensures.items c.in_ok-noted.ensures.tree
+          c.in_ok-noted.ensures.initializer c.in_ok-noted.ensures.initializers c.as_slice-child-items.ensures,
     )
 
 pub loop-child-preserved : goal.loop-child-preserved
@@ -34,6 +38,9 @@ loop-child-preserved t c =
           (c.loop-child.invariant.1 p h old),
       more_roomed c.in_ok-number.number c.loop-child.nodes.items c.collect.new.nodes.items c.args.counts.now.olds c.loop-child.counts.olds
           c.collect.new.counts.olds c.in_ok-collect.ensures.added.kept c.loop-child.invariant.2 c.in_ok-collect.ensures.rooms,
+      own_more c.in_ok-number.number c.args.root.now c.child-item.result c.loop-child.nodes.items c.collect.new.nodes.items
+          (drop c.loop-child.child-index c.as_slice-child-items.result.now) rest c.args.counts.now.initializers c.loop-child.counts.initializers
+          c.collect.new.counts.initializers left c.in_ok-collect.ensures.added.kept c.loop-child.invariant.3 c.in_ok-collect.ensures.owned,
     )
 
 pub index_mut-requires : goal.index_mut-requires
@@ -67,3 +74,13 @@ returns-clause-rooms t c =
     (ap (λ y. y.tree.now) (c.index_mut.ensures.value ∙ get_or_from_slice_get c.loop-child.nodes.items c.in_ok-number.number top.0 c.index_mut.result.now top.1))
     (ap (λ y. y.room) (c.index_mut.ensures.value ∙ get_or_from_slice_get c.loop-child.nodes.items c.in_ok-number.number top.0 c.index_mut.result.now top.1))
     top.1 c.loop-child.invariant.2
+
+pub returns-clause-owned : goal.returns-clause-owned
+returns-clause-owned t c =
+    let top = c.loop-child.invariant.0.top in
+    let same = c.index_mut.ensures.value ∙ get_or_from_slice_get c.loop-child.nodes.items c.in_ok-number.number top.0 c.index_mut.result.now top.1 in
+    own_all c.in_ok-number.number c.args.root.now c.args.nodes.now.items c.loop-child.nodes.items _
+    (drop c.loop-child.child-index c.as_slice-child-items.result.now) (record c.index_mut.result.now { next = c.in_ok-next.next }) top.0
+    c.args.counts.now.initializers c.loop-child.counts.initializers c.loop-child.invariant.0.at refl (ap (λ y. y.tree.now) same)
+    (ap (λ y. y.initializer) same) top.1
+    (drop_past c.as_slice-child-items.result.now c.loop-child.child-index (omega (arith, c.loop-child-test.false))) c.loop-child.invariant.3

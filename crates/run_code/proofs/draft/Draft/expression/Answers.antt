@@ -1,5 +1,6 @@
-use Rattle.std.proofs.Common.{arith, ◌≡◌, ◌+◌, List, [], None, length, slice_get, sym, ap, subst, ◌∙◌}
+use Rattle.std.proofs.Common.{arith, ◌≡◌, ◌+◌, ℕ, suc, List, [], None, length, slice_get, sym, ap, subst, ◌∙◌}
 use Rattle.c_typed.specs.Tree.{tree_of, size}
+use Rattle.elaborate.specs.Expressions.{own_trees}
 use Rattle.std.proofs.lemmas.List.Elements.{All-nil}
 use Rattle.run_code.specs.EventActs.{AreEntries, AreGrown}
 use Rattle.run_code.specs.declared.expressions.Laid.{Laid}
@@ -13,7 +14,9 @@ use Rattle.run_code.proofs.Collected.{nodes_added}
 use Rattle.run_code.proofs.FittingLemmas.{always}
 use Rattle.run_code.specs.Functions.{AddsExpression}
 use Rattle.run_code.proofs.Entries.{on_ok}
+use Rattle.run_code.specs.Initializers.{HaveNumbers}
 use Rattle.run_code.specs.Rooms.{AreRoomed, IsRoomedBy}
+use Rattle.run_code.proofs.Owned.{numbers_had}
 use Rattle.run_code.proofs.Roomed.{roomed_by}
 use Rattle.run_code.proofs.Grown.{entries_grown, grown_both}
 use Rattle.run_code.proofs.draft.Draft.expression.Goals as goal
@@ -56,13 +59,21 @@ returns-clause-added c =
     let nodes : AreNodes firsts root c.collect.new.nodes.items = nodes_added firsts root c.collect.new.nodes.items added in
     let whole : AreNodes firsts root c.deref-2.result.now = subst (AreNodes firsts root) (sym c.deref-2.ensures.value) nodes in
     let before : c.chosen.new.self.expressions.laid ≡ c.args.self.now.expressions.laid = c.in_ok-chosen.ensures.kept ∙ c.in_ok-entries.ensures.kept in
+    let next : c.in_ok-number_with.field-0 ≡ suc (length c.chosen.new.self.expressions.laid.all.items) =
+    omega (arith, c.in_ok-number_with.ensures.sum, c.in_ok-next_number.ensures, ap (λ (l : Laid). length l.all.items) before) in
+    let numbers : HaveNumbers (suc (length c.chosen.new.self.expressions.laid.all.items)) (own_trees root) c.deref-3.result.now =
+    subst (HaveNumbers (suc (length c.chosen.new.self.expressions.laid.all.items)) (own_trees root)) (sym c.deref-3.ensures.value)
+    (subst (λ (n : ℕ). HaveNumbers n (own_trees root) c.collect.new.nodes.items) next
+    (numbers_had c.in_ok-number_with.field-0 c.collect.new.counts.initializers (own_trees root) c.new-nodes.result.items c.collect.new.nodes.items
+    c.new-nodes.ensures.items c.in_ok-collect.ensures.owned)) in
     on_ok c.add_expression.result _ _
     (λ a. subst (λ (l : Laid). AddsExpression firsts root c.add_expression.new.self.tables l c.add_expression.new.self.laid) before
     (subst (λ (t : Tables). AddsExpression firsts root t c.chosen.new.self.expressions.laid c.add_expression.new.self.laid)
     (sym c.add_expression.ensures.tables) a))
     (c.add_expression.ensures.added firsts (subst (AreNodes firsts root) (sym c.deref-3.ensures.value) nodes)
     (subst (AreEntries firsts tables c.deref-3.result.now) (sym c.deref-4.ensures.value)
-    (subst (λ ns. AreEntries firsts tables ns c.in_ok-entries.entries.items) same grown)) (c.in_ok-chosen.ensures.chosen firsts None whole.each whole.top))
+    (subst (λ ns. AreEntries firsts tables ns c.in_ok-entries.entries.items) same grown)) (c.in_ok-chosen.ensures.chosen firsts None whole.each whole.top)
+    numbers)
 
 pub returns-clause-listed : goal.returns-clause-listed
 returns-clause-listed c = λ h.

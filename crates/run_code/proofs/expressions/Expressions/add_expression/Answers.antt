@@ -62,11 +62,11 @@ returns-clause-listed c = λ terms old given.
     c.in_ok-extend_from_slice.ensures.items c.in_ok-push.ensures.items first end c.args.self.now.within given old
 
 pub returns-clause-added : goal.returns-clause-added
-returns-clause-added c = λ firsts nodes due chosen.
+returns-clause-added c = λ firsts nodes due chosen numbers.
     let entries = c.args.self.now.laid.entries.items in
     let longer = c.extend_from_slice.new.self.items in
     let first : c.len-first.result ≡ length entries = search rules in
     let end : c.len-end.result ≡ length longer = search rules in
     expression_added firsts c.args.root.now c.args.self.now.tables c.args.self.now.laid _ longer c.args.entries.now c.args.nodes.now _
     c.in_ok-extend_from_slice.ensures.items refl c.in_ok-push.ensures.items refl nodes c.requires.roomed due chosen
-    (root_value firsts c.args.root.now c.args.nodes.now c.index-nodes-0.result nodes) first end
+    (root_value firsts c.args.root.now c.args.nodes.now c.index-nodes-0.result nodes) first end numbers
