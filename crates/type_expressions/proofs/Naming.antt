@@ -9,6 +9,7 @@ use Rattle.c_types.specs.declared.kind.IntKind.TheVariants.{Int}
 use Rattle.c_types.specs.Types.{CType, Qualified, int, pointer}
 use Rattle.c_typed.specs.declared.tree.Slot.{Slot}
 use Rattle.c_typed.specs.declared.tree.Slot.TheVariants as slot
+use Rattle.c_typed.specs.declared.tree.Target.TheVariants as target
 use Rattle.c_typed.specs.declared.tree.Node.TheOpen as shape
 use Rattle.type_name_space.specs.Scopes.{visible}
 use Rattle.type_operands.specs.declared.operand.Form.TheVariants as form
@@ -16,9 +17,12 @@ use Rattle.type_operands.specs.declared.operand.Operand.{Operand}
 use Rattle.type_operands.specs.Terms.{Expression, leaf, constant, as_place, as_value}
 use Rattle.typing_env.specs.Env.{Env, Meaning, an_object, a_function, a_constant, a_typedef, Use, line_in, line_of, symbol_in, symbol_of}
 use Rattle.typing_env.specs.Names.{meaning_of, meaning_in}
+use Rattle.typing_words.specs.Words as words
 use Rattle.typing_spec.specs.Expressions.{named, named_as, using, use_of_object, use_of_function}
-use Rattle.type_scope.specs.Known.{Naming, known_by, with_tables, slot_seen, meaning_seen}
-use Rattle.type_scope.specs.Reads.{Reads, Follows}
+use Rattle.type_scope.specs.Known.{Naming, IsKnown, known_by, with_tables, slot_seen, meaning_seen}
+use Rattle.type_scope.specs.Objects.{IsOneToOne, HasObjects}
+use Rattle.type_scope.specs.Reads.{Follows}
+use Rattle.type_scope.specs.Uses.{with_use, HasUses, count_of}
 use Rattle.type_scope.specs.declared.fault.TypeFault.{TypeFault}
 use Rattle.type_scope.specs.declared.rows.Meaning as held
 use Rattle.type_scope.specs.declared.state.State.{State}
@@ -26,8 +30,9 @@ use Rattle.type_scope.proofs.Seen.{symbol_is, meaning_is}
 use Rattle.type_declarators.specs.Finds.{Finds}
 use Rattle.type_expressions.specs.declared.apply.NameMeaning.{NameMeaning}
 use Rattle.type_expressions.specs.Forms.{in_expression, name_seen}
-use Rattle.type_expressions.specs.Plain.{IsAutomatic, IsUnused, Stands}
 use Rattle.type_expressions.specs.Seen.{Namings, operand_seen}
+use Rattle.type_expressions.specs.Tells.{Tells}
+use Rattle.type_expressions.proofs.Uses.{count_same, object_tells, function_tells, unused_tells}
 
 -- 1. What is found among the declarations in scope.
 
@@ -99,39 +104,6 @@ pub follows_by : (n : Namings) (x : Expression) (now : Env) (found : Option (Exp
 follows_by n x now found (Ok o) e f = (now, e ∙ ap (λ (y : Expression). let p : Expression × Env = (y, now) in Some p) (same_Some x (operand_seen n o) f), tt)
 follows_by n x now found (Err y) e f = λ other. absurd (none-some x (sym (f other)))
 
-pub reads_by : (n : Namings) (x : Expression) (now : Env) (found : Option (Expression × Env)) (result : Result Operand TypeFault)
-    → found ≡ Some (x, now) → Finds (operand_seen n) (Some x) result → Reads (operand_seen n) found result now
-reads_by n x now found (Ok o) e f = e ∙ ap (λ (y : Expression). let p : Expression × Env = (y, now) in Some p) (same_Some x (operand_seen n o) f)
-reads_by n x now found (Err y) e f = λ other. absurd (none-some x (sym (f other)))
-
-using_none : (env : Env) → using [] env ≡ env
-using_none env = ap (λ (us : List Use). record env { uses = us }) (append-nil env.uses)
-
--- an automatic object
-pub automatic_read : (n : Namings) (env : Env) (at line : ℕ) (s : Slot) (q : Qualified) (register : Bool) (result : Result Operand TypeFault)
-    → line ≡ line_of env at → Some (an_object (slot_seen n.objects s) q register) ≡ in_expression (meaning_of env (symbol_of env at))
-    → IsAutomatic s
-    → Finds (operand_seen n) (Some (as_place register (leaf (shape.Obj (slot_seen n.objects s)) (pointer q.constant q.ty) line))) result
-    → Reads (operand_seen n) (named at env) result env
-automatic_read n env at line (slot.Static number) q register result e is h f = absurd h
-automatic_read n env at line (slot.Auto block decl) q register result e is h f =
-    reads_by n (as_place register (leaf (shape.Obj (slot.Auto block decl)) (pointer q.constant q.ty) line)) env (named at env) result
-    (object_named env at line (slot.Auto block decl) q register e is
-    ∙ ap (λ (k : Env). let p : Expression × Env = (as_place register (leaf (shape.Obj (slot.Auto block decl)) (pointer q.constant q.ty) line), k) in Some p)
-    (using_none env)) f
-
-unused_by : (s : Slot) (n : Naming) (q : Qualified) (register : Bool) (o : Option Meaning) → o ≡ Some (an_object (slot_seen n s) q register) → IsUnused o
-    → IsAutomatic s
-unused_by (slot.Static number) n q register o e h = let P : Option Meaning → Type 0 = λ x. IsUnused x in subst P e h
-unused_by (slot.Auto block decl) n q register o e h = tt
-
-pub is_automatic : (s : Slot) (n : Naming) (q : Qualified) (register : Bool) (o : Option Meaning)
-    → Some (an_object (slot_seen n s) q register) ≡ in_expression o → IsUnused o → IsAutomatic s
-is_automatic s n q register o e h = unused_by s n q register o (meant o (an_object (slot_seen n s) q register) e) h
-
-pub no_function : (number : ℕ) (ty : CType) (o : Option Meaning) → Some (a_function number ty) ≡ in_expression o → IsUnused o → ⊥
-no_function number ty o e h = let P : Option Meaning → Type 0 = λ x. IsUnused x in subst P (meant o (a_function number ty) e) h
-
 -- 4. Where it stands.
 
 pub line_known : (n : Naming) (t : TokenText) (s : State) (env : Env) (at line : ℕ) → line ≡ line_in t.list (line_at t at)
@@ -148,13 +120,42 @@ means n t s env at symbol m x o e is seen found =
     sym seen ∙ ap (name_seen n) (sym is) ∙ found n t env
     ∙ ap (λ k. in_expression (meaning_of (known_by n t s env) k)) (sym (symbol_is n t s env at ∙ sym e))
 
-pub unused_known : (n : Namings) (t : TokenText) (s : State) (env : Env) (at : ℕ) → Stands n t s env → IsUnused (meaning_of env (symbol_of env at))
-    → IsUnused (meaning_of (known_by n.objects t s env) (symbol_of (known_by n.objects t s env) at))
-unused_known n t s env at h unused = let P : Env → Type 0 = λ k. IsUnused (meaning_of k (symbol_of k at)) in subst P h.0 unused
+-- .. and where the state tells what is known
+pub meant_here : (n : Naming) (t : TokenText) (s : State) (env : Env) (at : ℕ) (o : Option Meaning) → IsKnown n t s env
+    → o ≡ in_expression (meaning_of (known_by n t s env) (symbol_of (known_by n t s env) at))
+    → o ≡ in_expression (meaning_of env (symbol_of env at))
+meant_here n t s env at o known is =
+    let P : Env → Type 0 = λ k. o ≡ in_expression (meaning_of k (symbol_of k at)) in subst P (sym known) is
 
-pub from_known : (n : Namings) (t : TokenText) (s : State) (env : Env) (at : ℕ) (result : Result Operand TypeFault) → Stands n t s env
-    → Reads (operand_seen n) (named at (known_by n.objects t s env)) result (known_by n.objects t s env) → Reads (operand_seen n) (named at env) result env
-from_known n t s env at result h r = let P : Env → Type 0 = λ k. Reads (operand_seen n) (named at k) result k in subst P (sym h.0) r
+-- 5. What is used.
 
-pub stays : (n : Namings) (t : TokenText) (old new : State) (env : Env) → Stands n t old env → new ≡ old → Stands n t new env
-stays n t old new env h e = let P : State → Type 0 = λ s. Stands n t s env in subst P (sym e) h
+-- an object with static storage
+pub object_noted : (n : Namings) (t : TokenText) (off : Bool) (before : List Use) (x : Slot) (number : ℕ) (ty was : CType) (old new : State) (env : Env)
+    → x ≡ slot.Static number → was ≡ ty → new ≡ record old { objects = new.objects } → Tells n t off before old env
+    → ((env2 : Env) → HasObjects n.objects old env2 → HasObjects n.objects new env2)
+    → (IsOneToOne n.objects → (us : List Use) → HasUses n.objects old us
+    → HasUses n.objects new (with_use old.unevaluated (record { target = target.Static (n.objects number); count = count_of was }) us))
+    → Tells n t off before new (using (use_of_object (slot_seen n.objects x) ty) env)
+object_noted n t off before x number ty was old new env is same e h rows uses =
+    let u : Use = record { target = target.Static (n.objects number); count = words.count_of ty } in
+    let P : Slot → Type 0 = λ y. Tells n t off before new (using (use_of_object (slot_seen n.objects y) ty) env) in
+    subst P (sym is) (object_tells n t off before u old new env e h rows (λ d us k.
+    let U : Option ℕ → Type 0 = λ m. HasUses n.objects new (with_use old.unevaluated (record { target = target.Static (n.objects number); count = m }) us) in
+    subst U (ap count_of same ∙ count_same ty) (uses d us k)))
+
+-- an automatic one, which isn't noted
+pub object_unnoted : (n : Namings) (t : TokenText) (off : Bool) (before : List Use) (x : Slot) (block decl : ℕ) (ty : CType) (s : State) (env : Env)
+    → x ≡ slot.Auto block decl → Tells n t off before s env → Tells n t off before s (using (use_of_object (slot_seen n.objects x) ty) env)
+object_unnoted n t off before x block decl ty s env is h =
+    let P : Slot → Type 0 = λ y. Tells n t off before s (using (use_of_object (slot_seen n.objects y) ty) env) in
+    subst P (sym is) (unused_tells n t off before s env h)
+
+pub function_noted : (n : Namings) (t : TokenText) (off : Bool) (before : List Use) (number : ℕ) (old new : State) (env : Env)
+    → new ≡ record old { functions = new.functions } → Tells n t off before old env
+    → ((k : Naming) (u : TokenText) (env2 : Env) → known_by k u new env2 ≡ known_by k u old env2)
+    → ((k : Naming) (us : List Use) → HasUses k old us
+    → HasUses k new (with_use old.unevaluated (record { target = target.Function number; count = None }) us))
+    → Tells n t off before new (using (use_of_function number) env)
+function_noted n t off before number old new env e h known uses =
+    let u : Use = record { target = target.Function number; count = None } in
+    function_tells n t off before u old new env e h (known n.objects t env) (uses n.objects)

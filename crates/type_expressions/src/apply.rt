@@ -1,5 +1,5 @@
 // Each form of expression, from its operands (6.5).
-ghost use Rattle.std.specs.Prelude.{◌≡◌, ℕ, Bool, false, map, Option, Some, IfOk};
+ghost use Rattle.std.specs.Prelude.{◌≡◌, ℕ, Bool, false, List, map, Option, Some, IfOk};
 ghost use Rattle.std.specs.Option.{option_map, option_copied};
 ghost use Rattle.c_lex.specs.TokenText.{TokenText, text_at};
 ghost use Rattle.c_types.specs.Types.{type_of, qualified_of, pointer};
@@ -12,7 +12,7 @@ ghost use Rattle.type_conversions.specs.Casts as casts;
 ghost use Rattle.type_assignments.specs.Assignments as assignments;
 ghost use Rattle.type_calls.specs.Calls as calls;
 ghost use Rattle.type_calls.specs.Choices as choices;
-ghost use Rattle.typing_env.specs.Env.{Env, if_found, symbol_of};
+ghost use Rattle.typing_env.specs.Env.{Env, Use, if_found};
 ghost use Rattle.typing_env.specs.Names.{meaning_of};
 ghost use Rattle.typing_spec.specs.Expressions as spec;
 ghost use Rattle.type_scope.specs.Known.{Naming, known_by, slot_seen, meaning_seen};
@@ -20,9 +20,9 @@ ghost use Rattle.type_scope.specs.Reads.{Follows, Reads};
 ghost use Rattle.type_scope.specs.Tagged.{has_constant};
 ghost use Rattle.type_declarators.specs.Finds.{Finds};
 ghost use Rattle.type_expressions.specs.Forms.{by_form, assigned_by, member_by, measured_by, in_expression, name_seen};
-ghost use Rattle.type_expressions.specs.Plain.{IsAutomatic, IsUnused, Stands, ReadsAlone};
 ghost use Rattle.type_expressions.specs.Seen.{Namings, operand_seen};
 ghost use Rattle.type_expressions.specs.Standing.{layouts_in, extent_of};
+ghost use Rattle.type_expressions.specs.Tells.{Tells, ReadsAs};
 
 use c_ast::{AssignOp, BinaryOp, PostOp, UnaryOp};
 use c_typed::{EqOp, Node, RelOp, Slot};
@@ -38,6 +38,16 @@ use type_scope::{Meaning, Source, State, TypeFault, placed, placed_for, placed_u
 use type_values::enumerator;
 use ub_base::NoMemory;
 
+// An object with static storage is used (6.9p3).
+fn note_object(state: &mut State, slot: Slot, qual: &Qual, line: u32)
+    ensures { (n : Namings) (t : TokenText) (off : Bool) (before : List Use) (env : Env) → Tells n t off before state.old env → Tells n t off before state.new (spec.using (spec.use_of_object (slot_seen n.objects slot) (qualified_of qual.now).ty) env) }
+{
+    match slot {
+        Slot::Static(number) => state.use_object(number, &qual.ty, line),
+        Slot::Auto { block: _, decl: _ } => {}
+    }
+}
+
 // An object, which is used where it has static storage (6.9p3).
 fn object_operand(
     state: &mut State,
@@ -46,19 +56,18 @@ fn object_operand(
     register: bool,
     line: u32,
 ) -> Result<Operand, TypeFault>
-    ensures kept { IsAutomatic slot → state.new ≡ state.old }
+    ensures told { (n : Namings) (t : TokenText) (off : Bool) (before : List Use) (env : Env) → Tells n t off before state.old env → Tells n t off before state.new (spec.using (spec.use_of_object (slot_seen n.objects slot) (qualified_of qual).ty) env) }
     ensures made { (n : Namings) → let q = qualified_of qual in Finds (operand_seen n) (Some (as_place register (leaf_term (shape.Obj (slot_seen n.objects slot)) (pointer q.constant q.ty) line))) result }
 {
-    if let Slot::Static(number) = slot {
-        state.use_object(number, &qual.ty, line);
-    }
+    note_object(state, slot, &qual, line);
     let ty = Ty::Pointer(Shared::new(state.alloc, qual)?);
     Ok(place(leaf(state.alloc, Node::Obj(slot), ty, line), register))
 }
 
 // A function, which is used (6.9p3).
 fn function_operand(state: &mut State, number: u32, ty: Ty, line: u32) -> Result<Operand, TypeFault>
-    ensures { (n : Namings) → Finds (operand_seen n) (Some (record { tree = leaf_term (shape.Func number) (pointer false (type_of ty)) line; form = form.Designator; line = line })) result }
+    ensures told { (n : Namings) (t : TokenText) (off : Bool) (before : List Use) (env : Env) → Tells n t off before state.old env → Tells n t off before state.new (spec.using (spec.use_of_function number) env) }
+    ensures made { (n : Namings) → Finds (operand_seen n) (Some (record { tree = leaf_term (shape.Func number) (pointer false (type_of ty)) line; form = form.Designator; line = line })) result }
 {
     state.use_function(number, line);
     let target = Qual {
@@ -109,7 +118,7 @@ fn copied_meaning(alloc: Global, meaning: &Meaning) -> Result<NameMeaning, NoMem
 #[inline(never)]
 pub fn named(source: &Source<'_>, state: &mut State, at: u32) -> Result<Operand, TypeFault>
     ensures operand { (n : Namings) (env : Env) → Follows (operand_seen n) (λ _. Unit {0}) (spec.named at (known_by n.objects source.now state.old env)) result }
-    ensures alone { (n : Namings) (env : Env) → Stands n source.now state.old env → IsUnused (meaning_of env (symbol_of env at)) → ReadsAlone n source.now env (spec.named at) state.new result }
+    ensures reads { ReadsAs operand_seen source.now state.old state.new (λ _. spec.named at) result }
 {
     let line = source.line(at);
     match meaning_of(state.alloc, state, source.symbol(at))? {
