@@ -2,11 +2,17 @@ pub mod Applied
 pub mod Assigning
 pub mod Calling
 pub mod Constants
+pub mod Declaring
 pub mod Folding
 pub mod Following
+pub mod Lists
+pub mod Literal
 pub mod Measured
 pub mod Naming
+pub mod Nodes
 pub mod Operating
+pub mod Sizes
+pub mod Specifying
 pub mod Standing
 pub mod Told
 pub mod Uses

@@ -1,7 +1,7 @@
 -- What a state tells of what is known, where an expression begins or ends, and what a call reads there.
 use Rattle.std.specs.Prelude.{◌≡◌, ℕ, Bool, true, false, List, Option, Result}
 use Rattle.c_lex.specs.TokenText.{TokenText, line_at}
-use Rattle.typing_env.specs.Env.{Env, Typing, Use, line_in}
+use Rattle.typing_env.specs.Env.{Env, Typing, Use, and_then, line_in}
 use Rattle.type_scope.specs.Known.{IsKnown}
 use Rattle.type_scope.specs.Objects.{IsOneToOne, HasObjects}
 use Rattle.type_scope.specs.Reads.{Follows}
@@ -35,3 +35,7 @@ line_by t at = line_in t.list (line_at t at)
 abbrev pub ReadsAs : {A B : Type 0} → (Namings → A → B) → TokenText → (old new : State) → (Namings → Typing B) → Result A TypeFault → Type 0
 ReadsAs view t old new read result =
     (n : Namings) (off : Bool) (before : List Use) (env : Env) → Tells n t off before old env → Follows (view n) (Tells n t off before new) (read n env) result
+
+-- one reading, and another behind it
+abbrev pub read_then : {A B : Type 0} → Typing A → (A → Typing B) → Typing B
+read_then p f = λ env. and_then (p env) f

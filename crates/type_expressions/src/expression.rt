@@ -1,4 +1,13 @@
 // Expressions, and the declarations inside them: type names, specifiers and declarators (6.5, 6.7.2 to 6.7.7).
+ghost use Rattle.std.specs.Prelude.{◌≡◌, ℕ, map};
+ghost use Rattle.type_calls.specs.Choices.{chosen};
+ghost use Rattle.type_operators.specs.Operators.{indexed};
+ghost use Rattle.typing_env.specs.Env.{spelling, unevaluated};
+ghost use Rattle.typing_spec.specs.Expressions as spec;
+ghost use Rattle.type_expressions.specs.Forms.{member_by};
+ghost use Rattle.type_expressions.specs.Plain.{IsPlain, AllPlain, operands_of};
+ghost use Rattle.type_expressions.specs.Seen.{operand_seen};
+ghost use Rattle.type_expressions.specs.Tells.{ReadsAs, line_by, read_then};
 
 use crate::apply;
 use c_ast::{
@@ -18,7 +27,9 @@ use ub_base::Items;
 /// An expression (6.5). What follows a first operand is read by a function of its own that isn't inlined, so that a level of
 /// nesting costs the host's stack little.
 #[cycle(expression)]
-pub fn expression(source: &Source<'_>, state: &mut State, e: &Expr) -> Result<Operand, TypeFault> {
+pub fn expression(source: &Source<'_>, state: &mut State, e: &Expr) -> Result<Operand, TypeFault>
+    ensures { IsPlain e.now.node → ReadsAs operand_seen source.now state.old state.new (λ _. spec.expr e.now) result }
+{
     let line = source.line(e.at);
     match &e.node {
         ExprNode::Name(at) => apply::named(source, state, *at),
@@ -74,7 +85,9 @@ fn unary(
     a: &Expr,
     op: UnaryOp,
     line: u32,
-) -> Result<Operand, TypeFault> {
+) -> Result<Operand, TypeFault>
+    ensures { (at : ℕ) → line ≡ line_by source.now at → IsPlain a.now.node → ReadsAs operand_seen source.now state.old state.new (λ _. read_then (spec.expr a.now) (λ y. spec.made_modifying at (spec.unary op y))) result }
+{
     let a = expression(source, state, a)?;
     apply::unary(state, op, a, line)
 }
@@ -88,7 +101,9 @@ fn postfix(
     a: &Expr,
     op: PostOp,
     line: u32,
-) -> Result<Operand, TypeFault> {
+) -> Result<Operand, TypeFault>
+    ensures { (at : ℕ) → line ≡ line_by source.now at → IsPlain a.now.node → ReadsAs operand_seen source.now state.old state.new (λ _. read_then (spec.expr a.now) (λ y. spec.made_modifying at (spec.postfix op y))) result }
+{
     let a = expression(source, state, a)?;
     apply::postfix(state, op, a, line)
 }
@@ -103,7 +118,9 @@ fn binary(
     op: BinaryOp,
     a: Operand,
     line: u32,
-) -> Result<Operand, TypeFault> {
+) -> Result<Operand, TypeFault>
+    ensures { (at : ℕ) → line ≡ line_by source.now at → IsPlain b.now.node → ReadsAs operand_seen source.now state.old state.new (λ n. read_then (spec.expr b.now) (λ w. spec.made at (spec.binary op (operand_seen n a) w))) result }
+{
     let b = expression(source, state, b)?;
     apply::binary(state, op, a, b, line)
 }
@@ -118,7 +135,9 @@ fn assignment(
     op: AssignOp,
     a: Operand,
     line: u32,
-) -> Result<Operand, TypeFault> {
+) -> Result<Operand, TypeFault>
+    ensures { (at : ℕ) → line ≡ line_by source.now at → IsPlain b.now.node → ReadsAs operand_seen source.now state.old state.new (λ n. read_then (spec.expr b.now) (λ w. spec.made_modifying at (spec.assigned op (operand_seen n a) w))) result }
+{
     let b = expression(source, state, b)?;
     apply::assignment(state, op, a, b, line)
 }
@@ -133,7 +152,9 @@ fn conditional(
     a: Operand,
     b: Operand,
     line: u32,
-) -> Result<Operand, TypeFault> {
+) -> Result<Operand, TypeFault>
+    ensures { (at : ℕ) → line ≡ line_by source.now at → IsPlain c.now.node → ReadsAs operand_seen source.now state.old state.new (λ n. read_then (spec.expr c.now) (λ z. spec.made at (λ tags. chosen tags (operand_seen n a) (operand_seen n b) z))) result }
+{
     let c = expression(source, state, c)?;
     apply::conditional(state, a, b, c, line)
 }
@@ -147,7 +168,9 @@ fn subscript(
     b: &Expr,
     a: Operand,
     line: u32,
-) -> Result<Operand, TypeFault> {
+) -> Result<Operand, TypeFault>
+    ensures { (at : ℕ) → line ≡ line_by source.now at → IsPlain b.now.node → ReadsAs operand_seen source.now state.old state.new (λ n. read_then (spec.expr b.now) (λ w. spec.made at (λ tags. indexed tags (operand_seen n a) w))) result }
+{
     let b = expression(source, state, b)?;
     apply::subscript(state, a, b, line)
 }
@@ -162,7 +185,9 @@ fn member(
     arrow: bool,
     name: u32,
     line: u32,
-) -> Result<Operand, TypeFault> {
+) -> Result<Operand, TypeFault>
+    ensures { (at : ℕ) → line ≡ line_by source.now at → IsPlain a.now.node → ReadsAs operand_seen source.now state.old state.new (λ _. read_then (spec.expr a.now) (λ y k. spec.made at (λ tags. member_by arrow tags y (spelling k name)) k)) result }
+{
     let a = expression(source, state, a)?;
     apply::member(source, state, arrow, a, name, line)
 }
@@ -189,7 +214,9 @@ fn size_of_operand(
     state: &mut State,
     a: &Expr,
     line: u32,
-) -> Result<Operand, TypeFault> {
+) -> Result<Operand, TypeFault>
+    ensures { (at : ℕ) → line ≡ line_by source.now at → IsPlain a.now.node → ReadsAs operand_seen source.now state.old state.new (λ _. read_then (unevaluated (spec.expr a.now)) (λ y. spec.measured_operand at y)) result }
+{
     let mark = state.suspend();
     let a = expression(source, state, a)?;
     state.resume(mark);
@@ -227,7 +254,9 @@ fn expressions(
     source: &Source<'_>,
     state: &mut State,
     all: &[Expr],
-) -> Result<Vec<Operand>, TypeFault> {
+) -> Result<Vec<Operand>, TypeFault>
+    ensures { AllPlain all.now → ReadsAs (λ n v. map (operand_seen n) v.items) source.now state.old state.new (λ _. operands_of all.now) result }
+{
     let mut operands = Vec::new(state.alloc);
     for e in all {
         let operand = expression(source, state, e)?;
@@ -243,7 +272,9 @@ pub fn constant(
     state: &mut State,
     e: &Expr,
     reason: Reason,
-) -> Result<i128, TypeFault> {
+) -> Result<i128, TypeFault>
+    ensures { IsPlain e.now.node → ReadsAs (λ _ z. z) source.now state.old state.new (λ _. spec.constant e.now) result }
+{
     let mark = state.mark();
     let operand = expression(source, state, e)?;
     state.forget_literals(mark);

@@ -1,0 +1,201 @@
+-- Specifiers, as the definition reads them (6.7, 6.7.2).
+use Rattle.std.proofs.Common.{◌≡◌, ◌∙◌, refl, sym, ap, subst, ℕ, Bool, true, false, List, [], ◌∷◌}
+use Rattle.std.specs.Prelude.{◌≢◌, ◌||◌, if◌then◌else◌, Option, Some, None, Result, Ok, Err}
+use Rattle.std.proofs.lemmas.Option.{none-some}
+use Rattle.c_lex.specs.TokenText.{TokenText}
+use Rattle.c_lex.specs.declared.token.Word.{Word}
+use Rattle.c_ast.specs.declared.declaration.Base.{Base}
+use Rattle.c_ast.specs.declared.declaration.Base.TheBlock.{Plain, Tagged', Enumerated', Base-Enumerated-1-None', Base-Enumerated-1-Some', Typedef}
+use Rattle.c_types.specs.Types.{CType, Qualified, qualified_of, type_of}
+use Rattle.c_types.specs.declared.ty.Qual.{Qual}
+use Rattle.c_types.specs.declared.ty.Ty.{Ty}
+use Rattle.typing_env.specs.Env.{Env, Typing, Use, and_then, found, found_in, holds, pure, ◌>>=◌, ◌>>◌, symbol_of}
+use Rattle.typing_env.specs.Names.{meaning_of}
+use Rattle.typing_words.specs.Words.{Words, said, with_qualifiers, is_no_word, plain, plain_option, type_named, type_table, typedef_in, enumeration_reference}
+use Rattle.typing_spec.specs.Expressions.{Specified, specified, specified_as, by_keywords, by_typedef, lone, enumeration_by}
+use Rattle.type_scope.specs.Reads.{Reads, Follows}
+use Rattle.type_scope.specs.Known.{Naming, known_by}
+use Rattle.type_scope.specs.declared.fault.TypeFault.{TypeFault}
+use Rattle.type_scope.specs.declared.fault.TypeFault.TheVariants.{NoMemory}
+use Rattle.type_scope.specs.declared.state.State.{State}
+use Rattle.type_declarators.specs.Finds.{Finds}
+use Rattle.type_declarators.specs.Keywords.{Says, IsSaid}
+use Rattle.type_declarators.specs.Parts.{is_plain, with_keywords}
+use Rattle.type_declarators.specs.declared.words.Words as held
+use Rattle.type_expressions.specs.Seen.{Namings}
+use Rattle.type_expressions.specs.Tells.{Tells, ReadsAs}
+use Rattle.type_expressions.specs.TypeNames.{IsPlainBase, type_before, FollowsSo, IsSpecified}
+use Rattle.type_expressions.proofs.Following.{found_follows}
+
+-- 1. The definition, with the qualifiers last.
+
+abbrev pub specified_with : Words → Option Qualified → Option Specified
+specified_with ws None = None
+specified_with ws (Some q) = Some (record { words = ws; qual = q })
+
+as_found : (ws : Words) (o : Option Qualified) (env : Env)
+    → and_then (found_in env o) (λ q. pure (let s : Specified = record { words = ws; qual = q } in s)) ≡ found_in env (specified_with ws o)
+as_found ws None env = refl
+as_found ws (Some q) env = refl
+
+as_is : (ws : Words) (q : Qualified) (env : Env) → specified_as ws q env ≡ found_in env (specified_with ws (with_qualifiers ws q))
+unfolding specified_as
+as_is ws q env = as_found ws (with_qualifiers ws q) env
+
+-- behind the type: its qualifiers, and nothing where `b` is false
+abbrev pub qualified_by : Words → Bool → Typing Qualified → Typing Specified
+qualified_by ws b p = p >>= λ q. found (specified_with ws (if b then with_qualifiers ws q else None))
+
+then_qualified : (ws : Words) (o : Option (Qualified × Env))
+    → and_then o (λ q. specified_as ws q) ≡ and_then o (λ q. found (specified_with ws (with_qualifiers ws q)))
+then_qualified ws None = refl
+then_qualified ws (Some p) = as_is ws p.0 p.1
+
+then_none : (ws : Words) (o : Option (Qualified × Env)) → None ≡ and_then o (λ q. found (specified_with ws None))
+then_none ws None = refl
+then_none ws (Some p) = refl
+
+alone_is : (ws : Words) (b : Bool) (p : Typing Qualified) (env : Env)
+    → and_then (and_then (found_in env (Some ws)) (λ s. holds b >> pure s)) (λ s. p >>= λ q. specified_as s q) ≡ qualified_by ws b p env
+alone_is ws true p env = then_qualified ws (p env)
+alone_is ws false p env = then_none ws (p env)
+
+-- what the keywords say, and what stands among them
+abbrev pub specified_by : Option Words → Base → Typing Specified
+specified_by None base = λ env. None
+specified_by (Some ws) base = qualified_by ws (is_plain base || is_no_word ws.types) (type_before ws base)
+
+plain_is : (o : Option Words) (env : Env)
+    → and_then (found_in env o) (λ ws. by_keywords ws >>= λ q. specified_as ws q) ≡ specified_by o Plain env
+plain_is None env = refl
+plain_is (Some ws) env = then_qualified ws (by_keywords ws env)
+
+typedef_is : (o : Option Words) (n : ℕ) (env : Env)
+    → and_then (and_then (found_in env o) (λ ws. holds (is_no_word ws.types) >> pure ws)) (λ ws. by_typedef n >>= λ q. specified_as ws q)
+    ≡ specified_by o (Typedef n) env
+typedef_is None n env = refl
+typedef_is (Some ws) n env = alone_is ws (is_no_word ws.types) (by_typedef n) env
+
+enumerated_is : (o : Option Words) (tag : Option ℕ) (env : Env)
+    → and_then (and_then (found_in env o) (λ ws. holds (is_no_word ws.types) >> pure ws)) (λ ws. enumeration_reference tag >>= λ q. specified_as ws q)
+    ≡ specified_by o (Enumerated' tag Base-Enumerated-1-None') env
+enumerated_is None tag env = refl
+enumerated_is (Some ws) tag env = alone_is ws (is_no_word ws.types) (enumeration_reference tag) env
+
+specified_is : (words : List Word) (base : Base) (alone : Bool) (env : Env) → IsPlainBase base
+    → specified words base alone env ≡ specified_by (said words) base env
+unfolding specified lone enumeration_by
+specified_is words Plain alone env h = plain_is (said words) env
+specified_is words (Typedef n) alone env h = typedef_is (said words) n env
+specified_is words (Enumerated' tag Base-Enumerated-1-None') alone env h = enumerated_is (said words) tag env
+specified_is words (Enumerated' tag (Base-Enumerated-1-Some' l all)) alone env h = absurd h
+specified_is words (Tagged' is_union tag ms) alone env h = absurd h
+
+-- 2. What the calls answer.
+
+pub specified_ok : (t : TokenText) (old new : State) (o : Option Words) (base : Base) (h : held.Words) (q q2 : Qual)
+    → Says h o → ((ws : Words) → IsSaid h ws → ReadsAs (λ _. qualified_of) t old new (λ _. type_before ws base) (Ok q))
+    → ((some : Option Words) → Says h some → Finds qualified_of (with_keywords (is_plain base) some (qualified_of q)) (Ok q2))
+    → (n : Namings) (off : Bool) (before : List Use) (env : Env) → Tells n t off before old env
+    → FollowsSo IsSpecified (Tells n t off before new) (specified_by o base env) (Ok (h, q2))
+specified_ok t old new None base h q q2 says read suits n off before env tells = absurd (none-some (qualified_of q2) (suits None says))
+specified_ok t old new (Some ws) base h q q2 says read suits n off before env tells =
+    let g = read ws says n off before env tells in
+    let s : Specified = record { words = ws; qual = qualified_of q2 } in (
+      s,
+      (
+        g.0,
+        (
+          ap (λ (p : Option (Qualified × Env)). and_then p (λ x. found (specified_with ws (if is_plain base || is_no_word ws.types then with_qualifiers ws x
+              else None)))) g.1
+              ∙ ap (λ (x : Option Qualified). found_in g.0 (specified_with ws x)) (suits (Some ws) says),
+          ((says, refl), g.2),
+        ),
+      ),
+    )
+
+-- .. where the qualifiers don't suit
+pub specified_none : (t : TokenText) (old mid new : State) (o : Option Words) (base : Base) (h : held.Words) (q : Qual) (e : TypeFault)
+    → Says h o → ((ws : Words) → IsSaid h ws → ReadsAs (λ _. qualified_of) t old mid (λ _. type_before ws base) (Ok q))
+    → ((some : Option Words) → Says h some → Finds qualified_of (with_keywords (is_plain base) some (qualified_of q)) (Err e))
+    → (n : Namings) (off : Bool) (before : List Use) (env : Env) → Tells n t off before old env → e ≢ NoMemory → specified_by o base env ≡ None
+specified_none t old mid new None base h q e says read suits n off before env tells other = refl
+specified_none t old mid new (Some ws) base h q e says read suits n off before env tells other =
+    let g = read ws says n off before env tells in
+    ap (λ (p : Option (Qualified × Env)). and_then p (λ x. found (specified_with ws (if is_plain base || is_no_word ws.types then with_qualifiers ws x
+    else None)))) g.1
+    ∙ ap (λ (x : Option Qualified). found_in g.0 (specified_with ws x)) (suits (Some ws) says other)
+
+-- .. and where there is no type
+pub untyped_none : (t : TokenText) (old mid : State) (o : Option Words) (base : Base) (h : held.Words) (e : TypeFault)
+    → Says h o → ((ws : Words) → IsSaid h ws → ReadsAs (λ _. qualified_of) t old mid (λ _. type_before ws base) (Err e))
+    → (n : Namings) (off : Bool) (before : List Use) (env : Env) → Tells n t off before old env → e ≢ NoMemory → specified_by o base env ≡ None
+untyped_none t old mid None base h e says read n off before env tells other = refl
+untyped_none t old mid (Some ws) base h e says read n off before env tells other =
+    ap (λ (p : Option (Qualified × Env)). and_then p (λ x. found (specified_with ws (if is_plain base || is_no_word ws.types then with_qualifiers ws x
+    else None)))) (read ws says n off before env tells other)
+
+-- as specifiers
+pub so_specified : (t : TokenText) (new : State) (words : List Word) (base : Base) (alone : Bool) (n : Namings) (off : Bool) (before : List Use) (env : Env)
+    (result : Result (held.Words × Qual) TypeFault) → IsPlainBase base
+    → FollowsSo IsSpecified (Tells n t off before new) (specified_by (said words) base env) result
+    → FollowsSo IsSpecified (Tells n t off before new) (specified words base alone env) result
+so_specified t new words base alone n off before env result plain h =
+    let P : Option (Specified × Env) → Type 0 = λ o. FollowsSo IsSpecified (Tells n t off before new) o result in
+    subst P (sym (specified_is words base alone env plain)) h
+
+-- 3. The types (6.7.2p2, 6.7.8p3, 6.7.2.3).
+
+keywords_are : (o : Option CType) (env : Env) → and_then (found_in env o) (λ ty. pure (plain ty)) ≡ found_in env (plain_option o)
+keywords_are None env = refl
+keywords_are (Some ty) env = refl
+
+keywords_is : (ws : Words) (env : Env) → by_keywords ws env ≡ found_in env (plain_option (type_named ws.types type_table))
+unfolding by_keywords
+keywords_is ws env = keywords_are (type_named ws.types type_table) env
+
+by_base : (t : TokenText) (s : State) (ws : Words) (base form : Base) (r : Result Qual TypeFault) → base ≡ form
+    → ReadsAs (λ _. qualified_of) t s s (λ _. type_before ws form) r → ReadsAs (λ _. qualified_of) t s s (λ _. type_before ws base) r
+by_base t s ws base form r is h =
+    let P : Base → Type 0 = λ b. ReadsAs (λ _. qualified_of) t s s (λ _. type_before ws b) r in
+    subst P (sym is) h
+
+pub keywords_read : (t : TokenText) (s : State) (ws : Words) (base : Base) (r : Result Qual TypeFault) → base ≡ Plain
+    → Finds qualified_of (plain_option (type_named ws.types type_table)) r → ReadsAs (λ _. qualified_of) t s s (λ _. type_before ws base) r
+keywords_read t s ws base r is f = by_base t s ws base Plain r is (λ n off before env h.
+    let P : Option (Qualified × Env) → Type 0 = λ o. Follows qualified_of (Tells n t off before s) o r in
+    subst P (sym (keywords_is ws env)) (found_follows qualified_of (Tells n t off before s) env (plain_option (type_named ws.types type_table)) r h f))
+
+typedef_found : (m : ℕ) (env : Env) → by_typedef m env ≡ found_in env (typedef_in (meaning_of env (symbol_of env m)))
+unfolding by_typedef
+typedef_found m env = refl
+
+pub typedef_read : (t : TokenText) (s : State) (ws : Words) (base : Base) (m : ℕ) (r : Result Qual TypeFault) → base ≡ Typedef m
+    → ((k : Naming) (env : Env) → let here = known_by k t s env in Finds qualified_of (typedef_in (meaning_of here (symbol_of here m))) r)
+    → ReadsAs (λ _. qualified_of) t s s (λ _. type_before ws base) r
+typedef_read t s ws base m r is f = by_base t s ws base (Typedef m) r is (λ n off before env h.
+    let P : Option (Qualified × Env) → Type 0 = λ o. Follows qualified_of (Tells n t off before s) o r in
+    let Q : Env → Type 0 = λ k. Finds qualified_of (typedef_in (meaning_of k (symbol_of k m))) r in
+    subst P (sym (typedef_found m env))
+    (found_follows qualified_of (Tells n t off before s) env (typedef_in (meaning_of env (symbol_of env m))) r h (subst Q (sym h.known) (f n.objects env))))
+
+pub enumeration_read : (t : TokenText) (s : State) (ws : Words) (base : Base) (tag : Option ℕ) (q : Qual) (ty : Ty)
+    → base ≡ Enumerated' tag Base-Enumerated-1-None' → qualified_of q ≡ plain (type_of ty)
+    → ((k : Naming) (env : Env) → Reads (λ x. plain (type_of x)) (enumeration_reference tag (known_by k t s env)) (Ok ty) (known_by k t s env))
+    → ReadsAs (λ _. qualified_of) t s s (λ _. type_before ws base) (Ok q)
+enumeration_read t s ws base tag q ty is same f = by_base t s ws base (Enumerated' tag Base-Enumerated-1-None') (Ok q) is (λ n off before env h.
+    let Q : Env → Type 0 = λ k. enumeration_reference tag k ≡ Some (plain (type_of ty), k) in (
+      env,
+      subst Q (sym h.known) (f n.objects env)
+          ∙ ap (λ (x : Qualified). let p : Qualified × Env = (x, env) in Some p) (sym same),
+      h,
+    ))
+
+pub enumeration_none : (t : TokenText) (s new : State) (ws : Words) (base : Base) (tag : Option ℕ) (e : TypeFault)
+    → base ≡ Enumerated' tag Base-Enumerated-1-None'
+    → ((k : Naming) (env : Env) → e ≢ NoMemory → enumeration_reference tag (known_by k t s env) ≡ None)
+    → ReadsAs (λ _. qualified_of) t s new (λ _. type_before ws base) (Err e)
+enumeration_none t s new ws base tag e is f = λ n off before env h other.
+    let P : Base → Type 0 = λ b. type_before ws b env ≡ None in
+    let Q : Env → Type 0 = λ k. enumeration_reference tag k ≡ None in
+    subst P (sym is) (subst Q (sym h.known) (f n.objects env other))
