@@ -15,16 +15,18 @@ use Rattle.c_ast.specs.declared.expression.AssignOp.{AssignOp}
 use Rattle.type_operands.specs.declared.operand.Operand.{Operand}
 use Rattle.type_operands.specs.Terms.{Expression}
 use Rattle.type_operators.specs.Operators.{indexed}
+use Rattle.type_conversions.specs.Casts.{cast}
 use Rattle.type_calls.specs.Calls.{called}
 use Rattle.type_calls.specs.Choices.{chosen, sequenced}
 use Rattle.typing_env.specs.Env.{Typing, ◌>>=◌, known, spelling, unevaluated}
-use Rattle.typing_spec.specs.Expressions.{expression, operand, operands, expr, made, made_modifying, unary, postfix, binary, assigned, measured_operand}
+use Rattle.typing_spec.specs.Expressions.{expression, operand, operands, expr, made, made_modifying, unary, postfix, binary, assigned, measured, measured_operand, type_name}
 use Rattle.type_scope.specs.declared.fault.TypeFault.{TypeFault}
 use Rattle.type_scope.specs.declared.state.State.{State}
 use Rattle.type_expressions.specs.Forms.{member_by}
 use Rattle.type_expressions.specs.Plain.{IsPlain, AllPlain, operands_of}
 use Rattle.type_expressions.specs.Seen.{Namings, operand_seen}
 use Rattle.type_expressions.specs.Tells.{ReadsAs}
+use Rattle.type_expressions.specs.TypeNames.{IsPlainName, type_by}
 use Rattle.type_expressions.proofs.Lists.{row_is, row_plain}
 
 -- the form at hand
@@ -187,34 +189,52 @@ call_form t old new at nd a a2 all some r is same same2 f =
     at_node t old new at nd (node.Call a2 some) r
     (is ∙ ap (λ x. node.Call x all) (sym same) ∙ ap (λ x. node.Call a2 x) (sym same2)) (call_by t old new at a2 some r f)
 
--- string literals and type names, which are left
+cast_by : (t : TokenText) (old new : State) (at : ℕ) (to : TypeName) (a : Expr) (r : Result Operand TypeFault)
+    → (IsPlainName to → IsPlain a.node
+    → ReadsAs operand_seen t old new (λ _. type_by to >>= λ q. expr a >>= λ y. made at (λ tags. cast tags q.ty y)) r)
+    → IsPlain (node.Cast to a) → ReadsAs operand_seen t old new (λ _. expression at (node.Cast to a)) r
+unfolding expression operand type_name hidden-the_row-TypeName-7 hidden-the_row-Expr-3 hidden
+cast_by t old new at to a r f plain = f plain.0 plain.1.0
+
+pub cast_form : (t : TokenText) (old new : State) (at : ℕ) (nd : ExprNode) (to to2 : TypeName) (a a2 : Expr) (r : Result Operand TypeFault)
+    → nd ≡ node.Cast to a → to2 ≡ to → a2 ≡ a
+    → (IsPlainName to2 → IsPlain a2.node
+    → ReadsAs operand_seen t old new (λ _. type_by to2 >>= λ q. expr a2 >>= λ y. made at (λ tags. cast tags q.ty y)) r)
+    → IsPlain nd → ReadsAs operand_seen t old new (λ _. expression at nd) r
+cast_form t old new at nd to to2 a a2 r is same same2 f =
+    at_node t old new at nd (node.Cast to2 a2) r (is ∙ ap (λ x. node.Cast x a) (sym same) ∙ ap (λ x. node.Cast to2 x) (sym same2))
+    (cast_by t old new at to2 a2 r f)
+
+type_size_by : (t : TokenText) (old new : State) (at : ℕ) (of : TypeName) (r : Result Operand TypeFault)
+    → (IsPlainName of → ReadsAs operand_seen t old new (λ _. type_by of >>= λ q. measured at (λ e. e.size) q.ty) r)
+    → IsPlain (node.SizeofType of) → ReadsAs operand_seen t old new (λ _. expression at (node.SizeofType of)) r
+unfolding expression type_name hidden-the_row-TypeName-7 hidden
+type_size_by t old new at of r f plain = f plain
+
+pub type_size_form : (t : TokenText) (old new : State) (at : ℕ) (nd : ExprNode) (of of2 : TypeName) (r : Result Operand TypeFault)
+    → nd ≡ node.SizeofType of → of2 ≡ of
+    → (IsPlainName of2 → ReadsAs operand_seen t old new (λ _. type_by of2 >>= λ q. measured at (λ e. e.size) q.ty) r)
+    → IsPlain nd → ReadsAs operand_seen t old new (λ _. expression at nd) r
+type_size_form t old new at nd of of2 r is same f =
+    at_node t old new at nd (node.SizeofType of2) r (is ∙ ap (λ x. node.SizeofType x) (sym same)) (type_size_by t old new at of2 r f)
+
+alignment_by : (t : TokenText) (old new : State) (at : ℕ) (of : TypeName) (r : Result Operand TypeFault)
+    → (IsPlainName of → ReadsAs operand_seen t old new (λ _. type_by of >>= λ q. measured at (λ e. e.align) q.ty) r)
+    → IsPlain (node.AlignofType of) → ReadsAs operand_seen t old new (λ _. expression at (node.AlignofType of)) r
+unfolding expression type_name hidden-the_row-TypeName-7 hidden
+alignment_by t old new at of r f plain = f plain
+
+pub alignment_form : (t : TokenText) (old new : State) (at : ℕ) (nd : ExprNode) (of of2 : TypeName) (r : Result Operand TypeFault)
+    → nd ≡ node.AlignofType of → of2 ≡ of
+    → (IsPlainName of2 → ReadsAs operand_seen t old new (λ _. type_by of2 >>= λ q. measured at (λ e. e.align) q.ty) r)
+    → IsPlain nd → ReadsAs operand_seen t old new (λ _. expression at nd) r
+alignment_form t old new at nd of of2 r is same f =
+    at_node t old new at nd (node.AlignofType of2) r (is ∙ ap (λ x. node.AlignofType x) (sym same)) (alignment_by t old new at of2 r f)
+
+-- string literals, which are left
 
 strings_left : (first many : ℕ) → IsPlain (node.Strings first many) → ⊥
 strings_left first many h = h
 
-cast_left : (to : TypeName) (a : Expr) → IsPlain (node.Cast to a) → ⊥
-unfolding hidden-the_row-TypeName-7 hidden-the_row-Expr-3 hidden
-cast_left to a h = h
-
-size_left : (of : TypeName) → IsPlain (node.SizeofType of) → ⊥
-unfolding hidden-the_row-TypeName-7 hidden
-size_left of h = h
-
-alignment_left : (of : TypeName) → IsPlain (node.AlignofType of) → ⊥
-unfolding hidden-the_row-TypeName-7 hidden
-alignment_left of h = h
-
-by_form : (nd form : ExprNode) → nd ≡ form → IsPlain nd → IsPlain form
-by_form nd form is h = let P : ExprNode → Type 0 = λ x. IsPlain x in subst P is h
-
 pub no_strings : (nd : ExprNode) (first many : ℕ) → nd ≡ node.Strings first many → IsPlain nd → ⊥
-no_strings nd first many is h = strings_left first many (by_form nd (node.Strings first many) is h)
-
-pub no_cast : (nd : ExprNode) (to : TypeName) (a : Expr) → nd ≡ node.Cast to a → IsPlain nd → ⊥
-no_cast nd to a is h = cast_left to a (by_form nd (node.Cast to a) is h)
-
-pub no_size : (nd : ExprNode) (of : TypeName) → nd ≡ node.SizeofType of → IsPlain nd → ⊥
-no_size nd of is h = size_left of (by_form nd (node.SizeofType of) is h)
-
-pub no_alignment : (nd : ExprNode) (of : TypeName) → nd ≡ node.AlignofType of → IsPlain nd → ⊥
-no_alignment nd of is h = alignment_left of (by_form nd (node.AlignofType of) is h)
+no_strings nd first many is h = strings_left first many (let P : ExprNode → Type 0 = λ x. IsPlain x in subst P is h)

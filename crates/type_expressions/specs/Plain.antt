@@ -1,4 +1,4 @@
--- Expressions without string literals and type names, and the lists of them.
+-- Expressions without string literals, and whose type names are plain; and the lists of them.
 use Rattle.std.specs.Prelude.{List, [], ◌∷◌}
 use Rattle.c_ast.specs.declared.declaration.Base.TheBlock.{Name, Number, CharLit, Strings, Unary', Postfix', Binary', Assign', Cond'}
 use Rattle.c_ast.specs.declared.declaration.Base.TheBlock.{Comma', Call', Index', Dot', Arrow', Cast', SizeofExpr', SizeofType', AlignofType'}
@@ -8,6 +8,7 @@ use Rattle.c_ast.specs.declared.expression.ExprNode.{ExprNode}
 use Rattle.type_operands.specs.Terms.{Expression}
 use Rattle.typing_env.specs.Env.{Typing, ◌>>=◌, pure}
 use Rattle.typing_spec.specs.Expressions.{expr}
+use Rattle.type_expressions.specs.TypeNames.{ArePlainNames}
 
 abbrev mutual
   pub IsPlain : ExprNode → Type 0
@@ -25,10 +26,10 @@ abbrev mutual
   IsPlain (Index' l x m z) = ArePlain x × ArePlain z
   IsPlain (Dot' l x n) = ArePlain x
   IsPlain (Arrow' l x n) = ArePlain x
-  IsPlain (Cast' l to m x) = ⊥
+  IsPlain (Cast' l to m x) = ArePlainNames to × ArePlain x
   IsPlain (SizeofExpr' l x) = ArePlain x
-  IsPlain (SizeofType' l of) = ⊥
-  IsPlain (AlignofType' l of) = ⊥
+  IsPlain (SizeofType' l of) = ArePlainNames of
+  IsPlain (AlignofType' l of) = ArePlainNames of
 
   pub ArePlain : {n : _} → Row_of-Expr n → Type 0
   ArePlain end_of-Expr = Unit {0}

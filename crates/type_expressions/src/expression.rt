@@ -1,13 +1,18 @@
 // Expressions, and the declarations inside them: type names, specifiers and declarators (6.5, 6.7.2 to 6.7.7).
-ghost use Rattle.std.specs.Prelude.{◌≡◌, ℕ, map};
+ghost use Rattle.std.specs.Prelude.{◌≡◌, ℕ, Bool, List, map};
+ghost use Rattle.c_types.specs.Types.{qualified_of};
+ghost use Rattle.type_conversions.specs.Casts as casts;
 ghost use Rattle.type_calls.specs.Choices.{chosen};
 ghost use Rattle.type_operators.specs.Operators.{indexed};
-ghost use Rattle.typing_env.specs.Env.{spelling, unevaluated};
+ghost use Rattle.typing_env.specs.Env.{Env, Use, spelling, unevaluated};
+ghost use Rattle.typing_words.specs.Words as spec_words;
 ghost use Rattle.typing_spec.specs.Expressions as spec;
+ghost use Rattle.type_declarators.specs.Keywords.{IsSaid};
 ghost use Rattle.type_expressions.specs.Forms.{member_by};
 ghost use Rattle.type_expressions.specs.Plain.{IsPlain, AllPlain, operands_of};
-ghost use Rattle.type_expressions.specs.Seen.{operand_seen};
-ghost use Rattle.type_expressions.specs.Tells.{ReadsAs, line_by, read_then};
+ghost use Rattle.type_expressions.specs.Seen.{Namings, operand_seen};
+ghost use Rattle.type_expressions.specs.Tells.{Tells, ReadsAs, line_by, read_then};
+ghost use Rattle.type_expressions.specs.TypeNames.{IsPlainBase, IsPlainDeclarator, IsPlainName, type_by, type_before, FollowsSo, IsSpecified, AreParts};
 
 use crate::apply;
 use c_ast::{
@@ -201,7 +206,9 @@ fn cast(
     a: &Expr,
     to: Qual,
     line: u32,
-) -> Result<Operand, TypeFault> {
+) -> Result<Operand, TypeFault>
+    ensures { (at : ℕ) → line ≡ line_by source.now at → IsPlain a.now.node → ReadsAs operand_seen source.now state.old state.new (λ _. read_then (spec.expr a.now) (λ y. spec.made at (λ tags. casts.cast tags (qualified_of to).ty y))) result }
+{
     let a = expression(source, state, a)?;
     apply::cast(state, a, &to.ty, line)
 }
@@ -231,7 +238,9 @@ fn size_of_type(
     state: &mut State,
     ty: &TypeName,
     at: u32,
-) -> Result<Operand, TypeFault> {
+) -> Result<Operand, TypeFault>
+    ensures { IsPlainName ty.now → ReadsAs operand_seen source.now state.old state.new (λ _. read_then (type_by ty.now) (λ q. spec.measured at (λ e. e.size) q.ty)) result }
+{
     let qual = type_name(source, state, ty, at)?;
     apply::size_of_type(state, &qual.ty, source.line(at))
 }
@@ -244,7 +253,9 @@ fn alignment_of_type(
     state: &mut State,
     ty: &TypeName,
     at: u32,
-) -> Result<Operand, TypeFault> {
+) -> Result<Operand, TypeFault>
+    ensures { IsPlainName ty.now → ReadsAs operand_seen source.now state.old state.new (λ _. read_then (type_by ty.now) (λ q. spec.measured at (λ e. e.align) q.ty)) result }
+{
     let qual = type_name(source, state, ty, at)?;
     apply::alignment_of_type(state, &qual.ty, source.line(at))
 }
@@ -288,13 +299,22 @@ pub fn type_name(
     state: &mut State,
     name: &TypeName,
     at: u32,
-) -> Result<Qual, TypeFault> {
+) -> Result<Qual, TypeFault>
+    ensures { IsPlainName name.now → ReadsAs (λ _. qualified_of) source.now state.old state.new (λ _. type_by name.now) result }
+{
     let (words, base) = specified(source, state, &name.specs, at, false)?;
-    if words.storage != Storage::None || words.function {
+    if !are_qualified(&words) {
         return Err(source.fault(at, Reason::TypeName));
     }
     let Declared { name: _, qual } = declared(source, state, &name.declarator, base, at)?;
     Ok(qual)
+}
+
+// Whether they are qualifiers and type specifiers alone (6.7.7).
+fn are_qualified(words: &Words) -> bool
+    ensures { (ws : spec_words.Words) → IsSaid words.now ws → result ≡ spec_words.are_qualified ws }
+{
+    words.storage == Storage::None && !words.function
 }
 
 /// What specifiers say and the type that they give; `at` is a token near them, and `alone` says that no declarator follows.
@@ -305,11 +325,30 @@ pub fn specified(
     specs: &Specs,
     at: u32,
     alone: bool,
-) -> Result<(Words, Qual), TypeFault> {
+) -> Result<(Words, Qual), TypeFault>
+    ensures { IsPlainBase specs.now.base → (n : Namings) (off : Bool) (before : List Use) (env : Env) → Tells n source.now off before state.old env → FollowsSo IsSpecified (Tells n source.now off before state.new) (spec.specified specs.now.words specs.now.base alone env) result }
+{
     let words = read_words(specs.words.as_slice());
-    let qual = match &specs.base {
-        Base::Plain => declarator::plain_type(source, &words, at)?,
-        Base::Typedef(name) => declarator::typedef_type(source, state, *name)?,
+    let qual = type_before(source, state, specs, &words, at, alone)?;
+    let qual = declarator::with_words(source, state.alloc, qual, &words, &specs.base, at)?;
+    Ok((words, qual))
+}
+
+// The type that specifiers give apart from their qualifiers (6.7.2).
+#[cycle(expression)]
+fn type_before(
+    source: &Source<'_>,
+    state: &mut State,
+    specs: &Specs,
+    words: &Words,
+    at: u32,
+    alone: bool,
+) -> Result<Qual, TypeFault>
+    ensures { IsPlainBase specs.now.base → (ws : spec_words.Words) → IsSaid words.now ws → ReadsAs (λ _. qualified_of) source.now state.old state.new (λ _. type_before ws specs.now.base) result }
+{
+    match &specs.base {
+        Base::Plain => declarator::plain_type(source, words, at),
+        Base::Typedef(name) => declarator::typedef_type(source, state, *name),
         Base::Tagged {
             union,
             tag,
@@ -327,7 +366,7 @@ pub fn specified(
                     tag::close(source, state, kind, number, list, at)?
                 }
             };
-            declarator::unqualified(ty)
+            Ok(declarator::unqualified(ty))
         }
         Base::Enumerated { tag, enumerators } => {
             let ty = match enumerators {
@@ -338,11 +377,9 @@ pub fn specified(
                     tag::close_enumeration(state, number)
                 }
             };
-            declarator::unqualified(ty)
+            Ok(declarator::unqualified(ty))
         }
-    };
-    let qual = declarator::with_words(source, state.alloc, qual, &words, &specs.base, at)?;
-    Ok((words, qual))
+    }
 }
 
 // The members of a structure or union (6.7.2.1).
@@ -429,7 +466,9 @@ pub fn declared(
     d: &Declarator,
     base: Qual,
     at: u32,
-) -> Result<Declared, TypeFault> {
+) -> Result<Declared, TypeFault>
+    ensures { IsPlainDeclarator d.now → ReadsAs (λ _ found. qualified_of found.qual) source.now state.old state.new (λ _. spec.declared (qualified_of base) d.now) result }
+{
     let mut parts = Vec::new(state.alloc);
     let name = derivations(source, state, d, at, &mut parts)?;
     let qual = declarator::derived(source, state, parts, base, at)?;
@@ -445,7 +484,9 @@ fn derivations(
     d: &Declarator,
     at: u32,
     parts: &mut Vec<Derivation>,
-) -> Result<Option<u32>, TypeFault> {
+) -> Result<Option<u32>, TypeFault>
+    ensures { IsPlainDeclarator d.now → (n : Namings) (off : Bool) (before : List Use) (env : Env) → Tells n source.now off before state.old env → FollowsSo (AreParts parts.old.items parts.new.items) (Tells n source.now off before state.new) (spec.derivations d.now env) result }
+{
     match d {
         Declarator::Ident(name) => Ok(*name),
         Declarator::Pointer(words, d) => {
