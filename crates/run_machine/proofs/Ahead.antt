@@ -1,5 +1,6 @@
 -- The entry at the cursor is the first of those that are ahead.
-use Rattle.std.proofs.Common.{◌≡◌, ℕ, zero, suc, ◌-◌, ◌<◌, ◌==◌, Bool, true, List, [], ◌∷◌, take, drop, Option, Some, slice_get, refl, sym, subst, ap, ◌∙◌, if◌then◌else◌, arith}
+use Rattle.std.proofs.Common.{◌≡◌, ℕ, zero, suc, ◌-◌, ◌<◌, ◌==◌, Bool, true, refl, sym, subst, ap, ◌∙◌, if◌then◌else◌, arith}
+use Rattle.std.proofs.Common.{List, [], ◌∷◌, take, drop, Option, Some, slice_get}
 use Rattle.c_typed.specs.declared.tree.Place.{Place}
 use Rattle.c_typed.specs.Order.{Taken}
 use Rattle.seq_order.specs.Marked.{taken_in}
