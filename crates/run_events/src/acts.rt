@@ -1,22 +1,25 @@
 // The acts of events.
-ghost use Rattle.std.specs.Prelude.{◌≡◌, ◌≢◌, ◌+◌, ◌<◌, ℕ, true, false, not, List, length, slice_get, Some, IfOk};
+ghost use Rattle.std.specs.Prelude.{◌≡◌, ◌≢◌, ◌+◌, ◌<◌, ℕ, true, false, not, List, length, slice_get, None, Some, IfOk};
 ghost use Rattle.addr_map.specs.declared.map.Row.{Row};
 ghost use Rattle.c_model.specs.Nodes.{bool_value};
 ghost use Rattle.c_model.specs.Values as model;
 ghost use Rattle.prov_memory.specs.Made.{IsMade};
 ghost use Rattle.prov_memory.specs.Keeps.{Keeps};
-ghost use Rattle.prov_memory.specs.Memory.{Kept};
+ghost use Rattle.prov_memory.specs.Memory.{HasCell, Kept};
 ghost use Rattle.prov_memory.specs.Sound.{IsSound};
 ghost use Rattle.run_acts.specs.Kept.{IsOf};
 ghost use Rattle.run_acts.specs.Views.{value_in, pointer_at};
 ghost use Rattle.run_code.specs.Named.{IsNamed};
+ghost use Rattle.c_typed.specs.declared.tree.Access.TheVariants as accesses;
+ghost use Rattle.run_acts.specs.Loads.{integer_act};
+ghost use Rattle.run_code.specs.declared.steps.Act.{Act as ActOf};
 ghost use Rattle.run_code.specs.declared.steps.Act.TheVariants as acts;
 ghost use Rattle.run_code.specs.declared.steps.Operand.TheVariants as operands;
 ghost use Rattle.run_state.specs.Stands.{StandsTables};
-ghost use Rattle.run_events.specs.Acts.{either_truth, filled_from, given_by, stored_by, is_body_act, AreGiven, IsGiven};
+ghost use Rattle.run_events.specs.Acts.{either_truth, filled_from, given_by, script_in, stored_by, is_body_act, AreGiven, IsGiven};
 ghost use Rattle.run_events.specs.Calling.{CallsNumbered};
 ghost use Rattle.run_events.specs.Opens.{Opens};
-ghost use Rattle.run_events.specs.Performs.{gives_value, is_pointer_act, CanAct, CanPerform, CanPut, ChangesOnly, Does, Effects, Performs, Puts, TouchesMemory, TouchesSpare};
+ghost use Rattle.run_events.specs.Performs.{gives_value, kept_room, is_pointer_act, CanAct, CanPerform, CanPut, ChangesOnly, Does, Effects, Performs, Puts, TouchesMemory, TouchesSpare};
 
 use crate::fault::Fault;
 use crate::frames::{call, initialize};
@@ -119,8 +122,67 @@ fn value_act(machine: &mut Machine, act: &Act, event: Event) -> Result<Outcome, 
     }
 }
 
+// The value at a place. Most loads are of integers, whose value is put into the room without a copy of what other values have.
 #[inline(never)]
 fn loaded(
+    machine: &mut Machine,
+    access: &Access,
+    ty: &Ty,
+    place: &Operand,
+    event: Event,
+) -> Result<Outcome, Fault>
+    ensures exact { CanAct machine.old → AreGiven machine.old event (acts.Load access.now ty.entry place.now) → Does machine.old machine.new event (acts.Load access.now ty.entry place.now) result }
+    ensures changes { ChangesOnly machine.old machine.new event.node (acts.Load access.now ty.entry place.now) }
+{
+    match *access {
+        Access::Integer(kind) => loaded_integer(machine, kind, ty, place, event),
+        _ => loaded_value(machine, access, ty, place, event),
+    }
+}
+
+// An integer. Most stand in automatic objects, whose pointers have one object.
+#[inline(always)]
+fn loaded_integer(
+    machine: &mut Machine,
+    kind: IntKind,
+    ty: &Ty,
+    place: &Operand,
+    event: Event,
+) -> Result<Outcome, Fault>
+    ensures exact { CanAct machine.old → AreGiven machine.old event (acts.Load (accesses.Integer kind) ty.entry place.now) → Does machine.old machine.new event (acts.Load (accesses.Integer kind) ty.entry place.now) result }
+    ensures changes { ChangesOnly machine.old machine.new event.node (acts.Load (accesses.Integer kind) ty.entry place.now) }
+{
+    match *place {
+        Operand::Local { object, offset } => {
+            let place = machine.local(object, offset);
+            integer_at(machine, kind, place, event)
+        }
+        _ => {
+            let place = machine.pointer(*place);
+            integer_at(machine, kind, place, event)
+        }
+    }
+}
+
+// The integer at this place goes to the room of the event's node.
+#[inline(always)]
+fn integer_at(
+    machine: &mut Machine,
+    kind: IntKind,
+    place: Pointer,
+    event: Event,
+) -> Result<Outcome, Fault>
+    ensures exact { CanAct machine.old → HasCell machine.old.memory place.prov → (a : ActOf) → kept_room a ≡ None → script_in machine.old.memory.rows machine.old event a ≡ integer_act machine.old.memory.rows kind (pointer_at place) → Does machine.old machine.new event a result }
+    ensures changes { (a : ActOf) → ChangesOnly machine.old machine.new event.node a }
+{
+    let t = &mut machine.items;
+    let number = machine.memory.load_int(kind, place.addr, place.prov, t)?;
+    machine.keep(event.node, Value::Int(number));
+    Ok(Outcome::Done)
+}
+
+#[inline(never)]
+fn loaded_value(
     machine: &mut Machine,
     access: &Access,
     ty: &Ty,

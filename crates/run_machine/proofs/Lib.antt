@@ -1,3 +1,4 @@
+mod Ahead
 mod Answered
 mod Aside
 mod Beginning

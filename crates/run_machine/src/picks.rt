@@ -1,12 +1,13 @@
 // Which pick is the canonical one, which are permitted, and what an event completes.
-ghost use Rattle.std.specs.Prelude.{◌≡◌, ◌+◌, ◌-◌, ◌<◌, ◌^◌, min, false, true, [], length, is_some, ℕ, Option, Some, slice_get, IfOk, IfSome, IfNone, OnOk};
+ghost use Rattle.std.specs.Prelude.{◌≡◌, ◌+◌, ◌-◌, ◌<◌, ◌^◌, ◌∷◌, ◌==◌, min, false, true, [], length, is_some, ℕ, List, Option, Some, slice_get, IfOk, IfSome, IfNone, OnOk, if◌then◌else◌};
 ghost use Rattle.c_typed.specs.declared.tree.Place.{Place as PlaceOf};
 ghost use Rattle.c_typed.specs.Tree.{tree_of, size};
-ghost use Rattle.c_typed.specs.Order.{has};
+ghost use Rattle.c_typed.specs.Order.{has, Taken};
 ghost use Rattle.c_typed.specs.Decide.{is_permitted as permitted_in};
 ghost use Rattle.c_model.specs.Steps.{Ev, MayPick};
 ghost use Rattle.c_model.specs.Runs.{State, canonical_pick};
 ghost use Rattle.c_model.specs.World.{World};
+ghost use Rattle.c_model.specs.Completions.{Operands_of, Own_node};
 ghost use Rattle.seq_order.specs.Marked.{taken_in, done_in};
 ghost use Rattle.run_control.specs.View.{Meaning};
 ghost use Rattle.run_code.specs.Named.{IsDueOf};
@@ -14,18 +15,18 @@ ghost use Rattle.run_listing.specs.Along.{events_of};
 ghost use Rattle.run_state.specs.Stands.{Stands};
 ghost use Rattle.run_state.specs.declared.watch.Begun.{Begun as BegunOf};
 ghost use Rattle.run_machine.specs.Answering.{AnswersCanonical, TakesControl};
-ghost use Rattle.run_machine.specs.Completing.{CompletesNext, CompletesNoted};
+ghost use Rattle.run_machine.specs.Completing.{CompletesNext, CompletesNoted, completed_seen};
 ghost use Rattle.run_machine.specs.Keeping.{KeepsPick};
 ghost use Rattle.run_machine.specs.Starting.{AnswersNextBody, AnswersNextCall};
 ghost use Rattle.run_machine.specs.Taking.{AnswersNext};
-ghost use Rattle.run_machine.specs.Picks.{top_of, passed_part, kept_of, at_cursor, ByOrder, ComesNext, Decides, Follows, IsPick, IsStep, Permits, Refuses, Strays, Takes};
+ghost use Rattle.run_machine.specs.Picks.{top_of, ahead_part, passed_part, kept_of, at_cursor, ByOrder, ComesNext, Decides, Follows, IsPick, IsStep, Permits, Refuses, Strays, Takes};
 
 use crate::control::control_step;
 use crate::events::take_event;
 use crate::laws::law_picks;
 use crate::pick::{Completed, Pick};
 use c_typed::Place;
-use run_code::Due;
+use run_code::{Due, Listed};
 use run_listing::{due_of, next, next_left, part, passed};
 use run_state::{Begun, Halt, Machine, Stage};
 use seq_order::{Done, is_permitted};
@@ -263,9 +264,37 @@ pub fn completed(machine: &Machine, due: &Due) -> Result<Completed, NoMemory>
     let Some(parent) = due.parent else {
         return Ok(Completed::Node);
     };
+    if let Some(place) = event_ahead(machine, stage) {
+        return Ok(completed_before(parent, place.node));
+    }
     match listed_next(machine, stage)? {
         Some((_, next)) if next.place.node == parent => Ok(Completed::Operands(parent)),
         _ => Ok(Completed::Node),
+    }
+}
+
+// The event that stands right at the cursor: it comes next whatever is chosen. None where no entry is left, or where it is that of an operand.
+#[inline(always)]
+fn event_ahead(machine: &Machine, stage: Stage) -> Option<Place>
+    ensures { IfSome result (λ u. (taken : Taken) → (us : List PlaceOf) × (events_of taken (ahead_part machine.now stage) ≡ u ∷ us)) }
+{
+    if stage.cursor >= stage.end {
+        return None;
+    }
+    match machine.code.listing.get(stage.cursor) {
+        Some(Listed::Event(due)) => Some(due.place),
+        _ => None,
+    }
+}
+
+// What the last event of a node of this parent completes, where the next event is of that node.
+fn completed_before(parent: u32, node: u32) -> Completed
+    ensures { completed_seen result ≡ (if node == parent then Operands_of parent else Own_node) }
+{
+    if node == parent {
+        Completed::Operands(parent)
+    } else {
+        Completed::Node
     }
 }
 
