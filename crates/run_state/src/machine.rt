@@ -207,6 +207,7 @@ impl<'p, 'c> Machine<'p, 'c> {
         ensures rest { self.new ≡ record self.old { values = self.new.values } }
         ensures room { self.old.top.base + room < length self.old.values.items → slice_get self.new.values.items (self.old.top.base + room) ≡ Some value }
         ensures others { (j : ℕ) → j ≢ self.old.top.base + room → slice_get self.new.values.items j ≡ slice_get self.old.values.items j }
+        ensures count { length self.new.values.items ≡ length self.old.values.items }
     {
         let at = self.top.base.saturating_add(room as usize);
         self.put(at, value);
@@ -228,6 +229,7 @@ impl<'p, 'c> Machine<'p, 'c> {
         ensures rest { self.new ≡ record self.old { values = self.new.values } }
         ensures room { (h : Kept_value) → slice_get self.old.values.items (self.old.top.base + room) ≡ Some h → result ≡ h }
         ensures others { (j : ℕ) → j ≢ self.old.top.base + room → slice_get self.new.values.items j ≡ slice_get self.old.values.items j }
+        ensures count { length self.new.values.items ≡ length self.old.values.items }
     {
         let at = self.top.base.saturating_add(room as usize);
         match self.values.get_mut(at) {
@@ -241,6 +243,7 @@ impl<'p, 'c> Machine<'p, 'c> {
         ensures rest { self.new ≡ record self.old { values = self.new.values } }
         ensures kept { (j : ℕ) (h : Kept_value) → slice_get self.old.values.items j ≡ Some h → slice_get self.new.values.items j ≡ Some h }
         ensures count { OnOk result (size ≤ length self.new.values.items) }
+        ensures fewest { length self.old.values.items ≤ length self.new.values.items }
     {
         for room in self.values.len()..size {
             self.values.push(Value::Nothing)?;
@@ -251,6 +254,8 @@ impl<'p, 'c> Machine<'p, 'c> {
     pub fn grow_locals(&mut self, size: usize) -> Result<(), NoMemory>
         ensures rest { self.new ≡ record self.old { locals = self.new.locals } }
         ensures kept { (j : ℕ) (l : LocalOf) → slice_get self.old.locals.items j ≡ Some l → slice_get self.new.locals.items j ≡ Some l }
+        ensures count { OnOk result (size ≤ length self.new.locals.items) }
+        ensures fewest { length self.old.locals.items ≤ length self.new.locals.items }
     {
         for _ in self.locals.len()..size {
             self.locals.push(Local {
