@@ -127,12 +127,14 @@ left_by body w = record { below = w.now ∷ w.below; now = work.ToDo body ∷ []
 pub frame_opened : (old grown new : Machine) (number : ℕ) (event : Event) (code : FunctionCode) (body : Bor Statement) (left : Stacked) (above : ℕ) →
     slice_get old.code.now.functions.items number ≡ Some (Some code) → body.now ≡ code.body → grown ≡ record old { locals = grown.locals } →
     ((j : ℕ) (l : Local) → slice_get old.locals.items j ≡ Some l → slice_get grown.locals.items j ≡ Some l) →
+    above ≤ length grown.locals.items → length old.locals.items ≤ length grown.locals.items →
     above ≡ min (old.top.above + code.objects) (2 ^ 64 - 1) → left.below ≡ grown.work.now ∷ grown.work.below → left.now ≡ work.ToDo body ∷ [] →
     IsOnTop (record grown { work = left }) (started_on grown.top event (Some number) code.blocks old.top.above above) new →
     OpensFrame old number event new
-frame_opened old grown new number event code body left above there same rest kept above_is below now on =
+frame_opened old grown new number event code body left above there same rest kept enough fewest above_is below now on =
     let work_is : new.work ≡ left = ap (λ (k : Machine). k.work) on.rest in
     let locals_is : new.locals ≡ grown.locals = ap (λ (k : Machine). k.locals) on.rest in
+    let count : length new.locals.items ≡ length grown.locals.items = ap (λ (k : Machine). length k.locals.items) on.rest in
     record {
       code = code;
       body = body;
@@ -160,4 +162,6 @@ frame_opened old grown new number event code body left above there same rest kep
       below = on.below ∙ ap (λ (k : Machine). k.below.items ++ k.top ∷ []) rest;
       left = work_is ∙ (λ i. record { below = below i; now = now i }) ∙ ap (λ (k : Machine). left_by body k.work) rest;
       locals = λ j l is. ap (λ (k : Machine). slice_get k.locals.items j) on.rest ∙ kept j l is;
+      places = omega (arith, enough, above_is, count, new.locals.ok.0, new.locals.ok.1, new.locals.small);
+      fewest = omega (arith, fewest, count);
     }

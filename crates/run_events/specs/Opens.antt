@@ -88,7 +88,7 @@ PassesFirst old os room k next new = room + length os < 2 ^ 64 → HasPassed old
 abbrev pub Passes : Machine → List Operand → (room : ℕ) → Machine → Type 0
 Passes old os room new = PassesFirst old os room (length os) (room + length os) new
 
--- The function's frame is on top: its body is to be done, and its objects stand behind those of the frame below, which stay.
+-- The function's frame is on top: its body is to be done, and its objects stand behind those of the frame below, which stay. There are places for them.
 pub record OpensFrame (old : Machine) (number : ℕ) (event : Event) (new : Machine) : Type 0 where
   pub code : FunctionCode
   pub body : Bor Statement
@@ -103,6 +103,8 @@ pub record OpensFrame (old : Machine) (number : ℕ) (event : Event) (new : Mach
   pub below : new.below.items ≡ old.below.items ++ old.top ∷ []
   pub left : new.work ≡ record { below = old.work.now ∷ old.work.below; now = work.ToDo body ∷ [] }
   pub locals : (j : ℕ) (l : Local) → slice_get old.locals.items j ≡ Some l → slice_get new.locals.items j ≡ Some l
+  pub places : old.top.above + code.objects ≤ length new.locals.items
+  pub fewest : length old.locals.items ≤ length new.locals.items
 
 -- The function's frame has started, one of so many, with the arguments in its first rooms (6.5.2.2p4, p10).
 pub record StartsFunction (old : Machine) (number : ℕ) (os : List Operand) (event : Event) (new : Machine) : Type 0 where

@@ -52,6 +52,7 @@ use Rattle.run_code.specs.declared.whole.Code.{Code}
 use Rattle.run_state.specs.declared.halt.Halt.{Halt}
 use Rattle.run_state.specs.declared.machine.Machine.{Machine}
 use Rattle.run_state.specs.declared.machine.Stage.{Stage}
+use Rattle.run_state.specs.Stands.{Stands}
 use Rattle.run_events.specs.declared.acts.Outcome.{Outcome as Done_as}
 use Rattle.run_events.specs.declared.acts.Outcome.TheVariants as outcome
 use Rattle.run_events.specs.declared.fault.Fault.{Fault}
@@ -71,12 +72,14 @@ use Rattle.run_machine.specs.Taking.{
   AnswersTaken,
   Decides,
   DecidesBy,
+  EventComes,
   EventStands,
   EventSteps,
   FollowsEvent,
   IsAt,
   IsPast,
   IsTaken,
+  IsTakenTo,
   MayTake,
   TakesEvent,
   after_event,
@@ -146,7 +149,7 @@ raises_so world st e u c begun ran =
     ap (λ (b : Option Begun). acted world st (Ev u) (run world.rows (does world st.top b (Ev u)) st.store)) begun
     ∙ ap (acted world st (Ev u)) ran
 
-module _ (stands : EventStands) (steps : EventSteps) (world : World) (meaning : Option ℕ → Meaning) (m : Machine) (st : State) (e : Begun) (s : Stage)
+module _ (steps : EventSteps) (world : World) (meaning : Option ℕ → Meaning) (m : Machine) (st : State) (e : Begun) (s : Stage)
     (laid : Expression) (d : Due) (now : Machine) (t : MayTake world meaning m st e s laid d now) where
   abbrev past : Machine
   past = past_event now
@@ -219,14 +222,14 @@ module _ (stands : EventStands) (steps : EventSteps) (world : World) (meaning : 
       taken = taken;
     }
 
-    comes : ComesTo world meaning None new (step world st (Ev d.place))
+    -- so the machine and the definitions go on
+    abbrev Comes : Type 0
+    Comes = (due : Due) × (w : Value) × (due.place ≡ d.place) × TakesEvent world meaning m st e s laid due w new
+        × (step world st (Ev d.place) ≡ Running (after_event world st e d.place w new.items (store_after new)))
+
+    comes : Comes
     unfolding takes taken
-    comes = λ more. (
-      after_event world st e d.place v new.items (store_after new),
-      steps world meaning m new st e s laid d v takes t.act t.within,
-      refl,
-      (stands world meaning m new st e s laid d v takes).stands,
-    )
+    comes = (d, v, refl, takes, steps world meaning m new st e s laid d v takes t.act t.within)
 
   -- what it completes is what the definitions say, along the canonical way
   pub completes_done : EventCompletes → (done new : Machine) → ((v : Value) × IsDone world.rows past done who d.act v) →
@@ -251,14 +254,14 @@ module _ (stands : EventStands) (steps : EventSteps) (world : World) (meaning : 
 
   pub performed : (status : Option ℕ) → status ≡ None → (done new : Machine) → ((v : Value) × IsDone world.rows past done who d.act v) →
       ChangesOnly past done d.place.node d.act → (gives_value d.act ≡ false → done.values ≡ past.values) → (r : Result Pick Halt) →
-      FollowsEvent now.code.now who status d done new r → AnswersTaken world meaning r new (step world st (Ev d.place))
+      FollowsEvent now.code.now who status d done new r → AnswersTaken world meaning m st e s laid d.place r new (step world st (Ev d.place))
   performed status none done new did changes effect (Ok (pick.Event event completed ended)) f =
-      subst (λ (o : Option ℕ). AnswersTaken world meaning (Ok (pick.Event event completed o)) new (step world st (Ev d.place))) (sym (f.1 ∙ none))
-      (λ rows. comes done f.2.noted new did.0 did.1 changes effect f.2.notes f.2.decides rows rows)
+      subst (λ (o : Option ℕ). AnswersTaken world meaning m st e s laid d.place (Ok (pick.Event event completed o)) new (step world st (Ev d.place))) (sym (f.1 ∙ none))
+      (λ rows. comes done f.2.noted new did.0 did.1 changes effect f.2.notes f.2.decides rows)
   performed status none done new did changes effect (Ok (pick.Starts event)) f = absurd f
   performed status none done new did changes effect (Ok (pick.Step ended)) f = absurd f
   performed status none done new did changes effect (Err x) f =
-      subst (λ (h : Halt). AnswersTaken world meaning (Err h) new (step world st (Ev d.place))) (sym f) tt
+      subst (λ (h : Halt). AnswersTaken world meaning m st e s laid d.place (Err h) new (step world st (Ev d.place))) (sym f) tt
 
   -- ---- or its clause is raised
   raised : (c : Clause) → run world.rows (script_in world.rows past who d.act) (store_in past) ≡ Raised c →
@@ -279,6 +282,18 @@ module _ (stands : EventStands) (steps : EventSteps) (world : World) (meaning : 
   stopped done line fault.Unplaced p = absurd p
   stopped done line fault.NoMemory p = tt
 
+-- ---- what is taken so comes to that state
+pub event_comes : EventStands → EventComes
+event_comes stands world meaning old new st e s laid u o taken = λ rows.
+    let t = taken rows in
+    let v = t.1 in (
+      after_event world st e u v new.items (store_after new),
+      t.4,
+      refl,
+      subst (λ (w : Place). Stands world meaning new (after_event world st e w v new.items (store_after new))) t.2
+          (stands world meaning old new st e s laid t.0 v t.3).stands,
+    )
+
 -- ---- what the act did, from where the cursor has passed it
 abbrev Did : Machine → Due → Machine → Machine → Result Done_as Fault → Type 0
 Did now d start done p =
@@ -292,21 +307,21 @@ did_so : (now : Machine) (d : Due) (start done : Machine) (p q : Result Done_as 
 did_so now d start done p q is same did =
     subst (λ (k : Machine). Did now d k done q) is (subst (λ (r : Result Done_as Fault). Did now d start done r) same did)
 
-module _ (stands : EventStands) (steps : EventSteps) (d : Due) (now start done new : Machine) (p : Result Done_as Fault) (r : Result Pick Halt)
+module _ (steps : EventSteps) (d : Due) (now start done new : Machine) (p : Result Done_as Fault) (r : Result Pick Halt)
     (is : start ≡ past_event now) (did : Did now d start done p) where
   pub taken_done : p ≡ Ok outcome.Done → FollowsEvent now.code.now (event_at now d.place) None d done new r → AnswersEvent d now new r
   taken_done same f = λ world meaning m st e s laid t.
       let so = did_so now d start done p (Ok outcome.Done) is same did in
-      performed stands steps world meaning m st e s laid d now t None refl done new
-      (so.0 world.rows (can stands steps world meaning m st e s laid d now t) (given stands steps world meaning m st e s laid d now t) t.act.no_body)
+      performed steps world meaning m st e s laid d now t None refl done new
+      (so.0 world.rows (can steps world meaning m st e s laid d now t) (given steps world meaning m st e s laid d now t) t.act.no_body)
       (so.1 t.act.no_body) (so.2 t.act.no_body) r f
 
   pub completed_done : EventCompletes → p ≡ Ok outcome.Done → FollowsEvent now.code.now (event_at now d.place) None d done new r → CompletesPick d new r
       → CompletesEvent d now new r
   completed_done completes same f noted = λ world meaning m st e s laid t straight.
       let so = did_so now d start done p (Ok outcome.Done) is same did in
-      completes_done stands steps world meaning m st e s laid d now t completes done new
-      (so.0 world.rows (can stands steps world meaning m st e s laid d now t) (given stands steps world meaning m st e s laid d now t) t.act.no_body)
+      completes_done steps world meaning m st e s laid d now t completes done new
+      (so.0 world.rows (can steps world meaning m st e s laid d now t) (given steps world meaning m st e s laid d now t) t.act.no_body)
       (so.1 t.act.no_body) (so.2 t.act.no_body) straight r f noted
 
   -- nothing is said of another pick
@@ -316,21 +331,21 @@ module _ (stands : EventStands) (steps : EventSteps) (d : Due) (now start done n
   pub completed_ended : (n : ℕ) → p ≡ Ok (outcome.End n) → CompletesEvent d now new r
   completed_ended n same = λ world meaning m st e s laid t straight.
       let so = did_so now d start done p (Ok (outcome.End n)) is same did in
-      absurd (so.0 world.rows (can stands steps world meaning m st e s laid d now t) (given stands steps world meaning m st e s laid d now t) t.act.no_body)
+      absurd (so.0 world.rows (can steps world meaning m st e s laid d now t) (given steps world meaning m st e s laid d now t) t.act.no_body)
 
   pub taken_started : p ≡ Ok outcome.Started → AnswersEvent d now new r
   taken_started same = λ world meaning m st e s laid t.
       let so = did_so now d start done p (Ok outcome.Started) is same did in
-      absurd (so.0 world.rows (can stands steps world meaning m st e s laid d now t) (given stands steps world meaning m st e s laid d now t) t.act.no_body)
+      absurd (so.0 world.rows (can steps world meaning m st e s laid d now t) (given steps world meaning m st e s laid d now t) t.act.no_body)
 
   pub taken_ended : (n : ℕ) → p ≡ Ok (outcome.End n) → AnswersEvent d now new r
   taken_ended n same = λ world meaning m st e s laid t.
       let so = did_so now d start done p (Ok (outcome.End n)) is same did in
-      absurd (so.0 world.rows (can stands steps world meaning m st e s laid d now t) (given stands steps world meaning m st e s laid d now t) t.act.no_body)
+      absurd (so.0 world.rows (can steps world meaning m st e s laid d now t) (given steps world meaning m st e s laid d now t) t.act.no_body)
 
   pub taken_stopped : (x : Fault) (line : ℕ) (h : Halt) → p ≡ Err x → h ≡ halt_by (event_at now d.place) line x → AnswersEvent d now done (Err h)
   taken_stopped x line h same halts = λ world meaning m st e s laid t.
       let so = did_so now d start done p (Err x) is same did in
       subst (λ (g : Halt). Answers world meaning (Err g) done (step world st (Ev d.place))) (sym halts)
-      (stopped stands steps world meaning m st e s laid d now t done line x
-      (so.0 world.rows (can stands steps world meaning m st e s laid d now t) (given stands steps world meaning m st e s laid d now t) t.act.no_body))
+      (stopped steps world meaning m st e s laid d now t done line x
+      (so.0 world.rows (can steps world meaning m st e s laid d now t) (given steps world meaning m st e s laid d now t) t.act.no_body))

@@ -26,11 +26,11 @@ use Rattle.run_machine.specs.declared.pick.Pick.{Pick}
 use Rattle.run_machine.specs.declared.pick.Pick.TheVariants as pick
 use Rattle.run_machine.specs.Answering.{Answers}
 use Rattle.run_machine.specs.Picks.{top_of, Follows, TakesCanonical}
-use Rattle.run_machine.specs.Starting.{AnswersBody, AnswersNextBody, AnswersStart, MayStart}
-use Rattle.run_machine.specs.Taking.{at_next, past_event}
+use Rattle.run_machine.specs.Starting.{AnswersBody, AnswersNextBody, AnswersStart, MayStart, StartsIsolated}
+use Rattle.run_machine.specs.Taking.{at_next, past_event, untouched}
 use Rattle.run_machine.proofs.Answered.{passes_so}
 use Rattle.run_machine.proofs.Onward.{at_ready, came_next, cleared_open, ev_place}
-use Rattle.run_machine.proofs.Started.{initializer_started}
+use Rattle.run_machine.proofs.Started.{initializer_started, initializer_steps_to}
 use Rattle.run_machine.proofs.Waiting.{waits_there}
 
 stops_so : (world : World) (meaning : Option ℕ → Meaning) (old new : Machine) (number line : ℕ) (who : Event) (o : Outcome) (x : Fault) →
@@ -53,10 +53,22 @@ module _ (trees : TreesAreKept) (starts : StandsAtStart) (d : Due) (now start do
 
   pub body_started : p ≡ Ok outcome.Started → (event : Event) → AnswersBody d now done (Ok (pick.Starts event))
   body_started same event = λ world meaning m st e s t.
-      initializer_started world meaning m (past_event now) st e s d t.stood
-      (waits_there trees starts world meaning m (past_event now) st e s d t.stood t.stage t.rooms (passes_so m now s d s.straight refl t.stage t.end t.goes))
-      t.few t.event who node done
-      (opens_so (Ok outcome.Started) same world meaning m st e s t) t.within t.items
+      let passes = passes_so m now s d s.straight refl t.stage t.end t.goes in
+      let starts_so = opens_so (Ok outcome.Started) same world meaning m st e s t in
+      let waits = waits_there trees starts world meaning m (past_event now) st e s d t.stood t.stage t.rooms passes in (
+        initializer_started world meaning m (past_event now) st e s d t.stood waits t.few t.event who node done starts_so t.within t.items,
+        record {
+          due = d;
+          place = refl;
+          is = t.event;
+          past = past_event now;
+          passes = passes;
+          who = who;
+          node = node;
+          starts = starts_so;
+          comes = initializer_steps_to world meaning m (past_event now) st e s d t.stood waits t.few t.event t.within;
+        },
+      )
 
   pub body_done : (new : Machine) (r : Result Pick Halt) → p ≡ Ok outcome.Done → AnswersBody d now new r
   body_done new r same = λ world meaning m st e s t. absurd (opens_so (Ok outcome.Done) same world meaning m st e s t)
@@ -80,7 +92,8 @@ next_bodies old mid new is next due r f some none canonical answers = λ world m
     (ap (λ (o : Option (Bor Due)). chosen_pick world (place_of o)) (sym some) ∙ canonical world meaning st asks.stood.stands ∙ picks) in
     let now : record mid { items = is } ≡ at_next old s came.count =
     ap (λ (k : List Item). record mid { items = k }) none ∙ ap (λ (k : Machine). record k { items = [] }) came.is in
-    subst (λ (v : Place). AnswersStart world meaning r new (step world st (Ev v))) same
+    subst (λ (v : Place).
+    AnswersStart world meaning (StartsIsolated world (untouched old) st e s v new (step world st (Ev v))) r new (step world st (Ev v))) same
     (answers world meaning (record old { items = [] }) st e s (subst (MayStart world meaning (record old { items = [] }) st e s due.now) (sym now)
     (record {
       stood = cleared_open world meaning old st e asks.stood;

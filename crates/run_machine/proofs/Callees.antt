@@ -113,6 +113,7 @@ use Rattle.run_machine.specs.Starting.{
   AnswersCall,
   AnswersNextCall,
   AnswersStart,
+  CallsFunction,
   ComesToStart,
   IsCall,
   IsCallOf,
@@ -121,7 +122,7 @@ use Rattle.run_machine.specs.Starting.{
   function_frame,
   started_state,
 }
-use Rattle.run_machine.specs.Taking.{at_next, past_event, passed_stage, staged}
+use Rattle.run_machine.specs.Taking.{at_next, past_event, passed_stage, staged, untouched}
 use Rattle.run_machine.proofs.Answered.{passes_so, raises_so, staged_so}
 use Rattle.run_machine.proofs.Called.{function_stands}
 use Rattle.run_machine.proofs.Calling.{function_passes, function_steps}
@@ -408,6 +409,20 @@ module _ (trees : TreesAreKept) (starts : StandsAtStart) (d : Due) (now start do
       function_stands trees starts world meaning m st e s d o.number o.body passed (later_values values) done (starts_call o opens),
     )
 
+    -- with what was started
+    function_called : (o : Opening) → StartsFunction past o.number passed who done → CallsFunction world meaning m st e s d.place done (step world st (Ev d.place))
+    function_called o opens = record {
+      due = d;
+      place = refl;
+      number = o.number;
+      body = o.body;
+      operands = passed;
+      values = later_values values;
+      is = o.is_call;
+      starts = starts_call o opens;
+      comes = function_steps world st e d.place o.number o.body (later_values values) began o.is_call t.within (few_open o.number opens);
+    }
+
     -- ---- it is refused
     within_so : depth_of st.top st.held ≤ 100000
     within_so =
@@ -445,9 +460,13 @@ module _ (trees : TreesAreKept) (starts : StandsAtStart) (d : Due) (now start do
     where
       by : (world : World) (meaning : Option ℕ → Meaning) (m : Machine) (st : State) (e : Begun) (s : Stage) (t : MayCall world meaning m st e s d now) →
           Raising (Ok outcome.Started) same world meaning m st e s t ⊎ Opening (Ok outcome.Started) same world meaning m st e s t →
-          AnswersStart world meaning (Ok (pick.Starts event)) done (step world st (Ev d.place))
+          AnswersStart world meaning (CallsFunction world meaning m st e s d.place done (step world st (Ev d.place))) (Ok (pick.Starts event)) done
+          (step world st (Ev d.place))
       by world meaning m st e s t (inl r) = absurd r.only
-      by world meaning m st e s t (inr o) = comes (Ok outcome.Started) same world meaning m st e s t o o.opens
+      by world meaning m st e s t (inr o) = (
+        comes (Ok outcome.Started) same world meaning m st e s t o o.opens,
+        function_called (Ok outcome.Started) same world meaning m st e s t o o.opens,
+      )
 
   pub call_done : (new : Machine) (r : Result Pick Halt) → p ≡ Ok outcome.Done → AnswersCall d now new r
   call_done new r same = λ world meaning m st e s t. absurd (by world meaning m st e s t (led (Ok outcome.Done) same world meaning m st e s t))
@@ -495,7 +514,8 @@ next_calls old mid new is next due r f some none canonical answers = λ world me
     (ap (λ (o : Option (Bor Due)). chosen_pick world (place_of o)) (sym some) ∙ canonical world meaning st asks.stood.stands ∙ picks) in
     let now : record mid { items = is } ≡ at_next old s came.count =
     ap (λ (k : List Item). record mid { items = k }) none ∙ ap (λ (k : Machine). record k { items = [] }) came.is in
-    subst (λ (v : Place). AnswersStart world meaning r new (step world st (Ev v))) same
+    subst (λ (v : Place).
+    AnswersStart world meaning (CallsFunction world meaning (untouched old) st e s v new (step world st (Ev v))) r new (step world st (Ev v))) same
     (answers world meaning (record old { items = [] }) st e s (subst (MayCall world meaning (record old { items = [] }) st e s due.now) (sym now)
     (record {
       stood = cleared_open world meaning old st e asks.stood;

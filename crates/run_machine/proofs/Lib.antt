@@ -1,6 +1,7 @@
 mod Answered
 mod Aside
 mod Beginning
+mod Commencing
 mod Behind
 mod Births
 mod Bodies
@@ -16,6 +17,7 @@ mod Given
 mod Giving
 mod Going
 mod Growing
+mod Keeping
 mod Laying
 mod Leaving
 mod Left

@@ -18,7 +18,7 @@ use Rattle.run_machine.specs.declared.pick.Pick.{Pick}
 use Rattle.run_machine.specs.Picks.{at_cursor, top_of, ByWay, ComesNext, Follows, FollowsIn, NextIsPermitted, TakesCanonical}
 use Rattle.run_code.specs.declared.steps.Expression.{Expression}
 use Rattle.run_machine.specs.Completing.{CompletesAfter, CompletesEvent, CompletesNext}
-use Rattle.run_machine.specs.Taking.{AnswersEvent, AnswersNext, AnswersTaken, IsAt, MayTake, MayTakeNext, StandsOpen, at_next}
+use Rattle.run_machine.specs.Taking.{AnswersEvent, AnswersNext, AnswersTaken, IsAt, MayTake, MayTakeNext, StandsOpen, at_next, untouched}
 use Rattle.run_machine.proofs.Still.{items_stand}
 
 -- ---- what comes next, to which the machine has gone on
@@ -107,7 +107,7 @@ pub next_answers : NextIsPermitted → (old mid new : Machine) (is : List Item) 
     AnswersEvent due.now (record mid { items = is }) new r → AnswersNext old new r
 next_answers permits old mid new is next due r f some none canonical answers = λ world meaning st e s laid u asks picks.
     let c = comes permits old mid is next due f some none canonical world meaning st e s laid u asks picks in
-    subst (λ (v : Place). AnswersTaken world meaning r new (step world st (Ev v))) c.same
+    subst (λ (v : Place). AnswersTaken world meaning (untouched old) st e s laid v r new (step world st (Ev v))) c.same
     (answers world meaning (record old { items = [] }) st e s laid c.may)
 
 pub next_completes : NextIsPermitted → (old mid new : Machine) (is : List Item) (next : Option (Bor Due)) (due : Bor Due) (r : Result Pick Halt) →

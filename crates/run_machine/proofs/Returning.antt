@@ -485,8 +485,9 @@ has_given m n other v rest leaves is = record {
 pub went_back : (m : Machine) (w : Stacked) (r p mid new : Machine) (onto : Open) (node : ℕ) (v : Kept_value) → HasGiven (record m { work = w }) v r →
     p ≡ record r { below = p.below; top = onto } → r.below.items ≡ p.below.items ++ onto ∷ [] → mid ≡ record p { values = mid.values } → node ≡ r.top.node →
     (p.top.base + node < length p.values.items → slice_get mid.values.items (p.top.base + node) ≡ Some v) →
-    ((j : ℕ) → j ≢ p.top.base + node → slice_get mid.values.items j ≡ slice_get p.values.items j) → Notes mid (place node Body) new → GoesBack m new
-went_back m w r p mid new onto node v given top below kept at room others noted =
+    ((j : ℕ) → j ≢ p.top.base + node → slice_get mid.values.items j ≡ slice_get p.values.items j) → length mid.values.items ≡ length p.values.items →
+    Notes mid (place node Body) new → GoesBack m new
+went_back m w r p mid new onto node v given top below kept at room others count noted =
     let start : r ≡ record m { work = w; depth = depth_without m.top.function m.depth; left = None } = given.rest in
     let same : node ≡ m.top.node = at ∙ ap (λ (k : Machine). k.top.node) start in
     let base : p.top.base ≡ onto.base = ap (λ (k : Machine). k.top.base) top in
@@ -513,6 +514,7 @@ went_back m w r p mid new onto node v given top below kept at room others noted 
           (subst (λ (xs : List Kept_value). p.top.base + node < length xs → slice_get mid.values.items (p.top.base + node) ≡ Some v) values room);
       others = subst (λ (k : ℕ). (j : ℕ) → j ≢ k → slice_get mid.values.items j ≡ slice_get m.values.items j) place_so
           (λ j ne. others j ne ∙ ap (λ (xs : List Kept_value). slice_get xs j) values);
+      count = count ∙ ap length values;
       noted = subst (λ (k : ℕ). Notes mid (place k Body) new) same noted;
     }
   where

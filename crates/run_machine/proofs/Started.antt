@@ -28,7 +28,7 @@ use Rattle.run_events.specs.Opens.{StartsInitializer, started_on}
 use Rattle.run_machine.specs.Answering.{IsWithin}
 use Rattle.run_machine.specs.Ending.{KeepToRooms}
 use Rattle.run_machine.specs.Picks.{at_cursor}
-use Rattle.run_machine.specs.Starting.{ComesToStart, IsInitializer, StandsStarted, numbered, started_state}
+use Rattle.run_machine.specs.Starting.{ComesToStart, IsInitializer, StandsStarted, initializer_frame, numbered, started_state}
 use Rattle.run_machine.specs.Taking.{StandsOpen}
 use Rattle.run_machine.proofs.Opened.{top_frame}
 use Rattle.run_machine.proofs.Still.{frames_aside, tables_aside}
@@ -37,17 +37,6 @@ use Rattle.run_machine.proofs.Waiting.{Waits}
 -- ---- what the definitions do
 pub place_is : (u : Place) (kind : Kind) → u.kind ≡ kind → u ≡ place u.node kind
 place_is u kind is = λ i. record { node = u.node; kind = is i }
-
--- the frame that starts
-abbrev pub initializer_frame : Scene → ℕ → Expr → Local
-initializer_frame f n tree = record {
-  scene = record { path = (f.turn, n) ∷ f.path; home = f.home; turn = 0; blocks = f.blocks };
-  function = None;
-  arguments = [];
-  todo = Begin tree Unused ∷ [];
-  begun = None;
-  result = Some Nothing;
-}
 
 initializer_steps : (world : World) (st : State) (e : Begun) (n : ℕ) (tree : Expr) (ty : CType) (line : ℕ) (os : Exprs) → st.top.begun ≡ Some e →
     at_node 0 e.root n ≡ Some (expr (Isolated tree) ty line os) →
@@ -89,6 +78,12 @@ module _ (world : World) (meaning : Option ℕ → Meaning) (old past : Machine)
 
   abbrev then_state : State
   then_state = started_state world st d.place then_frame
+
+  pub initializer_steps_to : IsWithin world st → step world st (Ev d.place) ≡ Running then_state
+  initializer_steps_to is =
+      subst (λ (u : Place). step world st (Ev u) ≡ Running (started_state world st u then_frame)) (sym (place_is d.place Body event.body))
+      (initializer_steps world st e d.place.node event.tree event.ty event.line event.operands stood.begun event.node
+      ∙ initializer_within world st (place d.place.node Body) d.place.node event.tree is)
 
   module _ (who : Event) (node : who.node ≡ d.place.node) (new : Machine) (opens : StartsInitializer (at_cursor old s w.cursor) event.number who new) where
     abbrev top_then : Frame → Open
@@ -167,12 +162,6 @@ module _ (world : World) (meaning : Option ℕ → Meaning) (old past : Machine)
       depth = stood.stands.depth ∙ sym (none_more (depth_of st.top st.held));
     }
 
-    steps_to : IsWithin world st → step world st (Ev d.place) ≡ Running then_state
-    steps_to is =
-        subst (λ (u : Place). step world st (Ev u) ≡ Running (started_state world st u then_frame)) (sym (place_is d.place Body event.body))
-        (initializer_steps world st e d.place.node event.tree event.ty event.line event.operands stood.begun event.node
-        ∙ initializer_within world st (place d.place.node Body) d.place.node event.tree is)
-
     code_same : new.code.now ≡ old.code.now
     code_same = ap (λ (k : Machine). k.code.now) opens.rest
 
@@ -186,7 +175,7 @@ module _ (world : World) (meaning : Option ℕ → Meaning) (old past : Machine)
     }
 
     initializer_comes : IsWithin world st → old.items ≡ [] → ComesToStart world meaning new (step world st (Ev d.place))
-    initializer_comes is items = (then_state, steps_to is, sym (ap (λ (k : Machine). k.items) opens.rest ∙ items), stands_started)
+    initializer_comes is items = (then_state, initializer_steps_to is, sym (ap (λ (k : Machine). k.items) opens.rest ∙ items), stands_started)
 
   pub initializer_started : (who : Event) → who.node ≡ d.place.node → (new : Machine) → StartsInitializer past event.number who new → IsWithin world st →
       old.items ≡ [] → ComesToStart world meaning new (step world st (Ev d.place))

@@ -269,7 +269,7 @@ way_still true m s b n None w is = w.1
 way_still true m s b n (Some due) w is = absurd (cc)
 way_still false m s b n due w is = w.1
 
-followed : (m : Machine) (stage : Option Stage) (b : Option Shown) (n : Machine) (due : Option (Bor Due)) → FollowsIn m stage b n due → due ≡ None → n ≡ m
+pub followed : (m : Machine) (stage : Option Stage) (b : Option Shown) (n : Machine) (due : Option (Bor Due)) → FollowsIn m stage b n due → due ≡ None → n ≡ m
 followed m None b n due f is = f.1
 followed m (Some s) None n due f is = absurd f
 followed m (Some s) (Some b) n due f is = way_still s.straight m s b n due f is

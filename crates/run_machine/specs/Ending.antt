@@ -122,6 +122,7 @@ pub record GoesBack (old new : Machine) : Type 0 where
   }
   pub room : onto.base + old.top.node < length old.values.items → slice_get middle.values.items (onto.base + old.top.node) ≡ Some value
   pub others : (j : ℕ) → j ≢ onto.base + old.top.node → slice_get middle.values.items j ≡ slice_get old.values.items j
+  pub count : length middle.values.items ≡ length old.values.items
   pub noted : Notes middle (place old.top.node Body) new
 
 -- the end of the first frame is that of the run, whose status is by what it left

@@ -7,6 +7,7 @@ use Rattle.std.specs.Prelude.{
   ◌-◌,
   ◌^◌,
   ◌<◌,
+  ◌≤◌,
   min,
   ℕ,
   Bool,
@@ -163,6 +164,11 @@ PermitsDecided = (m : Machine) (s : Stage) (u : Place) (permitted : Bool) → m.
 -- the event that the machine goes on to is the canonical pick
 abbrev pub FollowsCanonical : Type 0
 FollowsCanonical = (old new : Machine) (due : Option (Bor Due)) → Follows old new due → TakesCanonical old (place_of due)
+
+-- of each frame below the top one a full expression is shown, the one in which its body waits
+abbrev pub BelowIsShown : Type 0
+BelowIsShown =
+    (world : World) (meaning : Option ℕ → Meaning) (m : Machine) (st : State) → Stands world meaning m st → length m.below.items ≤ length m.begun.items
 
 -- 4. What is answered.
 

@@ -7,11 +7,11 @@ use Rattle.ub_base.specs.declared.names.Frame.{Frame}
 use Rattle.c_types.specs.Types.{CType}
 use Rattle.c_typed.specs.declared.program.Program.{Program}
 use Rattle.c_typed.specs.declared.tree.Place.{Place}
-use Rattle.c_model.specs.Control.{To_do}
+use Rattle.c_model.specs.Control.{Begin, To_do, Unused}
 use Rattle.c_model.specs.Program.{Call, Expr, expr, Exprs, Function, Isolated, Stmt}
 use Rattle.c_model.specs.Runs.{Outcome, Running, State, canonical_pick, depth_of, entry_of, library_of, step}
 use Rattle.c_model.specs.Steps.{Begun, Ev, Local, Scene, at_node, body_of, called_by, first_type, function_type, target, values_of}
-use Rattle.c_model.specs.Values.{Value, later_values, value_at}
+use Rattle.c_model.specs.Values.{Nothing, Value, later_values, value_at}
 use Rattle.c_model.specs.World.{World}
 use Rattle.program_view.specs.Trees.{expr_of}
 use Rattle.run_control.specs.View.{Meaning}
@@ -28,13 +28,13 @@ use Rattle.run_state.specs.declared.machine.Stage.{Stage}
 use Rattle.run_state.specs.Operands.{Gives}
 use Rattle.run_state.specs.Stands.{Stands}
 use Rattle.run_events.specs.Calling.{type_of_call}
-use Rattle.run_events.specs.Opens.{IsBefore, StartsFunction}
+use Rattle.run_events.specs.Opens.{IsBefore, StartsFunction, StartsInitializer}
 use Rattle.run_machine.specs.declared.pick.Pick.{Pick}
 use Rattle.run_machine.specs.declared.pick.Pick.TheVariants as pick
 use Rattle.run_machine.specs.Answering.{Answers, IsWithin, newest_items}
 use Rattle.run_machine.specs.Ending.{KeepToRooms}
 use Rattle.run_machine.specs.Picks.{ComesNext, whole_part}
-use Rattle.run_machine.specs.Taking.{HasRooms, IsAt, IsPast, StandsOpen, at_next, past_event}
+use Rattle.run_machine.specs.Taking.{HasRooms, IsAt, IsPast, StandsOpen, at_next, past_event, untouched}
 
 -- 1. A frame that has started.
 
@@ -57,6 +57,17 @@ ComesToStart world meaning m o = (st : State) × (o ≡ Running st) × (newest_i
 abbrev pub started_state : World → State → Place → Local → State
 started_state world st u g =
     record { top = g; held = (st.top, u) ∷ st.held; store = st.store; trace = entry_of world st.top (Ev u) [] ∷ st.trace }
+
+-- the frame of an isolated initializer, which is to begin this full expression, and sees the open blocks of the frame below (6.7.9p23)
+abbrev pub initializer_frame : Scene → (node : ℕ) → Expr → Local
+initializer_frame f n tree = record {
+  scene = record { path = (f.turn, n) ∷ f.path; home = f.home; turn = 0; blocks = f.blocks };
+  function = None;
+  arguments = [];
+  todo = Begin tree Unused ∷ [];
+  begun = None;
+  result = Some Nothing;
+}
 
 -- 2. What is asked of an event that is the body of an isolated initializer.
 
@@ -90,17 +101,31 @@ pub record MayStart (world : World) (meaning : Option ℕ → Meaning) (m : Mach
 
 -- 3. What is answered.
 
--- a frame starts as the definitions say, or what they raise or pass is answered; there may be want of memory
-abbrev pub AnswersStart : World → (Option ℕ → Meaning) → Result Pick Halt → Machine → Outcome → Type 0
-AnswersStart world meaning (Ok (pick.Starts event)) m o = ComesToStart world meaning m o
-AnswersStart world meaning (Ok (pick.Event event completed status)) m o = ⊥
-AnswersStart world meaning (Ok (pick.Step status)) m o = ⊥
-AnswersStart world meaning (Err e) m o = Answers world meaning (Err e) m o
+-- a frame starts so, as the definitions say, or what they raise or pass is answered; there may be want of memory
+abbrev pub AnswersStart : World → (Option ℕ → Meaning) → (Started : Type 0) → Result Pick Halt → Machine → Outcome → Type 0
+AnswersStart world meaning Started (Ok (pick.Starts event)) m o = ComesToStart world meaning m o × Started
+AnswersStart world meaning Started (Ok (pick.Event event completed status)) m o = ⊥
+AnswersStart world meaning Started (Ok (pick.Step status)) m o = ⊥
+AnswersStart world meaning Started (Err e) m o = Answers world meaning (Err e) m o
+
+-- The frame of an isolated initializer has started at the body of this place, which the cursor has passed; the definitions go on to the state in which it
+-- has.
+pub record StartsIsolated (world : World) (old : Machine) (st : State) (e : Begun) (s : Stage) (u : Place) (new : Machine) (o : Outcome) : Type 0 where
+  pub due : Due
+  pub place : due.place ≡ u
+  pub is : IsInitializer old.code.now e due
+  pub past : Machine
+  pub passes : IsPast s.straight old s due past
+  pub who : Event
+  pub node : who.node ≡ u.node
+  pub starts : StartsInitializer past is.number who new
+  pub comes : o ≡ Running (started_state world st u (initializer_frame st.top.scene u.node is.tree))
 
 abbrev pub AnswersBody : Due → (old new : Machine) → Result Pick Halt → Type 0
 AnswersBody d old new result =
     (world : World) (meaning : Option ℕ → Meaning) (m : Machine) (st : State) (e : Begun) (s : Stage)
-    → MayStart world meaning m st e s d old → AnswersStart world meaning result new (step world st (Ev d.place))
+    → MayStart world meaning m st e s d old
+    → AnswersStart world meaning (StartsIsolated world m st e s d.place new (step world st (Ev d.place))) result new (step world st (Ev d.place))
 
 -- 4. The next event along the canonical way.
 
@@ -115,12 +140,12 @@ pub record MayStartNext (world : World) (meaning : Option ℕ → Meaning) (m : 
   pub few : m.top.base + m.top.rooms < 2 ^ 64
   pub each : (next : ℕ × Bor Due) → ComesNext m s (Some next) → IsInitializer m.code.now e next.1.now
 
--- a canonical pick that is an event
+-- a canonical pick that is an event, of the machine that has touched nothing yet
 abbrev pub AnswersNextBody : (old new : Machine) → Result Pick Halt → Type 0
 AnswersNextBody old new result =
     (world : World) (meaning : Option ℕ → Meaning) (st : State) (e : Begun) (s : Stage) (u : Place)
     → MayStartNext world meaning old st e s → canonical_pick world st.top st.top.begun ≡ Ev u
-    → AnswersStart world meaning result new (step world st (Ev u))
+    → AnswersStart world meaning (StartsIsolated world (untouched old) st e s u new (step world st (Ev u))) result new (step world st (Ev u))
 
 -- 5. The frame of a function.
 
@@ -231,12 +256,27 @@ pub record MayCall (world : World) (meaning : Option ℕ → Meaning) (m : Machi
   pub event : IsCall world (past_event now) st.top.scene e d
   pub goes : IsAt s.straight m s d now
 
+-- The frame of a function has started at the body of this place, which is that of a call of the function, with the values that it passes; the definitions
+-- go on to the state in which it has.
+pub record CallsFunction (world : World) (meaning : Option ℕ → Meaning) (old : Machine) (st : State) (e : Begun) (s : Stage) (u : Place) (new : Machine)
+    (o : Outcome) : Type 0 where
+  pub due : Due
+  pub place : due.place ≡ u
+  pub number : ℕ
+  pub body : Stmt
+  pub operands : List Operand
+  pub values : List Value
+  pub is : IsCallOf world st.top.scene e u number body values
+  pub starts : StartsCall world meaning old st e s due number body operands values new
+  pub comes : o ≡ Running (started_state world st u (function_frame st.top.scene u.node number body values))
+
 -- The frame of the function starts as the definitions say; or the call raises what they raise, of none or through a type that isn't compatible (6.5.3.2p4,
 -- 6.5.2.2p9), or passes the limit on open frames; or memory is wanted.
 abbrev pub AnswersCall : Due → (old new : Machine) → Result Pick Halt → Type 0
 AnswersCall d old new result =
     (world : World) (meaning : Option ℕ → Meaning) (m : Machine) (st : State) (e : Begun) (s : Stage)
-    → MayCall world meaning m st e s d old → AnswersStart world meaning result new (step world st (Ev d.place))
+    → MayCall world meaning m st e s d old
+    → AnswersStart world meaning (CallsFunction world meaning m st e s d.place new (step world st (Ev d.place))) result new (step world st (Ev d.place))
 
 -- 7. The next event along the canonical way is such a body.
 
@@ -254,4 +294,4 @@ abbrev pub AnswersNextCall : (old new : Machine) → Result Pick Halt → Type 0
 AnswersNextCall old new result =
     (world : World) (meaning : Option ℕ → Meaning) (st : State) (e : Begun) (s : Stage) (u : Place)
     → MayCallNext world meaning old st e s → canonical_pick world st.top st.top.begun ≡ Ev u
-    → AnswersStart world meaning result new (step world st (Ev u))
+    → AnswersStart world meaning (CallsFunction world meaning (untouched old) st e s u new (step world st (Ev u))) result new (step world st (Ev u))

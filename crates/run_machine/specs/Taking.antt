@@ -188,6 +188,18 @@ EventSteps =
 
 -- 5. What is answered to an event that isn't a body.
 
+-- The event of this place is taken, with some value, and the definitions go on to the state behind it: so it is in a world that has the rows that the
+-- machine then has. Along the canonical way it is the one that comes next (`IsPast`).
+abbrev pub IsTakenTo : World → (Option ℕ → Meaning) → (old : Machine) → State → Begun → Stage → Expression → Place → (new : Machine) → Outcome → Type 0
+IsTakenTo world meaning old st e s laid u new o = RowsStay new.memory.rows world.rows → (d : Due) × (v : Value) × (d.place ≡ u)
+    × TakesEvent world meaning old st e s laid d v new × (o ≡ Running (after_event world st e u v new.items (store_after new)))
+
+-- so the machine goes on, as that state, with the items of the pick
+abbrev pub EventComes : Type 0
+EventComes =
+    (world : World) (meaning : Option ℕ → Meaning) (old new : Machine) (st : State) (e : Begun) (s : Stage) (laid : Expression) (u : Place) (o : Outcome)
+    → IsTakenTo world meaning old st e s laid u new o → ComesTo world meaning None new o
+
 -- the cursor passes the event at which it stands
 abbrev pub passed_stage : Option Stage → Option Stage
 passed_stage None = None
@@ -237,24 +249,30 @@ pub record MayTake (world : World) (meaning : Option ℕ → Meaning) (m : Machi
   pub goes : IsAt s.straight m s d now
   pub act : IsActOf world (past_event now) st.top.scene e d
 
--- it is taken as the definitions' event, in a world that has the rows that the machine then has, or raises their clause; there may be want of memory
-abbrev pub AnswersTaken : World → (Option ℕ → Meaning) → Result Pick Halt → Machine → Outcome → Type 0
-AnswersTaken world meaning (Ok (pick.Event event completed None)) m o = ComesTo world meaning None m o
-AnswersTaken world meaning (Ok (pick.Event event completed (Some status))) m o = ⊥
-AnswersTaken world meaning (Ok (pick.Starts event)) m o = ⊥
-AnswersTaken world meaning (Ok (pick.Step status)) m o = ⊥
-AnswersTaken world meaning (Err e) m o = Answers world meaning (Err e) m o
+-- it is taken as the definitions' event, or raises their clause; there may be want of memory
+abbrev pub AnswersTaken : World → (Option ℕ → Meaning) → (old : Machine) → State → Begun → Stage → Expression → Place → Result Pick Halt → (new : Machine)
+    → Outcome → Type 0
+AnswersTaken world meaning old st e s laid u (Ok (pick.Event event completed None)) new o = IsTakenTo world meaning old st e s laid u new o
+AnswersTaken world meaning old st e s laid u (Ok (pick.Event event completed (Some status))) new o = ⊥
+AnswersTaken world meaning old st e s laid u (Ok (pick.Starts event)) new o = ⊥
+AnswersTaken world meaning old st e s laid u (Ok (pick.Step status)) new o = ⊥
+AnswersTaken world meaning old st e s laid u (Err h) new o = Answers world meaning (Err h) new o
 
 abbrev pub AnswersEvent : Due → (old new : Machine) → Result Pick Halt → Type 0
 AnswersEvent d old new result =
     (world : World) (meaning : Option ℕ → Meaning) (m : Machine) (st : State) (e : Begun) (s : Stage) (laid : Expression)
-    → MayTake world meaning m st e s laid d old → AnswersTaken world meaning result new (step world st (Ev d.place))
+    → MayTake world meaning m st e s laid d old
+    → AnswersTaken world meaning m st e s laid d.place result new (step world st (Ev d.place))
 
 -- 6. The next event along the canonical way.
 
--- the machine goes on to the event that stands so many entries behind the cursor, and has touched nothing yet
+-- the machine that has touched nothing yet
+abbrev pub untouched : Machine → Machine
+untouched m = record m { items = [] }
+
+-- it goes on to the event that stands so many entries behind the cursor
 abbrev pub at_next : Machine → Stage → ℕ → Machine
-at_next m s n = at_cursor (record m { items = [] }) s (min (s.cursor + n) (2 ^ 64 - 1))
+at_next m s n = at_cursor (untouched m) s (min (s.cursor + n) (2 ^ 64 - 1))
 
 -- an event of the full expression, which isn't a body: its act is that of its node, and finds what it takes in the machine that has gone on to it
 pub record CanBeTaken (world : World) (m : Machine) (st : State) (e : Begun) (laid : Expression) (d : Due) (now : Machine) : Type 0 where
@@ -276,9 +294,9 @@ pub record MayTakeNext (world : World) (meaning : Option ℕ → Meaning) (m : M
   pub extends : Extends m.memory.rows world.rows
   pub each : (next : ℕ × Bor Due) → ComesNext m s (Some next) → CanBeTaken world m st e laid next.1.now (at_next m s next.0)
 
--- a canonical pick that is an event
+-- a canonical pick that is an event, of the machine that has touched nothing yet
 abbrev pub AnswersNext : (old new : Machine) → Result Pick Halt → Type 0
 AnswersNext old new result =
     (world : World) (meaning : Option ℕ → Meaning) (st : State) (e : Begun) (s : Stage) (laid : Expression) (u : Place)
     → MayTakeNext world meaning old st e s laid → canonical_pick world st.top st.top.begun ≡ Ev u
-    → AnswersTaken world meaning result new (step world st (Ev u))
+    → AnswersTaken world meaning (untouched old) st e s laid u result new (step world st (Ev u))

@@ -12,6 +12,7 @@ ghost use Rattle.run_code.specs.InRange.{part_of};
 ghost use Rattle.run_machine.specs.Beginning.{HasShown};
 ghost use Rattle.run_machine.specs.Ended.{AnswersEnd};
 ghost use Rattle.run_machine.specs.Entering.{BearsAll, CanBear, CreatesOne, Enters};
+ghost use Rattle.run_machine.specs.Keeping.{FillsObjects, GoesFurther, KeepsControl, ResultBehind, StaysSo};
 ghost use Rattle.run_machine.specs.Leaving.{GoesStill, LeavesBlock};
 ghost use Rattle.run_machine.specs.Passing.{IsOnePassed, PassesAll, with_arguments};
 ghost use Rattle.run_machine.specs.Moving.{GoesOn, IsGone, StepLeaves, TakesStep};
@@ -43,6 +44,7 @@ pub const MOST_CREATED: u64 = 1 << 26;
 pub fn control_step(machine: &mut Machine) -> Result<Option<u8>, Halt>
     ensures step { OnOk result (machine.old.top.stage ≡ None → (m : Meaning) → TakesStep m machine.old.jumps.links.items machine.old.work machine.new.work) }
     ensures answers { AnswersControl machine.old machine.new result }
+    ensures keeps { KeepsControl machine.old machine.new result }
 {
     match machine.top.stage {
         Some(stage) => settle(machine, stage),
@@ -56,6 +58,7 @@ pub fn control_step(machine: &mut Machine) -> Result<Option<u8>, Halt>
 fn take_step<'c>(machine: &mut Machine<'_, 'c>, step: Step<'c>) -> Result<Option<u8>, Halt>
     ensures leaves { OnOk result ((m : Meaning) → StepLeaves m machine.old.jumps.links.items step.entry machine.old.work machine.new.work) }
     ensures answers { AnswersStep step.entry machine.old machine.new result }
+    ensures keeps { machine.old.top.stage ≡ None → KeepsControl machine.old machine.new result }
 {
     match step {
         Step::Begin(number, how) => begin(machine, number, how),
@@ -79,6 +82,7 @@ fn go_on(machine: &mut Machine) -> Result<Option<u8>, Halt>
     ensures goes { OnOk result ((m : Meaning) → GoesOn m machine.old.work machine.new.work) }
     ensures still { (m : Meaning) → is_nothing (ready_work (todo_of m machine.old.work.now)) ≡ false → GoesStill machine.old machine.new result }
     ensures ends { (m : Meaning) → is_nothing (ready_work (todo_of m machine.old.work.now)) ≡ true → AnswersEnd machine.old machine.new result }
+    ensures further { GoesFurther machine.old machine.new result }
 {
     if machine.work.is_over()? {
         end_frame(machine)
@@ -91,6 +95,7 @@ fn go(machine: &mut Machine, how: Move) -> Result<Option<u8>, Halt>
     ensures below { OnOk result (machine.new.work.below ≡ machine.old.work.below) }
     ensures now { OnOk result ((m : Meaning) → todo_of m machine.new.work.now ≡ moved how (todo_of m machine.old.work.now)) }
     ensures answers { AnswersStep (step_of_move how) machine.old machine.new result }
+    ensures rest { OnOk result (machine.new ≡ record machine.old { work = machine.new.work }) }
 {
     machine.work.go(how)?;
     Ok(None)
@@ -99,6 +104,7 @@ fn go(machine: &mut Machine, how: Move) -> Result<Option<u8>, Halt>
 fn go_to(machine: &mut Machine, label: u32) -> Result<Option<u8>, Halt>
     ensures gone { OnOk result ((m : Meaning) → IsGone m machine.old.jumps.links.items machine.old.work machine.new.work) }
     ensures answers { AnswersStep (steps.GoTo label) machine.old machine.new result }
+    ensures rest { OnOk result (machine.new ≡ record machine.old { work = machine.new.work }) }
 {
     let Some(function) = machine.top.function else {
         return Err(Halt::NoMemory);
@@ -128,6 +134,7 @@ fn block_of<'c>(
 fn enter(machine: &mut Machine, number: u32) -> Result<Option<u8>, Halt>
     ensures work { machine.new.work ≡ machine.old.work }
     ensures enters { Enters machine.old number machine.new result }
+    ensures stays { OnOk result (StaysSo machine.old machine.new) }
 {
     machine.entered = number;
     machine.top.turn = machine.top.turn.saturating_add(1);
@@ -145,6 +152,7 @@ fn enter(machine: &mut Machine, number: u32) -> Result<Option<u8>, Halt>
 fn create_objects(machine: &mut Machine, objects: &[ObjectCode], first: u32) -> Result<(), Halt>
     ensures work { machine.new.work ≡ machine.old.work }
     ensures born { CanBear machine.old first (length objects.now) → BearsAll machine.old objects.now first machine.new result }
+    ensures fills { OnOk result (FillsObjects machine.old machine.new) }
 {
     let mut number: u32 = 0;
     for object in objects {
@@ -172,6 +180,7 @@ fn store_arguments(
 ) -> Result<(), NoMemory>
     ensures work { machine.new.work ≡ machine.old.work }
     ensures passes { OnOk result (PassesAll machine.old objects.now first machine.new) }
+    ensures fills { OnOk result (FillsObjects machine.old machine.new) }
 {
     let mut number: u32 = 0;
     for object in objects {
@@ -185,6 +194,7 @@ fn store_arguments(
 fn create(machine: &mut Machine, object: &ObjectCode, first: u32, number: u32) -> Result<(), Halt>
     ensures work { machine.new.work ≡ machine.old.work }
     ensures creates { CreatesOne machine.old object.now first number machine.new result }
+    ensures fills { OnOk result (FillsObjects machine.old machine.new) }
 {
     let name = ObjName::Auto {
         frame: machine.top.frame,
@@ -223,6 +233,7 @@ fn place(machine: &mut Machine, object: u32, local: Local) -> Result<(), NoMemor
     ensures placed { OnOk result (slice_get machine.new.locals.items (min (machine.old.top.locals + object) (2 ^ 64 - 1)) ≡ Some local) }
     ensures others { (j : ℕ) → j ≢ min (machine.old.top.locals + object) (2 ^ 64 - 1)
         → slice_get machine.new.locals.items j ≡ slice_get machine.old.locals.items j }
+    ensures count { length machine.new.locals.items ≡ length machine.old.locals.items }
 {
     let at = machine.top.locals.saturating_add(object as usize);
     match machine.locals.get_mut(at) {
@@ -244,6 +255,7 @@ fn store_argument(
 ) -> Result<(), NoMemory>
     ensures work { machine.new.work ≡ machine.old.work }
     ensures passes { OnOk result (IsOnePassed machine.old object.now first number machine.new) }
+    ensures fills { OnOk result (FillsObjects machine.old machine.new) }
 {
     let place = machine.local(first.saturating_add(number), 0);
     let value = machine.take(number);
@@ -269,6 +281,7 @@ fn leave(machine: &mut Machine, number: u32) -> Result<(), NoMemory>
 fn declare(machine: &mut Machine, object: u32) -> Result<Option<u8>, Halt>
     ensures work { machine.new.work ≡ machine.old.work }
     ensures answers { AnswersStep (steps.Unwrite object) machine.old machine.new result }
+    ensures rest { OnOk result (machine.new ≡ record machine.old { memory = machine.new.memory; items = machine.new.items }) }
 {
     let Some(block) = machine.work.block() else {
         return Err(Halt::NoMemory);
@@ -283,6 +296,7 @@ fn declare(machine: &mut Machine, object: u32) -> Result<Option<u8>, Halt>
 fn begin<'c>(machine: &mut Machine<'_, 'c>, number: u32, how: Use<'c>) -> Result<Option<u8>, Halt>
     ensures work { machine.new.work ≡ machine.old.work }
     ensures answers { AnswersStep (steps.Begin number how.entry) machine.old machine.new result }
+    ensures keeps { machine.old.top.stage ≡ None → KeepsControl machine.old machine.new result }
 {
     law_view();
     law_cursor();
@@ -342,7 +356,8 @@ fn show_begun<'p>(
 
 // The value of a full expression is used.
 fn settle(machine: &mut Machine, stage: Stage) -> Result<Option<u8>, Halt>
-    ensures { machine.old.top.stage ≡ Some stage → AnswersControl machine.old machine.new result }
+    ensures answers { machine.old.top.stage ≡ Some stage → AnswersControl machine.old machine.new result }
+    ensures keeps { machine.old.top.stage ≡ Some stage → KeepsControl machine.old machine.new result }
 {
     law_operands();
     let operand = stage.value;
@@ -368,6 +383,7 @@ fn use_value<'c>(
     ensures now { OnOk result ((truth : Bool) × ((m : Meaning) (z : ℤ) → todo_of m machine.new.work.now ≡ after m truth z how.entry (todo_of m
         machine.old.work.now))) }
     ensures used { OnOk result (HasUsed machine.old how.entry operand machine.new) }
+    ensures result { OnOk result (ResultBehind machine.old operand how.entry machine.new.left) }
 {
     keep_result(machine, how, operand)?;
     let truth = machine.truth(operand);
@@ -378,6 +394,7 @@ fn use_value<'c>(
 fn keep_result(machine: &mut Machine, how: Use, operand: Operand) -> Result<(), NoMemory>
     ensures rest { OnOk result (machine.new ≡ record machine.old { left = machine.new.left }) }
     ensures left { OnOk result ((h : Kept_value) → operand_in machine.old operand ≡ Some h → machine.new.left ≡ left_by how.entry h machine.old.left) }
+    ensures result { OnOk result (ResultBehind machine.old operand how.entry machine.new.left) }
 {
     if let Use::Result = how {
         machine.left = Some(machine.value(operand)?);

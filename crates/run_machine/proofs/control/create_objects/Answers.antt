@@ -1,6 +1,7 @@
 use Rattle.std.proofs.Common.{arith, refl, ◌∙◌}
 use Rattle.std.proofs.lemmas.Result.{err_from_is_err_and}
 use Rattle.run_machine.proofs.Births.{all_new, next_new, none_new, stops_there}
+use Rattle.run_machine.proofs.Keeping.{fills_none, fills_then}
 use Rattle.run_machine.proofs.control.create_objects.Goals as goal
 
 pub loop-object-init : goal.loop-object-init
@@ -8,6 +9,7 @@ loop-object-init c = record {
   work = refl;
   number = omega arith;
   born = λ can. none_new c.args.machine.now c.args.objects.now c.args.first;
+  fills = fills_none c.args.machine.now;
 }
 
 pub loop-object-preserved : goal.loop-object-preserved
@@ -18,6 +20,7 @@ loop-object-preserved c =
       number = omega (arith, inv.number, c.saturating_add-number.ensures);
       born = next_new c.args.machine.now c.loop-object.machine c.create.new.machine c.args.objects.now c.object-item.result c.args.first
           c.loop-object.object-index c.loop-object.number c.loop-object-test.true c.object-item.is inv.number inv.born c.in_ok-create.ensures.creates;
+      fills = fills_then c.args.machine.now c.loop-object.machine c.create.new.machine inv.fills c.in_ok-create.ensures.fills;
     }
 
 pub returns-in_err-create-clause-born : goal.returns-in_err-create-clause-born

@@ -1,6 +1,7 @@
 use Rattle.std.proofs.Common.{arith}
 use Rattle.std.proofs.lemmas.Result.{err_from_is_err_and}
 use Rattle.run_machine.proofs.Entering.{enters_not, enters_ok, enters_over, reached_so}
+use Rattle.run_machine.proofs.Keeping.{fills_then, stays_entered}
 use Rattle.run_machine.proofs.control.enter.Goals as goal
 
 pub returns-then-reached-gt-MOST_CREATED-clause-enters : goal.returns-then-reached-gt-MOST_CREATED-clause-enters
@@ -24,3 +25,8 @@ returns-clause-enters c =
     c.in_ok-block.ensures.at c.in_ok-block.ensures.objects (reached_so _ _ _ _ c.total-reached.ensures c.created.ensures)
     c.store_arguments.new.machine c.taking.result.now (omega (arith, c.if-reached-gt-MOST_CREATED.false)) c.in_ok-create_objects.ensures.born
     c.taking.ensures c.in_ok-store_arguments.ensures.passes
+
+pub returns-clause-stays : goal.returns-clause-stays
+returns-clause-stays c =
+    stays_entered c.args.machine.now c.store_arguments.new.machine c.args.number c.saturating_add-machine.result c.saturating_add-machine.ensures
+    (fills_then _ c.create_objects.new.machine c.store_arguments.new.machine c.in_ok-create_objects.ensures.fills c.in_ok-store_arguments.ensures.fills)

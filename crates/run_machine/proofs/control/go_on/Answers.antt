@@ -1,4 +1,5 @@
-use Rattle.std.proofs.Common.{sym, ◌∙◌, refl, None, Ok}
+use Rattle.std.proofs.Common.{sym, ◌∙◌, inl, refl, None, Ok}
+use Rattle.run_machine.proofs.Keeping.{further_worked}
 use Rattle.run_machine.proofs.Left.{ends_over, on_ends, over_still}
 use Rattle.run_machine.proofs.Steering.{frame_ends, goes_further}
 use Rattle.run_machine.proofs.control.go_on.Goals as goal
@@ -12,6 +13,7 @@ returns-then-branch c = record {
   ends = λ m none.
       ends_over c.args.machine.now c.end_frame.new.machine c.is_over.new.self.below c.is_over.new.self.now c.end_frame.result c.in_ok-is_over.ensures.below
       c.in_ok-is_over.ensures.now c.end_frame.ensures.answers;
+  further = further_worked c.args.machine.now c.end_frame.new.machine c.is_over.new.self c.end_frame.result c.end_frame.ensures.further;
 }
 
 pub returns-else-branch : goal.returns-else-branch
@@ -21,4 +23,5 @@ returns-else-branch c = record {
       (c.in_ok-is_over.ensures.now m);
   still = λ m on. (refl, refl);
   ends = on_ends c.args.machine.now _ c.in_ok-is_over.field-0 (Ok None) c.if-branch.false c.in_ok-is_over.ensures.over;
+  further = inl refl;
 }

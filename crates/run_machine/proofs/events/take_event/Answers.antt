@@ -8,26 +8,26 @@ use Rattle.run_machine.proofs.events.take_event.Goals as goal
 
 pub returns-in-Ok-Done-clause-answers : goal.returns-in-Ok-Done-clause-answers
 returns-in-Ok-Done-clause-answers c =
-    taken_done c.law_events.ensures.stands c.law_events.ensures.steps c.args.due.now c.args.machine.now c.pass_event.new.machine c.perform.new.machine
+    taken_done c.law_events.ensures.steps c.args.due.now c.args.machine.now c.pass_event.new.machine c.perform.new.machine
     c.finish_event.new.machine c.perform.result c.finish_event.result c.pass_event.ensures
     (c.perform.ensures.exact, c.perform.ensures.changes, c.perform.ensures.effect) (c.in-Ok-Done.is ∙ ap Ok c.in-Ok-Done.field-0-is)
     c.finish_event.ensures.follows
 
 pub returns-in-Ok-Started-clause-answers : goal.returns-in-Ok-Started-clause-answers
 returns-in-Ok-Started-clause-answers c =
-    taken_started c.law_events.ensures.stands c.law_events.ensures.steps c.args.due.now c.args.machine.now c.pass_event.new.machine c.perform.new.machine
+    taken_started c.law_events.ensures.steps c.args.due.now c.args.machine.now c.pass_event.new.machine c.perform.new.machine
     c.perform.new.machine c.perform.result (Ok (pick.Starts (event_at c.args.machine.now c.args.due.now.place))) c.pass_event.ensures
     (c.perform.ensures.exact, c.perform.ensures.changes, c.perform.ensures.effect) (c.in-Ok-Started.is ∙ ap Ok c.in-Ok-Started.field-0-is)
 
 pub returns-in-Ok-End-clause-answers : goal.returns-in-Ok-End-clause-answers
 returns-in-Ok-End-clause-answers c =
-    taken_ended c.law_events.ensures.stands c.law_events.ensures.steps c.args.due.now c.args.machine.now c.pass_event.new.machine c.perform.new.machine
+    taken_ended c.law_events.ensures.steps c.args.due.now c.args.machine.now c.pass_event.new.machine c.perform.new.machine
     c.finish_event-in-Ok-End.new.machine c.perform.result c.finish_event-in-Ok-End.result c.pass_event.ensures
     (c.perform.ensures.exact, c.perform.ensures.changes, c.perform.ensures.effect) _ (c.in-Ok-End.is ∙ ap Ok c.in-Ok-End.field-0-is)
 
 pub returns-in-Err-clause-answers : goal.returns-in-Err-clause-answers
 returns-in-Err-clause-answers c =
-    taken_stopped c.law_events.ensures.stands c.law_events.ensures.steps c.args.due.now c.args.machine.now c.pass_event.new.machine c.perform.new.machine
+    taken_stopped c.law_events.ensures.steps c.args.due.now c.args.machine.now c.pass_event.new.machine c.perform.new.machine
     c.perform.new.machine c.perform.result (Ok (pick.Starts (event_at c.args.machine.now c.args.due.now.place))) c.pass_event.ensures
     (c.perform.ensures.exact, c.perform.ensures.changes, c.perform.ensures.effect) c.in-Err.fault c.args.due.now.line c.of.result c.in-Err.is c.of.ensures
 
@@ -57,26 +57,26 @@ returns-in-Err-clause-bodies c =
 
 pub returns-in-Ok-Done-clause-completes : goal.returns-in-Ok-Done-clause-completes
 returns-in-Ok-Done-clause-completes c =
-    completed_done c.law_events.ensures.stands c.law_events.ensures.steps c.args.due.now c.args.machine.now c.pass_event.new.machine
+    completed_done c.law_events.ensures.steps c.args.due.now c.args.machine.now c.pass_event.new.machine
     c.perform.new.machine c.finish_event.new.machine c.perform.result c.finish_event.result c.pass_event.ensures
     (c.perform.ensures.exact, c.perform.ensures.changes, c.perform.ensures.effect) c.law_events.ensures.completes
     (c.in-Ok-Done.is ∙ ap Ok c.in-Ok-Done.field-0-is) c.finish_event.ensures.follows c.finish_event.ensures.completes
 
 pub returns-in-Ok-Started-clause-completes : goal.returns-in-Ok-Started-clause-completes
 returns-in-Ok-Started-clause-completes c =
-    completed_else c.law_events.ensures.stands c.law_events.ensures.steps c.args.due.now c.args.machine.now c.pass_event.new.machine
+    completed_else c.law_events.ensures.steps c.args.due.now c.args.machine.now c.pass_event.new.machine
     c.perform.new.machine c.perform.new.machine c.perform.result (Ok (pick.Starts (event_at c.args.machine.now c.args.due.now.place)))
     c.pass_event.ensures (c.perform.ensures.exact, c.perform.ensures.changes, c.perform.ensures.effect) (λ world u o. tt)
 
 pub returns-in-Ok-End-clause-completes : goal.returns-in-Ok-End-clause-completes
 returns-in-Ok-End-clause-completes c =
-    completed_ended c.law_events.ensures.stands c.law_events.ensures.steps c.args.due.now c.args.machine.now c.pass_event.new.machine
+    completed_ended c.law_events.ensures.steps c.args.due.now c.args.machine.now c.pass_event.new.machine
     c.perform.new.machine c.finish_event-in-Ok-End.new.machine c.perform.result c.finish_event-in-Ok-End.result c.pass_event.ensures
     (c.perform.ensures.exact, c.perform.ensures.changes, c.perform.ensures.effect) _ (c.in-Ok-End.is ∙ ap Ok c.in-Ok-End.field-0-is)
 
 pub returns-in-Err-clause-completes : goal.returns-in-Err-clause-completes
 returns-in-Err-clause-completes c =
-    completed_else c.law_events.ensures.stands c.law_events.ensures.steps c.args.due.now c.args.machine.now c.pass_event.new.machine
+    completed_else c.law_events.ensures.steps c.args.due.now c.args.machine.now c.pass_event.new.machine
     c.perform.new.machine c.perform.new.machine c.perform.result (Err c.of.result) c.pass_event.ensures
     (c.perform.ensures.exact, c.perform.ensures.changes, c.perform.ensures.effect) (λ world u o. tt)
 

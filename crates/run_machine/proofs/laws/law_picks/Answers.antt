@@ -1,3 +1,4 @@
+use Rattle.run_machine.proofs.Beginning.{below_shown}
 use Rattle.run_machine.proofs.Opened.{closed, unlisted, next_may, decided, follows}
 use Rattle.run_machine.proofs.laws.law_picks.Goals as goal
 
@@ -16,3 +17,6 @@ returns-clause-decided c = decided c.law_view.ensures.trees c.law_cursor.ensures
 pub returns-clause-follows : goal.returns-clause-follows
 returns-clause-follows c =
     follows c.law_view.ensures.trees c.law_listed_tree.ensures.lists c.law_cursor.ensures.next c.law_strayed.ensures.takes
+
+pub returns-clause-shown : goal.returns-clause-shown
+returns-clause-shown c = below_shown

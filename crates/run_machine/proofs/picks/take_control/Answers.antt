@@ -1,3 +1,4 @@
+use Rattle.run_machine.proofs.Keeping.{status_kept}
 use Rattle.run_machine.proofs.Staying.{halt_told, status_told}
 use Rattle.run_machine.proofs.picks.take_control.Goals as goal
 
@@ -6,3 +7,6 @@ returns-in-Ok-clause-answers c = status_told c.args.machine.now c.control_step.n
 
 pub returns-in-Err-clause-answers : goal.returns-in-Err-clause-answers
 returns-in-Err-clause-answers c = halt_told c.args.machine.now c.control_step.new.machine c.in-Err.halt c.in-Err.ensures.answers
+
+pub returns-in-Ok-clause-keeps : goal.returns-in-Ok-clause-keeps
+returns-in-Ok-clause-keeps c = status_kept c.args.machine.now c.control_step.new.machine c.in-Ok.status c.in-Ok.ensures.keeps
