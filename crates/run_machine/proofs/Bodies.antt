@@ -93,7 +93,7 @@ next_bodies old mid new is next due r f some none canonical answers = λ world m
     let now : record mid { items = is } ≡ at_next old s came.count =
     ap (λ (k : List Item). record mid { items = k }) none ∙ ap (λ (k : Machine). record k { items = [] }) came.is in
     subst (λ (v : Place).
-        AnswersStart world meaning (StartsIsolated world (untouched old) st e s v new (step world st (Ev v))) r new (step world st (Ev v))) same
+    AnswersStart world meaning (StartsIsolated world (untouched old) st e s v new (step world st (Ev v))) r new (step world st (Ev v))) same
     (answers world meaning (record old { items = [] }) st e s (subst (MayStart world meaning (record old { items = [] }) st e s due.now) (sym now)
     (record {
       stood = cleared_open world meaning old st e asks.stood;

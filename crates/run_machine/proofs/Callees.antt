@@ -410,8 +410,8 @@ module _ (trees : TreesAreKept) (starts : StandsAtStart) (d : Due) (now start do
     )
 
     -- with what was started
-    calls_so : (o : Opening) → StartsFunction past o.number passed who done → CallsFunction world meaning m st e s d.place done (step world st (Ev d.place))
-    calls_so o opens = record {
+    function_called : (o : Opening) → StartsFunction past o.number passed who done → CallsFunction world meaning m st e s d.place done (step world st (Ev d.place))
+    function_called o opens = record {
       due = d;
       place = refl;
       number = o.number;
@@ -465,7 +465,7 @@ module _ (trees : TreesAreKept) (starts : StandsAtStart) (d : Due) (now start do
       by world meaning m st e s t (inl r) = absurd r.only
       by world meaning m st e s t (inr o) = (
         comes (Ok outcome.Started) same world meaning m st e s t o o.opens,
-        calls_so (Ok outcome.Started) same world meaning m st e s t o o.opens,
+        function_called (Ok outcome.Started) same world meaning m st e s t o o.opens,
       )
 
   pub call_done : (new : Machine) (r : Result Pick Halt) → p ≡ Ok outcome.Done → AnswersCall d now new r
@@ -515,7 +515,7 @@ next_calls old mid new is next due r f some none canonical answers = λ world me
     let now : record mid { items = is } ≡ at_next old s came.count =
     ap (λ (k : List Item). record mid { items = k }) none ∙ ap (λ (k : Machine). record k { items = [] }) came.is in
     subst (λ (v : Place).
-        AnswersStart world meaning (CallsFunction world meaning (untouched old) st e s v new (step world st (Ev v))) r new (step world st (Ev v))) same
+    AnswersStart world meaning (CallsFunction world meaning (untouched old) st e s v new (step world st (Ev v))) r new (step world st (Ev v))) same
     (answers world meaning (record old { items = [] }) st e s (subst (MayCall world meaning (record old { items = [] }) st e s due.now) (sym now)
     (record {
       stood = cleared_open world meaning old st e asks.stood;

@@ -1,8 +1,8 @@
-mod Ahead
 mod Answered
+mod Ahead
 mod Aside
 mod Beginning
-mod Begun
+mod Commencing
 mod Behind
 mod Births
 mod Bodies

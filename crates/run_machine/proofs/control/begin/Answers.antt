@@ -1,5 +1,5 @@
 use Rattle.run_machine.proofs.Beginning.{begin_answers}
-use Rattle.run_machine.proofs.Begun.{begins_so}
+use Rattle.run_machine.proofs.Commencing.{begins_so}
 use Rattle.run_machine.proofs.control.begin.Goals as goal
 
 pub returns-clause-answers : goal.returns-clause-answers
