@@ -36,6 +36,7 @@ use Rattle.ub_base.specs.declared.names.ObjName.TheVariants as object
 use Rattle.addr_map.specs.declared.map.Row.{Row}
 use Rattle.c_types.specs.declared.library.LibFunc.{LibFunc}
 use Rattle.c_types.specs.declared.ty.FuncTy.{FuncTy}
+use Rattle.c_types.specs.declared.ty.Qual.{Qual}
 use Rattle.c_types.specs.Types.{CType, signature_of}
 use Rattle.c_typed.specs.declared.program.Function.{Function as Typed}
 use Rattle.mem_spec.specs.Script.{Give, require, run, ◌>>◌}
@@ -55,6 +56,7 @@ use Rattle.run_state.specs.Operands.{into_local, operand_in, pointer_into}
 use Rattle.run_events.specs.declared.acts.Outcome.{Outcome}
 use Rattle.run_events.specs.declared.fault.Fault.{Fault}
 use Rattle.run_events.specs.declared.fault.Fault.TheVariants as fault
+use Rattle.run_events.proofs.Library.{wants_memory}
 use Rattle.run_events.specs.Calling.{CallsFound, Runs, RunsWhere, library_in, type_of_call}
 
 -- ---- anything but a function pointer leads to no function
@@ -124,40 +126,41 @@ library_is held fs a n f are is =
     ap (λ (k : ℕ). library_in (slice_get held k)) same ∙ s.library
 
 -- ---- by what a call of it comes to
-module _ (old : Machine) (os : List Operand) (event : Event) (new : Machine) where
-  wanted_where : (callable agrees : Bool) (n : ℕ) (f : Function) → RunsWhere old os event new (Err fault.NoMemory) callable agrees n f
+-- memory may be wanted
+module _ (old : Machine) (os : List Operand) (ts : List Qual) (event : Event) where
+  wanted_where : (callable agrees : Bool) (n : ℕ) (f : Function) → RunsWhere old os ts event old (Err fault.NoMemory) callable agrees n f
   wanted_where false agrees n f = tt
   wanted_where true false n f = tt
   wanted_where true true n f = by f.library
     where
-      by : (l : Option LibFunc) → Runs old os event new (Err fault.NoMemory) n l
+      by : (l : Option LibFunc) → Runs old os ts event old (Err fault.NoMemory) n l
       by None = tt
-      by (Some l) = tt
+      by (Some l) = wants_memory old l os ts event
 
-  -- memory may be wanted
   pub wanted : (agree : CType → CType → Bool) (through : Option CType) (found : Option (ℕ × Function)) →
-      CallsFound old os event new (Err fault.NoMemory) agree through found
+      CallsFound old os ts event old (Err fault.NoMemory) agree through found
   wanted agree None found = tt
   wanted agree (Some ty) None = tt
   wanted agree (Some ty) (Some f) = wanted_where (is_some f.1.body || is_some f.1.library) (agree f.1.ty ty) f.0 f.1
 
+module _ (old : Machine) (os : List Operand) (ts : List Qual) (event : Event) (new : Machine) where
   refused_where : (callable agrees : Bool) (n : ℕ) (f : Function) (c : Clause) (rows : List Row) (s : Store) →
       run rows (require callable InvalidPointer >> (require agrees IncompatibleCall >> Give n)) s ≡ act_of (Err c) [] s →
-      RunsWhere old os event new (Err (fault.Raise c)) callable agrees n f
+      RunsWhere old os ts event new (Err (fault.Raise c)) callable agrees n f
   refused_where false agrees n f c rows s is = cc
   refused_where true false n f c rows s is = cc
   refused_where true true n f c rows s is = absurd (cc)
 
   -- what the checks raise is raised
   pub refused : (agree : CType → CType → Bool) (ty : CType) (found : Option (ℕ × Function)) (c : Clause) (rows : List Row) (s : Store) →
-      run rows (checked_call agree ty found) s ≡ act_of (Err c) [] s → CallsFound old os event new (Err (fault.Raise c)) agree (Some ty) found
+      run rows (checked_call agree ty found) s ≡ act_of (Err c) [] s → CallsFound old os ts event new (Err (fault.Raise c)) agree (Some ty) found
   refused agree ty None c rows s is = cc
   refused agree ty (Some f) c rows s is = refused_where (is_some f.1.body || is_some f.1.library) (agree f.1.ty ty) f.0 f.1 c rows s is
 
   module _ (result : Result Outcome Fault) where
     runs_where : (callable agrees : Bool) (k n : ℕ) (f : Function) (rows : List Row) (s : Store) →
         run rows (require callable InvalidPointer >> (require agrees IncompatibleCall >> Give k)) s ≡ act_of (Ok n) [] s →
-        (k ≡ n → Runs old os event new result k f.library) → RunsWhere old os event new result callable agrees k f
+        (k ≡ n → Runs old os ts event new result k f.library) → RunsWhere old os ts event new result callable agrees k f
     runs_where false agrees k n f rows s is runs = absurd (cc)
     runs_where true false k n f rows s is runs = absurd (cc)
     runs_where true true k n f rows s is runs = runs (cc)
@@ -165,31 +168,31 @@ module _ (old : Machine) (os : List Operand) (event : Event) (new : Machine) whe
     -- what they let pass is the function that is found
     pub runs_found : (agree : CType → CType → Bool) (ty : CType) (found : Option (ℕ × Function)) (n : ℕ) (rows : List Row) (s : Store) →
         run rows (checked_call agree ty found) s ≡ act_of (Ok n) [] s →
-        ((f : Function) → found ≡ Some (n, f) → Runs old os event new result n f.library) → CallsFound old os event new result agree (Some ty) found
+        ((f : Function) → found ≡ Some (n, f) → Runs old os ts event new result n f.library) → CallsFound old os ts event new result agree (Some ty) found
     runs_found agree ty None n rows s is runs = absurd (cc)
     runs_found agree ty (Some f) n rows s is runs =
         runs_where (is_some f.1.body || is_some f.1.library) (agree f.1.ty ty) f.0 n f.1 rows s is
-        (λ same. subst (λ (k : ℕ). Runs old os event new result k f.1.library) (sym same) (runs f.1 (ap (λ (k : ℕ). Some (k, f.1)) same)))
+        (λ same. subst (λ (k : ℕ). Runs old os ts event new result k f.1.library) (sym same) (runs f.1 (ap (λ (k : ℕ). Some (k, f.1)) same)))
 
-    pub runs_by : (n : ℕ) (held given : Option LibFunc) → held ≡ given → Runs old os event new result n held → Runs old os event new result n given
-    runs_by n held given same runs = subst (Runs old os event new result n) same runs
+    pub runs_by : (n : ℕ) (held given : Option LibFunc) → held ≡ given → Runs old os ts event new result n held → Runs old os ts event new result n given
+    runs_by n held given same runs = subst (Runs old os ts event new result n) same runs
 
 -- ---- by the code of the call
 -- where it goes by no type
-pub no_type : (old : Machine) (os : List Operand) (event : Event) (new : Machine) (agree : CType → CType → Bool) (o : Option (Bor FuncTy))
+pub no_type : (old : Machine) (os : List Operand) (ts : List Qual) (event : Event) (new : Machine) (agree : CType → CType → Bool) (o : Option (Bor FuncTy))
     (found : Option (ℕ × Function)) → ((ty : Bor FuncTy) → o ≡ Some ty → ⊥) →
-    CallsFound old os event new (Err (fault.Raise InvalidPointer)) agree (type_of_call o) found
-no_type old os event new agree None found none = refl
-no_type old os event new agree (Some ty) found none = absurd (none ty refl)
+    CallsFound old os ts event new (Err (fault.Raise InvalidPointer)) agree (type_of_call o) found
+no_type old os ts event new agree None found none = refl
+no_type old os ts event new agree (Some ty) found none = absurd (none ty refl)
 
 -- by its type and the address that its designator gives
-pub by_type : (old : Machine) (os : List Operand) (event : Event) (new : Machine) (result : Result Outcome Fault) (agree : CType → CType → Bool)
+pub by_type : (old : Machine) (os : List Operand) (ts : List Qual) (event : Event) (new : Machine) (result : Result Outcome Fault) (agree : CType → CType → Bool)
     (o : Option (Bor FuncTy)) (ty : Bor FuncTy) (fs : List Function) (a b : ℕ) → o ≡ Some ty → a ≡ b →
-    CallsFound old os event new result agree (Some (type_by (signature_of ty.now))) (function_of fs 0 a) →
-    CallsFound old os event new result agree (type_of_call o) (function_of fs 0 b)
-by_type old os event new result agree o ty fs a b is at calls =
-    subst (λ (z : Option (Bor FuncTy)). CallsFound old os event new result agree (type_of_call z) (function_of fs 0 b)) (sym is)
-    (subst (λ (n : ℕ). CallsFound old os event new result agree (Some (type_by (signature_of ty.now))) (function_of fs 0 n)) at calls)
+    CallsFound old os ts event new result agree (Some (type_by (signature_of ty.now))) (function_of fs 0 a) →
+    CallsFound old os ts event new result agree (type_of_call o) (function_of fs 0 b)
+by_type old os ts event new result agree o ty fs a b is at calls =
+    subst (λ (z : Option (Bor FuncTy)). CallsFound old os ts event new result agree (type_of_call z) (function_of fs 0 b)) (sym is)
+    (subst (λ (n : ℕ). CallsFound old os ts event new result agree (Some (type_by (signature_of ty.now))) (function_of fs 0 n)) at calls)
 
 pub same_call : (x y : CallCode) → Some x ≡ Some y → x ≡ y
 same_call x y e = cc

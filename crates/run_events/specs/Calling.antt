@@ -6,6 +6,7 @@ use Rattle.ub_base.specs.declared.clause.Clause.TheVariants.{IncompatibleCall, I
 use Rattle.ub_base.specs.declared.names.Event.{Event}
 use Rattle.c_types.specs.declared.library.LibFunc.{LibFunc}
 use Rattle.c_types.specs.declared.ty.FuncTy.{FuncTy}
+use Rattle.c_types.specs.declared.ty.Qual.{Qual}
 use Rattle.c_types.specs.Types.{CType, signature_of}
 use Rattle.c_typed.specs.declared.program.Function.{Function as Typed}
 use Rattle.prov_memory.specs.declared.value.Value.{Value as Kept_value}
@@ -21,6 +22,7 @@ use Rattle.run_state.specs.Operands.{operand_in}
 use Rattle.run_events.specs.declared.acts.Outcome.{Outcome}
 use Rattle.run_events.specs.declared.fault.Fault.{Fault}
 use Rattle.run_events.specs.declared.fault.Fault.TheVariants as fault
+use Rattle.run_events.specs.LibraryCalls.{CallsLibrary}
 use Rattle.run_events.specs.Opens.{OpensFunction}
 
 -- which function of the library a function is, where it is one
@@ -41,12 +43,12 @@ RaisesOnly c (Err (fault.Over cause reached)) = ⊥
 RaisesOnly c (Err fault.Unplaced) = ⊥
 RaisesOnly c (Err fault.NoMemory) = Unit {0}
 
--- The machine before and after the body of a call with these operands as its arguments, and what was answered.
-module _ (old : Machine) (os : List Operand) (event : Event) (new : Machine) (result : Result Outcome Fault) where
-  -- a function that the program defines starts its frame (6.5.2.2p10); of one of the library nothing is said
+-- The machine before and after the body of a call with these operands as its arguments, which have these types, and what was answered.
+module _ (old : Machine) (os : List Operand) (ts : List Qual) (event : Event) (new : Machine) (result : Result Outcome Fault) where
+  -- a function that the program defines starts its frame (6.5.2.2p10); one of the library is called at once
   abbrev pub Runs : ℕ → Option LibFunc → Type 0
   Runs number None = OpensFunction old number os event new result
-  Runs number (Some library) = Unit {0}
+  Runs number (Some library) = CallsLibrary old library os ts event new result
 
   -- a function that is neither defined nor of the library can't be called (6.5.3.2p4), nor one whose type isn't compatible with the call's (6.5.2.2p9)
   abbrev pub RunsWhere : (callable agrees : Bool) → ℕ → Function → Type 0
@@ -66,7 +68,7 @@ abbrev pub Calls : Machine → CallCode → Event → Machine → Result Outcome
 Calls old call event new result =
     (fs : List Function) (agree : CType → CType → Bool) (h : Kept_value) → length old.program.now.functions ≤ 2 ^ 32
     → AreFunctions old.program.now.functions fs → AgreesAsCompatible agree → operand_in old call.designator ≡ Some h
-    → CallsFound old call.arguments.items event new result agree (type_of_call call.ty) (function_of fs 0 (function_in (value_in old.memory h)))
+    → CallsFound old call.arguments.items call.types event new result agree (type_of_call call.ty) (function_of fs 0 (function_in (value_in old.memory h)))
 
 -- .. of the call of this number in the code
 abbrev pub CallsNumbered : ℕ → Machine → Event → Machine → Result Outcome Fault → Type 0

@@ -7,4 +7,5 @@ pub mod Takes
 pub mod Choices
 pub mod Ways
 pub mod Opens
+pub mod LibraryCalls
 pub mod Calling

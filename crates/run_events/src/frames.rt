@@ -7,6 +7,7 @@ ghost use Rattle.run_acts.specs.Views.{value_in};
 ghost use Rattle.run_state.specs.Operands.{operand_in};
 ghost use Rattle.run_events.specs.Calling.{library_in, Calls};
 ghost use Rattle.run_events.specs.Depth.{StartsWithin};
+ghost use Rattle.run_events.specs.LibraryCalls.{types_seen, AreArguments, CallsLibrary, CanCall, IsAnswered, TakesAnswer, TouchesStreams};
 ghost use Rattle.run_events.specs.Opens.{started_on, IsOnTop, OpensFrame, OpensFunction, OpensInitializer, Passes};
 
 use crate::acts::{Outcome, in_room};
@@ -63,7 +64,10 @@ fn library_of(program: &Program, number: u32) -> Option<LibFunc>
     }
 }
 
-fn arguments_of(machine: &Machine, call: &CallCode) -> Result<Values, NoMemory> {
+// The values of a call's arguments.
+fn arguments_of(machine: &Machine, call: &CallCode) -> Result<Values, NoMemory>
+    ensures { IfOk result (AreArguments machine.now call.now.arguments.items) }
+{
     let mut arguments = Items::new(machine.alloc);
     for operand in call.arguments.as_slice() {
         arguments.push(machine.value(*operand)?)?;
@@ -76,19 +80,25 @@ fn call_library(
     library: LibFunc,
     call: &CallCode,
     event: Event,
-) -> Result<Outcome, Fault> {
+) -> Result<Outcome, Fault>
+    ensures library { CallsLibrary machine.old library call.now.arguments.items call.now.types event machine.new result }
+{
     let arguments = arguments_of(machine, call)?;
     let answer = answer_of(machine, library, call, &arguments, event);
     take_answer(machine, answer, event)
 }
 
+// What the library answers.
 fn answer_of(
     machine: &mut Machine,
     library: LibFunc,
     call: &CallCode,
     arguments: &Values,
     event: Event,
-) -> LibAnswer {
+) -> LibAnswer
+    ensures rest { TouchesStreams machine.old machine.new }
+    ensures exact { CanCall machine.old library arguments.now → IsAnswered machine.old machine.new library event (types_seen call.now.types) arguments.now result }
+{
     let alloc = machine.alloc;
     let types = call.types.as_slice();
     let t = &mut machine.items;
@@ -103,7 +113,9 @@ fn answer_of(
 }
 
 // What the library has answered: a value goes to the room of the call.
-fn take_answer(machine: &mut Machine, answer: LibAnswer, event: Event) -> Result<Outcome, Fault> {
+fn take_answer(machine: &mut Machine, answer: LibAnswer, event: Event) -> Result<Outcome, Fault>
+    ensures { TakesAnswer machine.old answer event.node machine.new result }
+{
     match answer {
         LibAnswer::Value(value) => {
             machine.keep(event.node, value);

@@ -141,10 +141,10 @@ are_viewed : (tags : List Tag) (fs : List Typed) → AreInBlocks fs → AreFunct
 are_viewed tags [] blocks = tt
 are_viewed tags (f ∷ fs) blocks = (record { ty = refl; body = has_body tags f.body blocks.0; library = refl }, are_viewed tags fs blocks.1)
 
-are_of_world : (world : World) (p : Program) → StandsProgram world p → AreInBlocks p.functions → AreFunctions p.functions world.program.functions
+pub are_of_world : (world : World) (p : Program) → StandsProgram world p → AreInBlocks p.functions → AreFunctions p.functions world.program.functions
 are_of_world world p stands blocks = subst (λ (fs : List Function). AreFunctions p.functions fs) (sym stands.functions) (are_viewed p.tags p.functions blocks)
 
-agree_so : (world : World) (p : Program) → StandsProgram world p → AgreesAsCompatible world.agree
+pub agree_so : (world : World) (p : Program) → StandsProgram world p → AgreesAsCompatible world.agree
 agree_so world p stands = subst (λ (k : CType → CType → Bool). AgreesAsCompatible k) (sym stands.agree) (λ f g. refl)
 
 -- ---- the function that is found
@@ -190,7 +190,7 @@ is_defined f None (Some l) is none callable = absurd (cc)
 some_same : {A : Type 0} (x y : A) → Some x ≡ Some y → x ≡ y
 some_same x y e = cc
 
-if_true : {A : Type 0} (b : Bool) (x y : A) → b ≡ true → (if b then x else y) ≡ x
+pub if_true : {A : Type 0} (b : Bool) (x y : A) → b ≡ true → (if b then x else y) ≡ x
 if_true true x y is = refl
 if_true false x y is = absurd (cc)
 
@@ -228,7 +228,7 @@ module _ (trees : TreesAreKept) (starts : StandsAtStart) (d : Due) (now start do
 
     -- the function that the definitions call
     abbrev Found : Option CType → Option (ℕ × Function) → Type 0
-    Found through found = CallsFound past passed who done q world.agree through found
+    Found through found = CallsFound past passed call.code.types who done q world.agree through found
 
     functions_so : AreFunctions past.program.now.functions world.program.functions
     functions_so =
@@ -314,7 +314,7 @@ module _ (trees : TreesAreKept) (starts : StandsAtStart) (d : Due) (now start do
       library_none = ap library_of (sym called) ∙ call.own
 
       opening : (is_some found.1.body || is_some found.1.library) ≡ true → world.agree found.1.ty ty ≡ true →
-          Runs past passed who done q found.0 found.1.library → Opening
+          Runs past passed call.code.types who done q found.0 found.1.library → Opening
       opening callable agrees runs =
           let f = is_defined found.1 found.1.body found.1.library refl library_none callable in
           record {
@@ -337,7 +337,7 @@ module _ (trees : TreesAreKept) (starts : StandsAtStart) (d : Due) (now start do
               defines = f.is;
               passes = refl;
             };
-            opens = subst (λ (l : Option LibFunc). Runs past passed who done q found.0 l) library_none runs;
+            opens = subst (λ (l : Option LibFunc). Runs past passed call.code.types who done q found.0 l) library_none runs;
           }
         where
           body_in : Option Function → Option Stmt
@@ -346,7 +346,7 @@ module _ (trees : TreesAreKept) (starts : StandsAtStart) (d : Due) (now start do
 
       -- by what is checked of it
       by_checks : (callable : Bool) → (is_some found.1.body || is_some found.1.library) ≡ callable → (agrees : Bool) → world.agree found.1.ty ty ≡ agrees →
-          RunsWhere past passed who done q callable agrees found.0 found.1 → Raising ⊎ Opening
+          RunsWhere past passed call.code.types who done q callable agrees found.0 found.1 → Raising ⊎ Opening
       by_checks false callable_is agrees agrees_is only =
           inl (raising (Some ty) typed InvalidPointer (call_raises ty (Some found) InvalidPointer called (none_raises callable_is)) only)
       by_checks true callable_is false agrees_is only =

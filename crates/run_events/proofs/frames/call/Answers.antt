@@ -12,7 +12,7 @@ use Rattle.run_events.proofs.frames.call.Goals as goal
 pub returns-in_default : goal.returns-in_default
 returns-in_default c = record {
   calls = λ fs agree h few are agrees given.
-      no_type c.args.machine.now c.args.call.now.arguments.items c.args.event c.args.machine.now agree c.args.call.now.ty _ c.in_default.not-Some;
+      no_type c.args.machine.now c.args.call.now.arguments.items c.args.call.now.types c.args.event c.args.machine.now agree c.args.call.now.ty _ c.in_default.not-Some;
 }
 
 pub returns-in_err-address : goal.returns-in_err-address
@@ -20,7 +20,7 @@ returns-in_err-address c =
     let p = err_from_is_err_and c.from_residual.result c.from_residual.ensures.1 in
     rw (p.1, p.2) (record {
       calls = λ fs agree h few are agrees given.
-          wanted c.args.machine.now c.args.call.now.arguments.items c.args.event c.args.machine.now agree (type_of_call c.args.call.now.ty) _;
+          wanted c.args.machine.now c.args.call.now.arguments.items c.args.call.now.types c.args.event agree (type_of_call c.args.call.now.ty) _;
     })
 
 pub returns-in_err-number : goal.returns-in_err-number
@@ -30,10 +30,10 @@ returns-in_err-number c =
       calls = λ fs agree h few are agrees given.
           let m = c.args.machine.now in
           let ty = c.in-Some.ty in
-          by_type m c.args.call.now.arguments.items c.args.event m (Err (fault.Raise c.in_err-number.field-0.0)) agree c.args.call.now.ty ty fs
+          by_type m c.args.call.now.arguments.items c.args.call.now.types c.args.event m (Err (fault.Raise c.in_err-number.field-0.0)) agree c.args.call.now.ty ty fs
           c.in_ok-address.address _ c.in-Some.is
           (c.in_ok-address.ensures h given m.memory)
-          (refused m c.args.call.now.arguments.items c.args.event m agree (type_by (signature_of ty.now)) (function_of fs 0 c.in_ok-address.address)
+          (refused m c.args.call.now.arguments.items c.args.call.now.types c.args.event m agree (type_by (signature_of ty.now)) (function_of fs 0 c.in_ok-address.address)
           c.in_err-number.field-0.0 m.memory.rows (store_in m) (c.in_err-number.ensures few fs are agree agrees m.memory.rows (store_in m)));
     })
 
@@ -43,13 +43,13 @@ returns-in-Some-library_of c = record {
       let m = c.args.machine.now in
       let ty = c.in-Some.ty in
       let n = c.in_ok-number.number in
-      by_type m c.args.call.now.arguments.items c.args.event c.call_library.new.machine c.call_library.result agree c.args.call.now.ty ty fs
+      by_type m c.args.call.now.arguments.items c.args.call.now.types c.args.event c.call_library.new.machine c.call_library.result agree c.args.call.now.ty ty fs
       c.in_ok-address.address _ c.in-Some.is (c.in_ok-address.ensures h given m.memory)
-      (runs_found m c.args.call.now.arguments.items c.args.event c.call_library.new.machine c.call_library.result agree (type_by (signature_of ty.now))
+      (runs_found m c.args.call.now.arguments.items c.args.call.now.types c.args.event c.call_library.new.machine c.call_library.result agree (type_by (signature_of ty.now))
       (function_of fs 0 c.in_ok-address.address) n m.memory.rows (store_in m) (c.in_ok-number.ensures few fs are agree agrees m.memory.rows (store_in m))
-      (λ f found. runs_by m c.args.call.now.arguments.items c.args.event c.call_library.new.machine c.call_library.result n
+      (λ f found. runs_by m c.args.call.now.arguments.items c.args.call.now.types c.args.event c.call_library.new.machine c.call_library.result n
       (Some c.in-Some-library_of.library) f.library
-      (c.in-Some-library_of.ensures ∙ library_is m.program.now.functions fs c.in_ok-address.address n f are found) tt));
+      (c.in-Some-library_of.ensures ∙ library_is m.program.now.functions fs c.in_ok-address.address n f are found) c.call_library.ensures.library));
 }
 
 pub returns-in-None : goal.returns-in-None
@@ -58,10 +58,10 @@ returns-in-None c = record {
       let m = c.args.machine.now in
       let ty = c.in-Some.ty in
       let n = c.in_ok-number.number in
-      by_type m c.args.call.now.arguments.items c.args.event c.start_function.new.machine c.start_function.result agree c.args.call.now.ty ty fs
+      by_type m c.args.call.now.arguments.items c.args.call.now.types c.args.event c.start_function.new.machine c.start_function.result agree c.args.call.now.ty ty fs
       c.in_ok-address.address _ c.in-Some.is (c.in_ok-address.ensures h given m.memory)
-      (runs_found m c.args.call.now.arguments.items c.args.event c.start_function.new.machine c.start_function.result agree (type_by (signature_of ty.now))
+      (runs_found m c.args.call.now.arguments.items c.args.call.now.types c.args.event c.start_function.new.machine c.start_function.result agree (type_by (signature_of ty.now))
       (function_of fs 0 c.in_ok-address.address) n m.memory.rows (store_in m) (c.in_ok-number.ensures few fs are agree agrees m.memory.rows (store_in m))
-      (λ f found. runs_by m c.args.call.now.arguments.items c.args.event c.start_function.new.machine c.start_function.result n None f.library
+      (λ f found. runs_by m c.args.call.now.arguments.items c.args.call.now.types c.args.event c.start_function.new.machine c.start_function.result n None f.library
       (c.in-None.ensures ∙ library_is m.program.now.functions fs c.in_ok-address.address n f are found) c.start_function.ensures.opens));
 }
