@@ -1,5 +1,6 @@
 -- Which structures and unions have a const member, as further tags are declared and completed.
-use Rattle.std.proofs.Common.{◌≡◌, ◌≢◌, ℕ, zero, suc, ◌+◌, ◌≤◌, Bool, true, false, List, [], ◌∷◌, ◌++◌, length, map, refl, sym, ap, ◌∙◌, subst, true≢false, arith}
+use Rattle.std.proofs.Common.{◌≡◌, ◌≢◌, ℕ, zero, suc, ◌+◌, ◌≤◌, Bool, true, false, List}
+use Rattle.std.proofs.Common.{[], ◌∷◌, ◌++◌, length, map, refl, sym, ap, ◌∙◌, subst, true≢false, arith}
 use Rattle.std.specs.Prelude.{◌||◌, is_some, slice_get, Option, Some, None, Result, Ok, Err, OnOk}
 use Rattle.std.proofs.lemmas.Option.{none-some, same_Some}
 use Rattle.c_lex.specs.TokenText.{TokenText}

@@ -73,7 +73,8 @@ returns-clause-named c at is text has =
     c.if-not-branch.false c.in_ok-add_name.ensures.symbols c.in_ok-add_name.ensures.held (adds_none c.args.list))
     c.add.ensures.rest
     (one_more c.args.list.members c.add.new.self.members (record { name = c.in_ok-name.name; qual = c.args.member.qual }) m
-    (c.in_ok-add.ensures.ok ∙ ap (λ ms. ms ++ record { name = c.in_ok-name.name; qual = c.args.member.qual } ∷ []) (ap (λ (l : MemberList). l.members) c.add_name.ensures.rest))
+    (c.in_ok-add.ensures.ok ∙ ap (λ ms. ms ++ record { name = c.in_ok-name.name; qual = c.args.member.qual } ∷ [])
+    (ap (λ (l : MemberList). l.members) c.add_name.ensures.rest))
     (λ i. record { name = (c.in_ok-name.ensures ∙ c.spelling.ensures) i; qual = q }))
     (brings_name c.args.source.now tags c.in-Some.name c.symbol.result q
     (λ none. text (ap (text_at c.args.source.now) (sym e) ∙ none)) c.symbol.ensures)
