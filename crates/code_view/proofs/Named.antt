@@ -304,7 +304,7 @@ pub open_root_named : OpenRootIsNamed
 open_root_named m firsts open_blocks n laid lawful order at is quiet =
     let t = laid.root.now in
     let p = m.program.now in
-    let h = each_laid p (IsLawfulTree p) (own_lawful p) (λ g e l. (e.blocks, l.nodes)) m.code.now n laid lawful order at in
+    let h = trees_lawful p m.code.now n laid lawful order at in
     let fine =
     both_give (SiteIsLawful p h.0) (λ y. NamedIsOpen m firsts open_blocks y.head) (Fine h.0 m firsts open_blocks) (λ y l o. (l, o)) (sites t) h.1 is in
     (names h.0 m firsts open_blocks t fine).0 quiet
