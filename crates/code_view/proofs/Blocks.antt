@@ -39,7 +39,7 @@ use Rattle.c_typed.specs.declared.statement.Block.{Block}
 use Rattle.c_typed.specs.declared.statement.Body.{Body}
 use Rattle.c_typed.specs.declared.tree.Typed.{Typed}
 use Rattle.c_types.specs.declared.ty.FuncTy.{out-FuncTy}
-use Rattle.elaborate.specs.Expressions.{block_trees}
+use Rattle.elaborate.specs.Expressions.{block_trees, own_trees}
 use Rattle.c_typed.specs.declared.statement.Body.TheFolds as typed
 use Rattle.c_typed.specs.declared.statement.Body.TheVariants as body
 use Rattle.c_typed.specs.Sites.{BlockRow, summary}
@@ -56,7 +56,10 @@ use Rattle.run_code.specs.declared.steps.Range.{Range}
 use Rattle.run_code.specs.declared.tables.Tables.{Tables}
 use Rattle.run_code.specs.Blocks.{AreBlocksFrom, AreObjectsFrom, IsBlockAt, IsBlockOf, IsObjectAt, IsObjectOf}
 use Rattle.run_code.specs.Blocks.{access_by, counted_by, firsts_from, objects_in, pointer_access, rows_of, rows_of_block}
-use Rattle.run_code.specs.Functions.{AreLaidFrom, HasBlocks, IsLaidAt, laid_in}
+use Rattle.run_code.specs.Functions.{HasBlocks, laid_in}
+use Rattle.run_code.specs.Initializers.{HaveNumbers}
+use Rattle.run_code.proofs.Followed.{initializers_numbered, initializers_within}
+use Rattle.run_code.proofs.InTurn.{expression_at}
 use Rattle.run_code.specs.InRange.{IsBlock, part_of}
 use Rattle.code_view.specs.Blocks.{BlocksStandInCode, ExpressionsStandInCode, OpenBlocksAreThere}
 use Rattle.code_view.specs.Blocks.{HasBlockAt, Made, StandsBlock, StandsObject, made_by, made_of, taken_at}
@@ -318,25 +321,19 @@ blocks_there m c firsts parameters ds k d open_blocks same has less is = (
 )
 
 -- ---- full expressions
-expression_at : (firsts : List ℕ) (tables : Tables) (laid : Laid) (at k : ℕ) (ts : List Typed) (t : Typed) → AreLaidFrom firsts tables laid at ts →
-    slice_get ts k ≡ Some t → IsLaidAt firsts tables laid (at + k) t
-expression_at firsts tables laid at zero [] t h e = absurd (cc)
-expression_at firsts tables laid at (suc k) [] t h e = absurd (cc)
-expression_at firsts tables laid at zero (x ∷ ts) t h e =
-    let is : x ≡ t = same_some (Some x) x t refl e in
-    let same : at ≡ at + 0 = omega arith in
-    subst (IsLaidAt firsts tables laid (at + 0)) is (subst (λ n. IsLaidAt firsts tables laid n x) same h.0)
-expression_at firsts tables laid at (suc k) (x ∷ ts) t h e =
-    let same : suc at + k ≡ at + suc k = omega arith in
-    subst (λ n. IsLaidAt firsts tables laid n t) same (expression_at firsts tables laid (suc at) k ts t h.1 e)
-
 pub expressions_stand : ExpressionsStandInCode
 expressions_stand p code have n f b c at is there k t found =
     let firsts = firsts_from 0 (rows_of_block b) in
-    let it = expression_at firsts code.tables (laid_in code) c.expressions.first k (block_trees b) t (have n f b c at is there).each found in record {
+    let has = have n f b c at is there in
+    let it = expression_at firsts code.tables (laid_in code) c.expressions.first k (block_trees b) t has.each found in
+    let numbers : HaveNumbers (suc (c.expressions.first + k)) (own_trees t) it.3.0 =
+    subst (λ (u : Typed). HaveNumbers (suc (c.expressions.first + k)) (own_trees u) it.3.0) it.2 it.3.2 in
+    record {
       laid = it.0;
       at = it.1;
       root = it.2;
       nodes = it.3.0;
       lays = it.3.1;
+      initializers = initializers_numbered b code c.expressions k t it.3.0 has found numbers;
+      within = initializers_within b code c.expressions k t it.3.0 has found numbers;
     }

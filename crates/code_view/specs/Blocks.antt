@@ -21,6 +21,7 @@ use Rattle.run_code.specs.declared.tables.Tables.{Tables}
 use Rattle.run_code.specs.declared.whole.Code.{Code}
 use Rattle.run_code.specs.Blocks.{firsts_from, rows_of_block}
 use Rattle.run_code.specs.Functions.{HaveBlocks, HaveExpressions, laid_in}
+use Rattle.run_code.specs.Initializers.{NumberInitializers, NumberWithin}
 use Rattle.run_code.specs.InRange.{part_of}
 use Rattle.run_code.specs.LaidOut.{LaidOutBy}
 use Rattle.run_code.specs.Roots.{block_in}
@@ -95,13 +96,16 @@ OpenBlocksAreThere = (m : Machine) (c : FunctionCode) (firsts : List ℕ) (param
 
 -- 3. Full expressions.
 
--- the full expression of this number in a function is that of this tree, laid out where the objects of the blocks have numbers from these on
+-- The full expression of this number in a function is that of this tree, laid out where the objects of the blocks have numbers from these on. Each isolated
+-- initializer in it has the number of the full expression of its own tree, which is one of the function's (6.7.9p23).
 pub record HasExpressionAt (code : Code) (c : FunctionCode) (firsts : List ℕ) (t : Typed) (k : ℕ) : Type 0 where
   pub laid : Laid
   pub at : slice_get code.expressions.items (c.expressions.first + k) ≡ Some laid
   pub root : laid.root.now ≡ t
   pub nodes : List NodeInfo
   pub lays : LaidOutBy firsts nodes code.tables code.listing.items laid
+  pub initializers : NumberInitializers code nodes
+  pub within : NumberWithin c.expressions nodes
 
 -- so it is with each full expression of a function
 abbrev pub ExpressionsStandInCode : Type 0

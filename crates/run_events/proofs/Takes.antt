@@ -51,7 +51,7 @@ use Rattle.run_state.specs.declared.machine.Machine.{Machine}
 use Rattle.run_state.specs.Operands.{Gives, IsNamed, IsThere, QuietGives, RoomGives, StandsObjects}
 use Rattle.run_state.specs.Stands.{IsUpdate, StandsValues}
 use Rattle.run_events.specs.Nodes.{head_of, Evaluates, OwnIsGiven, TakesGiven}
-use Rattle.run_events.specs.Takes.{ListIsThere, PermittedTakesGiven}
+use Rattle.run_events.specs.Takes.{CallTakesGiven, ListIsThere, PermittedTakesGiven}
 use Rattle.run_events.proofs.Before.{is_call, is_operand, node_among_in, node_in as stands_in, operand_before, own_before}
 use Rattle.run_events.proofs.Nodes.{head_is, node_is}
 
@@ -218,11 +218,8 @@ module _ (taken : Taken) where
 
 -- ---- what is done before an event that may come next
 module _ (taken : Taken) (done : Place → Bool) (root : Expr) (u : Place) (permitted : IsPermitted (tree_of root) taken done u)
-    (no_body : is_body u.kind ≡ false)
-    (h : Head) (ty : CType) (line : ℕ) (ts : List Typed) (there : at_node 0 root u.node ≡ Some (expr h ty line (exprs_of ts))) where
-  body_no_call : u.kind ≡ Body → is_call (head_class h (trees_of (exprs_of ts))) ≡ true
-  body_no_call e = absurd (let b : is_body u.kind ≡ true = ap is_body e in cc)
-
+    (h : Head) (ty : CType) (line : ℕ) (ts : List Typed) (there : at_node 0 root u.node ≡ Some (expr h ty line (exprs_of ts)))
+    (calls : u.kind ≡ Body → is_call (head_class h (trees_of (exprs_of ts))) ≡ true) where
   u_due : due_in taken 0 (tree_of root) u ≡ true
   u_due = sym (has_due taken (tree_of root) 0 u) ∙ permitted.ready.due
 
@@ -244,7 +241,7 @@ module _ (taken : Taken) (done : Place → Bool) (root : Expr) (u : Place) (perm
       due_outside taken (place c Val) u.kind root 0 n g' there (omega (arith, a)) (omega (arith, b, s)) u_due below in
       permitted.ready.earlier (place c Val)
       (found_before (tree_of root) taken (place c Val) u (has_due taken (tree_of root) 0 (place c Val) ∙ due) permitted.ready.due
-      (operand_before taken n c u.kind h ty line (exprs_of ts) (ith_operand ts (suc n) i c t is q) body_no_call root 0 there))
+      (operand_before taken n c u.kind h ty line (exprs_of ts) (ith_operand ts (suc n) i c t is q) calls root 0 there))
 
   -- the earlier event of its node
   own_done : (k : Kind) → own_rule (head_class h (trees_of (exprs_of ts))) k u.kind ≡ true
@@ -368,11 +365,12 @@ none_of (Some a) h = absurd (cc)
 
 module _ (world : World) (m : Machine) (f : Scene) (e : Begun) (firsts : List ℕ) (first end : ℕ) (u : Place) (stands : StandsObjects world m f)
     (held : StandsValues world m m.top.base first end f e)
-    (permitted : IsPermitted (tree_of e.root) (taken_by world f e) (is_done e) u) (plain : is_body u.kind ≡ false)
+    (permitted : IsPermitted (tree_of e.root) (taken_by world f e) (is_done e) u)
     (d : Node-F Node Typed) (ty : CType) (line : ℕ) (ts : List Typed)
     (there : at_node 0 e.root u.node ≡ Some (expr (head_in d ty) ty line (exprs_of ts)))
     (counts : CountIs (sites.head_of d) (length ts))
-    (named : All (λ o. is_quiet (tree_of (expr_of o)) ≡ true → IsNamed m firsts f.blocks (expr_of o)) ts) where
+    (named : All (λ o. is_quiet (tree_of (expr_of o)) ≡ true → IsNamed m firsts f.blocks (expr_of o)) ts)
+    (calls : u.kind ≡ Body → is_call (head_class (head_in d ty) (trees_of (exprs_of ts))) ≡ true) where
   abbrev n : ℕ
   n = u.node
 
@@ -384,7 +382,7 @@ module _ (world : World) (m : Machine) (f : Scene) (e : Begun) (firsts : List �
 
   done_there : (i c : ℕ) (t : Typed) → IsIth ts (suc n) i c t → is_quiet (tree_of (expr_of t)) ≡ false
       → goes (head_class (head_in d ty) (trees_of (exprs_of ts))) (taken_by world f e n) i ≡ true → is_some (e.given (place c Val)) ≡ true
-  done_there i c t is q g = operand_done (taken_by world f e) (is_done e) e.root u permitted plain (head_in d ty) ty line ts there i c t is q g
+  done_there i c t is q g = operand_done (taken_by world f e) (is_done e) e.root u permitted (head_in d ty) ty line ts there calls i c t is q g
 
   first_there : (ws : List Typed) → ((t : Typed) → is_quiet (tree_of (expr_of t)) ≡ false → IsIth ws (suc n) 0 (suc n) t
       → is_some (e.given (place (suc n) Val)) ≡ true) → 0 < length ws → first_known e.given (suc n) (exprs_of ws) ≡ true
@@ -423,7 +421,11 @@ module _ (world : World) (m : Machine) (f : Scene) (e : Begun) (firsts : List �
 
   own_there : (k : Kind) → own_rule (head_class (head_in d ty) (trees_of (exprs_of ts))) k u.kind ≡ true
       → has_kind (kinds_of (head_class (head_in d ty) (trees_of (exprs_of ts)))) k ≡ true → is_some (e.given (place n k)) ≡ true
-  own_there k rule has = own_done (taken_by world f e) (is_done e) e.root u permitted plain (head_in d ty) ty line ts there k rule has
+  own_there k rule has = own_done (taken_by world f e) (is_done e) e.root u permitted (head_in d ty) ty line ts there calls k rule has
+
+-- an event that isn't a body
+no_calls : (k : Kind) (b : Bool) → is_body k ≡ false → k ≡ Body → b ≡ true
+no_calls k b plain e = absurd (let body : is_body k ≡ true = ap is_body e in cc)
 
 -- an object that is named
 object_is : (s : Slot) → expr_of (build.object s build.int_ty) ≡ expr (model.Obj s) (type_of (build.pointer_ty build.int_ty)) 1 none
@@ -477,13 +479,15 @@ module _ (quiet_gives : QuietGives) (world : World) (m : Machine) (f : Scene) (e
       let same : due.place ≡ place n Val = ap (place n) is in
       let left : e.given (place n Val) ≡ None = none_of _ (ap (λ (v : Place). is_some (e.given v)) (sym same) ∙ permitted.ready.left) in
       let body = some_of (e.given (place n Body))
-      (own_there world m f e firsts first end due.place stands held permitted plain (shape.Call discarded) ty line ts there counts named Body
+      (own_there world m f e firsts first end due.place stands held permitted (shape.Call discarded) ty line ts there counts named
+      (no_calls due.place.kind _ plain) Body
       (ap (own_rule class.Call Body) is) refl) in
       subst (λ (w : Value). Gives m (operand.Done n) w) (sym (ap or_nothing body.1)) (held.body n body.0 left body.1)
   own_gives (shape.Update c old) ty line ts own room initializer Eff is there counts named list act =
       let n = due.place.node in
       let val = some_of (e.given (place n Val))
-      (own_there world m f e firsts first end due.place stands held permitted plain (shape.Update c old) ty line ts there counts named Val
+      (own_there world m f e firsts first end due.place stands held permitted (shape.Update c old) ty line ts there counts named
+      (no_calls due.place.kind _ plain) Val
       (ap (own_rule class.Update Val) is) refl) in
       subst (λ (w : Value). Gives m (operand.Done room) (nodes.new_value c old w (nodes.amount old (values_of world f e.given (suc n) (exprs_of ts)))))
       (sym (ap or_nothing val.1))
@@ -525,8 +529,8 @@ permitted_takes_given quiet_gives room_gives world m f e firsts root noted d x f
     let vs = values_of world f e.given (suc u.node) (exprs_of ts) in
     record {
       counts = fits.counts;
-      operands = λ j lt ev. operand_gives world m f e firsts first end u stands held permitted plain (node_in t) ty line ts here counts fits.operands
-          quiet_gives room_gives j lt
+      operands = λ j lt ev. operand_gives world m f e firsts first end u stands held permitted (node_in t) ty line ts here counts fits.operands
+          (no_calls u.kind _ plain) quiet_gives room_gives j lt
           (subst (λ (h : Head). Evaluates h vs j) head ev);
       near = near;
       own = subst (λ (h : Head). OwnIsGiven world m f firsts u.node s.room h u.kind vs (or_nothing (e.given (place u.node (own_kind u.kind))))) (sym head)
@@ -535,3 +539,25 @@ permitted_takes_given quiet_gives room_gives world m f e firsts root noted d x f
           refl here counts fits.operands (subst (λ (h : Head). ListIsThere m firsts f.blocks h) head fits.list)
           (subst (λ (h : sites.Head). IsAct firsts m.code.now.tables x.initializer h s u.kind d.act) (head_is t) due.does));
     }
+
+-- ---- the operands of the body of a call
+call_class : (h : Head) (discarded : Bool) (ts : Trees) → h ≡ model.Call discarded → is_call (head_class h ts) ≡ true
+call_class h discarded ts e = ap (λ (z : Head). is_call (head_class z ts)) e
+
+call_evaluates : (h : Head) (discarded : Bool) (vs : List Value) (i : ℕ) → h ≡ model.Call discarded → Evaluates h vs i
+call_evaluates h discarded vs i e = subst (λ (z : Head). Evaluates z vs i) (sym e) tt
+
+pub call_takes_given : QuietGives → RoomGives → CallTakesGiven
+call_takes_given quiet_gives room_gives world m f e firsts root noted u x discarded first end stands held whole are there permitted call fits i lt =
+    let t = x.tree.now in
+    let ty = own_type t in
+    let ts = operands_in t in
+    let line = (out-Typed t).line in
+    let here : at_node 0 e.root u.node ≡ Some (expr (head_in (node_in t) ty) ty line (exprs_of ts)) =
+    ap (λ (z : Expr). at_node 0 z u.node) whole ∙ node_is firsts root noted u.node x are there ∙ ap Some (expr_at t) in
+    let head : head_in (node_in t) ty ≡ model.Call discarded = sym (ap head_of (expr_at t)) ∙ call in
+    let counts = subst (λ (h : sites.Head). CountIs h (length ts)) (head_is t) fits.counts in
+    let vs = values_of world f e.given (suc u.node) (exprs_of ts) in
+    operand_gives world m f e firsts first end u stands held permitted (node_in t) ty line ts here counts fits.operands
+    (λ body. call_class (head_in (node_in t) ty) discarded (trees_of (exprs_of ts)) head) quiet_gives room_gives i lt
+    (call_evaluates (head_in (node_in t) ty) discarded vs i head)

@@ -1,12 +1,14 @@
 -- What an event takes that may come next is given, in a machine that stands for what the definitions know (own).
-use Rattle.std.specs.Prelude.{◌≡◌, ℕ, suc, Bool, true, false, List, length, Some, slice_get}
+use Rattle.std.specs.Prelude.{◌≡◌, ◌<◌, ℕ, suc, Bool, true, false, List, length, Some, slice_get}
 use Rattle.std.specs.List.{All}
+use Rattle.c_typed.specs.declared.tree.Place.{Place}
 use Rattle.c_typed.specs.declared.tree.Typed.{Typed, out-Typed}
 use Rattle.c_typed.specs.Lawful.{CountIs}
 use Rattle.c_typed.specs.Order.{IsPermitted, is_body}
 use Rattle.c_typed.specs.Tree.{is_quiet}
-use Rattle.c_model.specs.Program.{Expr, Head, Listed, tree_of}
+use Rattle.c_model.specs.Program.{Call, Expr, Head, Listed, tree_of}
 use Rattle.c_model.specs.Steps.{Scene, Begun, is_done, taken_by, values_of}
+use Rattle.c_model.specs.Values as values
 use Rattle.c_model.specs.World.{World}
 use Rattle.program_view.specs.Trees.{expr_of, exprs_of}
 use Rattle.run_code.specs.declared.nodes.NodeInfo.{NodeInfo}
@@ -14,9 +16,10 @@ use Rattle.run_code.specs.declared.steps.Due.{Due}
 use Rattle.run_code.specs.declared.steps.Listed.TheVariants as listed
 use Rattle.run_code.specs.EventActs.{IsDue, head_at}
 use Rattle.run_code.specs.Numbered.{AreNodes}
+use Rattle.run_code.specs.Resolved.{operands_from, value_at}
 use Rattle.run_listing.specs.Along.{part_of}
 use Rattle.run_state.specs.declared.machine.Machine.{Machine}
-use Rattle.run_state.specs.Operands.{IsNamed, IsThere, StandsObjects}
+use Rattle.run_state.specs.Operands.{Gives, IsNamed, IsThere, StandsObjects}
 use Rattle.run_state.specs.Stands.{StandsValues}
 use Rattle.run_events.specs.Nodes.{head_of, IsNearBy, TakesGiven}
 
@@ -43,3 +46,13 @@ PermittedTakesGiven =
     → NodeStands m firsts f.blocks x.tree.now
     → IsNearBy (head_of (expr_of x.tree.now)) (values_of world f e.given (suc d.place.node) (exprs_of (out-Typed x.tree.now).children))
     → TakesGiven world m f e firsts (length nodes) d.place x
+
+-- So do the operands of a call, whose body is permitted to come next (6.5.2.2p10).
+abbrev pub CallTakesGiven : Type 0
+CallTakesGiven =
+    (world : World) (m : Machine) (f : Scene) (e : Begun) (firsts : List ℕ) (root : Typed) (nodes : List NodeInfo) (u : Place) (x : NodeInfo)
+    (discarded : Bool) (first end : ℕ) → StandsObjects world m f → StandsValues world m m.top.base first end f e → e.root ≡ expr_of root
+    → AreNodes firsts root nodes → slice_get nodes u.node ≡ Some x → IsPermitted (tree_of e.root) (taken_by world f e) (is_done e) u
+    → head_of (expr_of x.tree.now) ≡ Call discarded → NodeStands m firsts f.blocks x.tree.now → (i : ℕ) → i < length (out-Typed x.tree.now).children
+    → Gives m (value_at (operands_from firsts (suc u.node) (out-Typed x.tree.now).children) i)
+    (values.value_at (values_of world f e.given (suc u.node) (exprs_of (out-Typed x.tree.now).children)) i)

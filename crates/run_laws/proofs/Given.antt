@@ -72,7 +72,7 @@ names_aside m stage items firsts bs t all =
     All-weaker (λ s. NamedIsOpen m firsts bs s.head) (λ s. NamedIsOpen (aside m stage items) firsts bs s.head)
     (λ s h. name_aside m stage items firsts bs s.head h) (sites t) all
 
-values_aside : (world : World) (m : Machine) (stage : Option Stage) (items : List Item) (first end : ℕ) (f : Scene) (e : Begun)
+pub values_aside : (world : World) (m : Machine) (stage : Option Stage) (items : List Item) (first end : ℕ) (f : Scene) (e : Begun)
     → StandsValues world m m.top.base first end f e → StandsValues world (aside m stage items) (aside m stage items).top.base first end f e
 values_aside world m stage items first end f e v = record { val = v.val; body = v.body; update = v.update }
 
@@ -171,7 +171,7 @@ module _ (world : World) (meaning : Option ℕ → Meaning) (m : Machine) (st : 
       let end = end_is in
       omega (arith, within, end, m.code.now.listing.ok.0)
 
-  values_are : StandsValues world m m.top.base laid.first laid.end f e
+  pub values_are : StandsValues world m m.top.base laid.first laid.end f e
   values_are = subst (λ (z : Laid). StandsValues world m m.top.base z.first z.end f e) same_laid expression.values
 
   -- an event that is listed of it
@@ -194,7 +194,7 @@ module _ (world : World) (meaning : Option ℕ → Meaning) (m : Machine) (st : 
     abbrev n : Machine
     n = aside m stage items
 
-    objects : StandsObjects world n f
+    pub objects : StandsObjects world n f
     objects = record {
       rows = o.stood.stands.memory.rows;
       addresses = addresses_of world.rows o.ends;
@@ -217,7 +217,7 @@ module _ (world : World) (meaning : Option ℕ → Meaning) (m : Machine) (st : 
           rows = o.stood.stands.memory.rows;
         }) objects names)
 
-    node_stands : OpenIsNamed → (i : ℕ) (x : NodeInfo) → slice_get nodes i ≡ Some x → NodeStands n firsts f.blocks x.tree.now
+    pub node_stands : OpenIsNamed → (i : ℕ) (x : NodeInfo) → slice_get nodes i ≡ Some x → NodeStands n firsts f.blocks x.tree.now
     node_stands named i x at =
         let it = named n firsts f.blocks nodes s.expression laid i x o.code.lawful o.code.order o.at o.lays.numbered names at in
         record { counts = it.counts; operands = it.operands; list = list_there n firsts f.blocks (expr_of x.tree.now) it.list }
@@ -276,6 +276,11 @@ next_listed world meaning m st e s laid firsts nodes o straight next comes =
     let first = x.first in
     in_whole m.code.now.listing.items s.first s.cursor s.end next.0 next.1.now (omega (arith, le, first)) comes.2.0
 
+-- the machine that has gone on to an event is the one with its cursor there
+pub gone_on : (m now : Machine) (s : Stage) (d : Due) (straight : Bool) → IsAt straight m s d now → (z : Option Stage) × (now ≡ aside m z m.items)
+gone_on m now s d true at = (Some (record s { cursor = min (s.cursor + at.1.0) (2 ^ 64 - 1) }), at.5)
+gone_on m now s d false at = (m.top.stage, at)
+
 pub record Laws : Type 0 where
   pub takes : PermittedTakesGiven
   pub acts : ActsAreOfNodes
@@ -314,11 +319,6 @@ module _ (laws : Laws) where
     plain = plain;
     act = act_is world meaning m st e s laid firsts nodes o (passed_stage stage) items d is may plain;
   }
-
-  -- the machine that has gone on to an event is the one with its cursor there
-  gone_on : (m now : Machine) (s : Stage) (d : Due) (straight : Bool) → IsAt straight m s d now → (z : Option Stage) × (now ≡ aside m z m.items)
-  gone_on m now s d true at = (Some (record s { cursor = min (s.cursor + at.1.0) (2 ^ 64 - 1) }), at.5)
-  gone_on m now s d false at = (m.top.stage, at)
 
   pub may_take : OpenMayTake
   may_take world meaning m now st e s laid firsts nodes d o ready none is may plain goes =

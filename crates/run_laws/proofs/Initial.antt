@@ -24,7 +24,8 @@ use Rattle.run_events.proofs.Nodes.{head_is, node_is}
 use Rattle.run_machine.specs.Picks.{whole_part}
 use Rattle.run_machine.specs.Starting.{IsInitializer}
 use Rattle.run_laws.specs.Asked.{CodeHasRooms}
-use Rattle.run_laws.specs.Initial.{IsIsolatedBody, NumberInitializers, OpenIsInitializer, OpenMayStart, OpenMayStartNext}
+use Rattle.run_code.specs.Initializers.{NumberInitializers}
+use Rattle.run_laws.specs.Initial.{IsIsolatedBody, OpenIsInitializer, OpenMayStart, OpenMayStartNext}
 use Rattle.run_laws.specs.Open.{IsOpen}
 use Rattle.run_laws.proofs.Given.{due_is, end_small, has_rooms, next_listed, root_is}
 

@@ -4,5 +4,6 @@ mod Near
 mod Frames
 mod Given
 mod Initial
+mod Calling
 mod Beginning
 mod Staying

@@ -47,7 +47,7 @@ use Rattle.run_code.specs.Numbered.{AreNodes}
 use Rattle.run_events.specs.Nodes.{head_of, IsNearBy}
 use Rattle.run_laws.proofs.Sites.{all_both, in_nodes, parts, site_in}
 use Rattle.run_laws.specs.Given.{MovesAreNear}
-use Rattle.run_laws.specs.Sited.{IsLawfulTree}
+use Rattle.code_view.specs.Known.{IsLawfulTree}
 use Rattle.value_facts.specs.Small.{AreSmall, EndInTime, IsSmall}
 use Rattle.value_facts.proofs.Numbers.{conv_small}
 

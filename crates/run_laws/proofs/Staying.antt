@@ -401,8 +401,8 @@ module _ (gives : RoomGives) (evaluated : EventsAreEvaluated) (world : World) (m
   seen : event_at t.taken.past d.place ≡ event_of world st.top.scene d.place
   seen =
       let frame = top_frame world meaning old st o.stood.stands in
-      let number : t.taken.past.top.frame.0 ≡ world.number st.top.scene.path = ap (λ (z : Open). z.frame.0) passes.top ∙ frame.number in
-      let turn : t.taken.past.top.turn ≡ st.top.scene.turn = ap (λ (z : Open). z.turn) passes.top ∙ frame.turn in
+      let number : t.taken.past.top.frame.0 ≡ world.number st.top.scene.path = ap (λ (z : Open). z.frame.0) (moved_top passes) ∙ frame.number in
+      let turn : t.taken.past.top.turn ≡ st.top.scene.turn = ap (λ (z : Open). z.turn) (moved_top passes) ∙ frame.turn in
       ap (λ (n : ℕ). event_with n t.taken.past.top.turn d.place) number
       ∙ ap (λ (n : ℕ). event_with (world.number st.top.scene.path) n d.place) turn
 

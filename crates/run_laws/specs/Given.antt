@@ -25,7 +25,7 @@ use Rattle.run_machine.specs.Answering.{IsWithin}
 use Rattle.run_machine.specs.Picks.{whole_part, ComesNext}
 use Rattle.run_machine.specs.Taking.{CanBeTaken, IsAt, MayTake, MayTakeNext}
 use Rattle.run_laws.specs.Open.{aside, IsOpen}
-use Rattle.run_laws.specs.Sited.{IsLawfulTree}
+use Rattle.code_view.specs.Known.{IsLawfulTree}
 use Rattle.value_facts.specs.Small.{AreSmall, EndInTime}
 
 -- 1. Each node of a lawful tree moves a pointer by fewer than 2^127 bytes, where the values that were given are small: an element has at most 2^40 bytes

@@ -2,10 +2,7 @@
 use Rattle.std.specs.Prelude.{◌≡◌, ℕ, true, List, [], Option, Some, slice_get}
 use Rattle.std.specs.Borrow.{Bor}
 use Rattle.ub_base.specs.declared.clause.Kind.TheVariants.{Body}
-use Rattle.c_typed.specs.declared.tree.Node.{out-Node}
-use Rattle.c_typed.specs.declared.tree.Node.TheOpen as shape
-use Rattle.c_typed.specs.declared.tree.Node.TheOpen.{Node-F}
-use Rattle.c_typed.specs.declared.tree.Typed.{Typed, out-Typed}
+use Rattle.c_typed.specs.declared.tree.Typed.{Typed}
 use Rattle.c_model.specs.Runs.{State}
 use Rattle.c_model.specs.Steps.{Begun}
 use Rattle.c_model.specs.World.{World}
@@ -13,7 +10,7 @@ use Rattle.run_control.specs.View.{Meaning}
 use Rattle.run_code.specs.declared.nodes.NodeInfo.{NodeInfo}
 use Rattle.run_code.specs.declared.steps.Due.{Due}
 use Rattle.run_code.specs.declared.steps.Expression.{Expression as Laid}
-use Rattle.run_code.specs.declared.whole.Code.{Code}
+use Rattle.run_code.specs.Initializers.{IsIsolated, NumberInitializers}
 use Rattle.run_listing.specs.Along.{IsListed}
 use Rattle.run_state.specs.declared.machine.Machine.{Machine}
 use Rattle.run_state.specs.declared.machine.Stage.{Stage}
@@ -22,18 +19,6 @@ use Rattle.run_machine.specs.Starting.{IsInitializer, MayStart, MayStartNext}
 use Rattle.run_machine.specs.Taking.{IsAt}
 use Rattle.run_laws.specs.Given.{IsReady}
 use Rattle.run_laws.specs.Open.{IsOpen}
-
--- the node is an isolated initializer of this tree
-abbrev pub IsIsolated : NodeInfo → Typed → Type 0
-IsIsolated x tree = out-Node (out-Typed x.tree.now).node ≡ shape.Isolated tree
-
--- the full expression of this number is that of the tree
-abbrev pub HasTree : Code → ℕ → Typed → Type 0
-HasTree code number tree = (laid : Laid) × (slice_get code.expressions.items number ≡ Some laid) × (laid.root.now ≡ tree)
-
--- each isolated initializer has the number of the full expression of its own tree
-abbrev pub NumberInitializers : Code → List NodeInfo → Type 0
-NumberInitializers code nodes = (n : ℕ) (x : NodeInfo) (tree : Typed) → slice_get nodes n ≡ Some x → IsIsolated x tree → HasTree code x.initializer tree
 
 -- the event is the body of an isolated initializer
 pub record IsIsolatedBody (nodes : List NodeInfo) (d : Due) : Type 0 where

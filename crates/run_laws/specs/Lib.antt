@@ -1,7 +1,7 @@
 pub mod Asked
-pub mod Sited
 pub mod Open
 pub mod Given
 pub mod Initial
+pub mod Calls
 pub mod Beginning
 pub mod Staying

@@ -14,9 +14,8 @@ use Rattle.run_code.specs.LaidOut.{LaidOutBy}
 use Rattle.run_state.specs.declared.machine.Machine.{Machine}
 use Rattle.run_state.specs.declared.machine.Stage.{Stage}
 use Rattle.run_machine.specs.Taking.{AreLawful, StandsOpen}
-use Rattle.code_view.specs.Known.{AreInOrder}
+use Rattle.code_view.specs.Known.{AreInOrder, IsLawfulTree}
 use Rattle.code_view.specs.Named.{NamesAreOpen}
-use Rattle.run_laws.specs.Sited.{IsLawfulTree}
 use Rattle.value_facts.specs.Small.{AreSmall, EndInTime, HasSmallBytes, ListsAreSmall}
 
 -- the code of a lawful program: its full expressions are the program's in turn, the nodes of each are lawful, and so are its constants

@@ -6,6 +6,7 @@
 ghost use Rattle.run_laws.specs.Asked.{RoomsAreAsked, CodeHasRooms, EventsAreAsked, LabelsAreAsked, ConstantsAreAsked};
 ghost use Rattle.run_laws.specs.Given.{MovesAreNear, OpenTakesGiven, OpenCanBeTaken, OpenMayTake, OpenMayTakeNext};
 ghost use Rattle.run_laws.specs.Initial.{OpenIsInitializer, OpenMayStart, OpenMayStartNext};
+ghost use Rattle.run_laws.specs.Calls.{OpenIsCall, OpenIsCallCode, OpenMayCall, OpenMayCallNext};
 ghost use Rattle.run_laws.specs.Beginning.{BeginsOpen};
 ghost use Rattle.run_laws.specs.Staying.{OpenStays};
 
@@ -57,6 +58,20 @@ pub fn law_initial()
     ensures next { OpenMayStartNext }
 {
     law_asked();
+}
+
+/// So the body of a call may start its function's frame, that comes next in such a machine, where the function is none of the library (6.5.2.2p10). What the
+/// code and the machine have of the call holds whatever function is called (`code`).
+pub fn law_calls()
+    ensures code { OpenIsCallCode }
+    ensures is { OpenIsCall }
+    ensures may { OpenMayCall }
+    ensures next { OpenMayCallNext }
+{
+    law_acts();
+    law_named();
+    law_asked();
+    law_picks();
 }
 
 /// The machine stands so as a full expression begins, where it has just the choices that are made at once, and rooms for its values (6.8p4); and behind each

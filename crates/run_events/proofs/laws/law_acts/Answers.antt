@@ -1,5 +1,5 @@
 use Rattle.run_events.proofs.Nodes.{acts_are_of_nodes}
-use Rattle.run_events.proofs.Takes.{permitted_takes_given}
+use Rattle.run_events.proofs.Takes.{call_takes_given, permitted_takes_given}
 use Rattle.run_events.proofs.laws.law_acts.Goals as goal
 
 pub returns-clause-nodes : goal.returns-clause-nodes
@@ -7,3 +7,6 @@ returns-clause-nodes c = acts_are_of_nodes
 
 pub returns-clause-takes : goal.returns-clause-takes
 returns-clause-takes c = permitted_takes_given c.law_operands.ensures.known c.law_operands.ensures.rooms
+
+pub returns-clause-calls : goal.returns-clause-calls
+returns-clause-calls c = call_takes_given c.law_operands.ensures.known c.law_operands.ensures.rooms
