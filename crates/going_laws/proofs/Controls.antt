@@ -5,7 +5,24 @@ use Rattle.c_typed.specs.declared.tree.Place.{Place}
 use Rattle.mem_spec.specs.Script.{Act, Done, Raised, Ended, Outside, Unplaced, run}
 use Rattle.mem_spec.specs.Store.{Store}
 use Rattle.c_model.specs.Control.{
-  Todo, Use, Enter, Leave, Unwrite, Begin, Nothing_to_do, Go_to, Go_out, Go_on, Go_back, To_do, Rest, Round, Again, Test, Break_here, ready_work,
+  Todo,
+  Use,
+  Enter,
+  Leave,
+  Unwrite,
+  Begin,
+  Nothing_to_do,
+  Go_to,
+  Go_out,
+  Go_on,
+  Go_back,
+  To_do,
+  Rest,
+  Round,
+  Again,
+  Test,
+  Break_here,
+  ready_work,
 }
 use Rattle.c_model.specs.Moves.{Move, Stay, Start, End}
 use Rattle.c_model.specs.Runs.{Entry, Outcome, Refused, Raises, Over, No_row, Ends, Running, State, acted, back, entry_of, enter_passes, limited, moved, step, within}

@@ -413,9 +413,10 @@ module _ (world : World) (p : Program) (numbers : Numbers) (old new : Machine) (
 
     pub ends_goes : KeepFrames world new (new.top ∷ reverse new.below.items) (locals_of after) (suc n)
     ends_goes =
-        subst (λ (o : Open). KeepFrames world new (o ∷ reverse new.below.items) (locals_of after) (suc n)) (sym (ap (λ (m : Machine). m.top) z.rest))
-        (subst (λ (f : Local). KeepsFrame world new z.onto (reverse new.below.items) f (suc n)) (sym returned.top) top_then,
-        subst (λ (hs : List (Local × Place)). KeepFrames world new (reverse new.below.items) (map (λ h. h.0) hs) (suc n)) (sym returned.held) kept_then.1)
+        subst (λ (o : Open). KeepFrames world new (o ∷ reverse new.below.items) (locals_of after) (suc n)) (sym (ap (λ (m : Machine). m.top) z.rest)) (
+          subst (λ (f : Local). KeepsFrame world new z.onto (reverse new.below.items) f (suc n)) (sym returned.top) top_then,
+          subst (λ (hs : List (Local × Place)). KeepFrames world new (reverse new.below.items) (map (λ h. h.0) hs) (suc n)) (sym returned.held) kept_then.1,
+        )
 
   -- 4. One of the three.
   goes_frames : KeepsAtBegin → BelowIsShown → BodyKeeps → CanGoOn world old st st.top.begun → KeepsStep old new

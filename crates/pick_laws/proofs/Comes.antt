@@ -21,7 +21,14 @@ use Rattle.run_machine.specs.declared.pick.Pick.TheVariants as pick
 use Rattle.run_machine.specs.Answering.{Answers, AnswersCanonical, AnswersPick, ComesTo, MayGoOn, newest_items}
 use Rattle.run_machine.specs.Keeping.{KeepsPick, KeepsStep}
 use Rattle.run_machine.specs.Starting.{
-  AnswersNextBody, AnswersNextCall, AnswersStart, CallsFunction, MayCallNext, MayStartNext, StartsIsolated, numbered,
+  AnswersNextBody,
+  AnswersNextCall,
+  AnswersStart,
+  CallsFunction,
+  MayCallNext,
+  MayStartNext,
+  StartsIsolated,
+  numbered,
 }
 use Rattle.run_machine.specs.Taking.{AnswersNext, AnswersTaken, MayTakeNext, after_event, store_after, untouched}
 use Rattle.code_view.specs.Numbering.{meaning_of}

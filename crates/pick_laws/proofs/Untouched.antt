@@ -6,7 +6,25 @@ use Rattle.c_typed.specs.declared.program.Program.{Program}
 use Rattle.c_typed.specs.declared.tree.Place.{Place}
 use Rattle.mem_spec.specs.Script.{Act, Done, Raised, Ended, Outside, Unplaced, run}
 use Rattle.c_model.specs.Runs.{
-  Entry, Outcome, Refused, Raises, Over, No_row, Ends, Running, State, acted, back, depth_of, entry_of, enter_passes, limit_passed, limited, moved, step, within,
+  Entry,
+  Outcome,
+  Refused,
+  Raises,
+  Over,
+  No_row,
+  Ends,
+  Running,
+  State,
+  acted,
+  back,
+  depth_of,
+  entry_of,
+  enter_passes,
+  limit_passed,
+  limited,
+  moved,
+  step,
+  within,
   without_row,
 }
 use Rattle.c_model.specs.Steps.{Begun, Local, Pick, Scene, does, move}

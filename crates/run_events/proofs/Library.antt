@@ -386,8 +386,7 @@ module _ (old mid new : Machine) (f : LibFunc) (who : Event) (ts : List CType) (
     does_value is =
         let g = value_of v mid.items (store_in mid) (call_in old mid f who ts hs) is.does in
         let memory : mid.memory ≡ new.memory = sym (ap (λ (k : Machine). k.memory) rest) in
-        let made : IsMadeValue mid.memory (given_value g.0) = subst (IsMadeValue mid.memory) g.2 is.made in
-        (
+        let made : IsMadeValue mid.memory (given_value g.0) = subst (IsMadeValue mid.memory) g.2 is.made in (
           g.0,
           record {
             did = subst (λ (k : Machine). call_in old k f who ts hs ≡ Done g.0 k.items (store_in k)) (sym rest) g.1;
