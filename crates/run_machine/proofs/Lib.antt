@@ -42,3 +42,8 @@ mod Storing
 mod Taken
 mod Unwriting
 mod Waiting
+mod LibraryFree
+mod LibraryBehind
+mod LibrarySteps
+mod LibraryTaken
+mod LibraryNext

@@ -12,3 +12,4 @@ pub mod Taking
 pub mod Completing
 pub mod Starting
 pub mod Settling
+pub mod Library
