@@ -141,18 +141,18 @@ module _ (world : World) (f : Local) (e : Begun) (u : Place) (may : MayPick worl
       (has_due (taken_by world f.scene e) (tree_of e.root) 0 w ∙ (closed w given).due)
 
 -- ---- an entry of a part
-get_take : (k : ℕ) (xs : List Listed) (n : ℕ) (y : Listed) → slice_get (take k xs) n ≡ Some y → slice_get xs n ≡ Some y
+pub get_take : (k : ℕ) (xs : List Listed) (n : ℕ) (y : Listed) → slice_get (take k xs) n ≡ Some y → slice_get xs n ≡ Some y
 get_take zero xs n y h = absurd (cc)
 get_take (suc k) [] n y h = absurd (cc)
 get_take (suc k) (z ∷ zs) zero y h = h
 get_take (suc k) (z ∷ zs) (suc n) y h = get_take k zs n y h
 
-get_drop : (xs : List Listed) (c n : ℕ) → slice_get (drop c xs) n ≡ slice_get xs (c + n)
+pub get_drop : (xs : List Listed) (c n : ℕ) → slice_get (drop c xs) n ≡ slice_get xs (c + n)
 get_drop xs zero n = ap (slice_get xs) (omega arith)
 get_drop [] (suc c) n = refl
 get_drop (x ∷ xs) (suc c) n = let e : suc (c + n) ≡ suc c + n = omega arith in get_drop xs c n ∙ ap (slice_get (x ∷ xs)) e
 
-abbrev cursor_in : Option Stage → ℕ
+abbrev pub cursor_in : Option Stage → ℕ
 cursor_in None = 0
 cursor_in (Some s) = s.cursor
 

@@ -47,3 +47,4 @@ mod LibraryBehind
 mod LibrarySteps
 mod LibraryTaken
 mod LibraryNext
+mod LibraryCompletes

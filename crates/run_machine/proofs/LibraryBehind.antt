@@ -25,12 +25,13 @@ use Rattle.std.proofs.Common.{
   length,
   map,
   reverse,
+  drop,
   Option,
   Some,
   None,
   slice_get,
 }
-use Rattle.std.specs.Prelude.{is_some, if◌then◌else◌}
+use Rattle.std.specs.Prelude.{if◌then◌else◌}
 use Rattle.std.proofs.lemmas.Bool.{eqb-true}
 use Rattle.std.proofs.lemmas.List.{length-reverse}
 use Rattle.std.proofs.lemmas.Option.{same_Some}
@@ -40,18 +41,19 @@ use Rattle.c_types.specs.declared.library.LibFunc.{LibFunc}
 use Rattle.c_types.specs.Types.{CType}
 use Rattle.c_typed.specs.declared.tree.Change.{Change}
 use Rattle.c_typed.specs.declared.tree.Place.{Place}
-use Rattle.c_typed.specs.Order.{is_body, is_val, place}
+use Rattle.c_typed.specs.Order.{is_val, place}
 use Rattle.c_typed.specs.Tree.{Tree, size}
 use Rattle.prov_memory.specs.declared.value.Value.{Value as Kept_value}
 use Rattle.prov_memory.specs.Keeps.{Keeps, RowsStay}
 use Rattle.prov_memory.specs.Memory.{store_of}
 use Rattle.libc_spec.specs.Library.{LibValue}
+use Rattle.c_model.specs.Completions.{completed_by}
 use Rattle.c_model.specs.ChoiceLaws.{IsNext, StaysClosed}
 use Rattle.c_model.specs.Libraries.{result}
 use Rattle.c_model.specs.Nodes.{amount, new_value}
-use Rattle.c_model.specs.Program.{Call, Expr, expr, Exprs, Update, tree_of}
+use Rattle.c_model.specs.Program.{Call, Expr, expr, Exprs, tree_of}
 use Rattle.c_model.specs.Runs.{State}
-use Rattle.c_model.specs.Steps.{Begun, Local, Scene, at_node, taken_by, values_of, with_given}
+use Rattle.c_model.specs.Steps.{Begun, Local, Scene, at_node, is_done, taken_by, values_of, with_given}
 use Rattle.c_model.specs.Values.{Value}
 use Rattle.c_model.specs.World.{World}
 use Rattle.program_view.specs.Laws.{TreesAreKept}
@@ -60,25 +62,43 @@ use Rattle.run_control.specs.View.{Meaning}
 use Rattle.run_code.specs.declared.steps.Due.{Due}
 use Rattle.run_code.specs.declared.steps.Expression.{Expression}
 use Rattle.run_code.specs.declared.steps.Listed.{Listed}
+use Rattle.run_code.specs.declared.steps.Listed.TheVariants as listed
 use Rattle.run_code.specs.Chosen.{IsKept}
 use Rattle.run_code.specs.Keeping.{KeepsAtEvent}
 use Rattle.run_code.specs.LaidOut.{LaidOutBy}
-use Rattle.run_listing.specs.Along.{IsListed, part_of}
-use Rattle.run_listing.specs.Cursor.{StandsBehind, StandsStraight}
+use Rattle.run_code.specs.OfTrees.{IsListingOf}
+use Rattle.run_listing.specs.Along.{events_of, part_of}
+use Rattle.run_listing.specs.Cursor.{IsListed as IsListedIn, StandsBehind, StandsStraight}
 use Rattle.run_state.specs.declared.machine.Machine.{Machine}
 use Rattle.run_state.specs.declared.machine.Open.{Open}
 use Rattle.run_state.specs.declared.machine.Stage.{Stage}
 use Rattle.run_state.specs.declared.watch.Begun.{Begun as Shown}
 use Rattle.run_state.specs.Operands.{RoomGives}
-use Rattle.run_state.specs.Stands.{Holds, HoldsAll, IsUpdate, StandFrames, Stands, StandsDone, StandsExpression, StandsFrame, StandsValues, frames_of, result_seen}
+use Rattle.run_state.specs.Stands.{
+  Holds,
+  HoldsAll,
+  IsUpdate,
+  StandFrames,
+  Stands,
+  StandsDone,
+  StandsExpression,
+  StandsFrame,
+  StandsValues,
+  frames_of,
+  result_seen,
+}
 use Rattle.run_events.specs.LibraryCalls.{ChangesByCall, HasCalled}
 use Rattle.run_events.proofs.Stays.{holds_stay}
+use Rattle.completion_laws.specs.Listing.{CompletesListed, completed_of}
+use Rattle.run_machine.specs.declared.pick.Completed.{Completed}
+use Rattle.run_machine.specs.Completing.{CompletesNoted, completed_seen}
 use Rattle.run_machine.specs.Ending.{IsUpdateRoom, NotesWay}
-use Rattle.run_machine.specs.Library.{IsBodyOfCall, LibraryStands, TakesCall}
+use Rattle.run_machine.specs.Library.{LibraryStands, TakesCall}
+use Rattle.run_machine.specs.LibraryCompletes.{LibraryCompletes}
 use Rattle.run_machine.specs.Picks.{at_cursor, event_at, top_of, whole_part}
-use Rattle.run_machine.specs.Taking.{Decides, HasRooms, StandsOpen, after_event, store_after}
-use Rattle.run_machine.proofs.Behind.{comes_next, open_at}
-use Rattle.run_machine.proofs.Deciding.{ChosenThen, NotedThen, Passed, chosen_then, done_then, listed_in, noted_then, passed}
+use Rattle.run_machine.specs.Taking.{Decides, HasRooms, IsPast, StandsOpen, after_event, store_after}
+use Rattle.run_machine.proofs.Behind.{comes_next, cursor_in, get_drop, get_take, open_at}
+use Rattle.run_machine.proofs.Deciding.{ChosenThen, NotedThen, Passed, chosen_then, done_then, noted_then, passed}
 use Rattle.run_machine.proofs.Given.{given_other, given_own, given_value, values_given}
 use Rattle.run_machine.proofs.Giving.{node_within}
 use Rattle.run_machine.proofs.Laying.{RoomsLaid, rooms_laid}
@@ -373,6 +393,61 @@ module _ (trees : TreesAreKept) (keeps_at : KeepsAtEvent) (gives : RoomGives) (b
   library_stands_so =
       subst (λ (k : Machine). StandsOpen world meaning k (after_event world st e d.place v is (store_after k)) after) (sym moves) stands_open
 
+  -- ---- what it completes, along the canonical way
+  module _ (law : CompletesListed) (straight : s.straight ≡ true) where
+    along : IsPast true old s d t.called.past
+    along = subst (λ (b : Bool). IsPast b old s d t.called.past) straight t.called.passes
+
+    abbrev position : ℕ
+    position = s.cursor + along.1.0
+
+    cursor_is : way.cursor ≡ suc position
+    cursor_is = ap (λ (k : Machine). cursor_in k.top.stage) (sym way.is ∙ along.5)
+
+    here : slice_get listing position ≡ Some (listed.Event d)
+    here =
+        sym (get_drop listing s.cursor along.1.0) ∙ (get_take (s.end - s.cursor) (drop s.cursor listing) along.1.0 (listed.Event along.1.1.now) along.4.0
+        ∙ ap (λ (z : Due). Some (listed.Event z)) along.3)
+
+    first_low : x.laid.first ≤ position
+    first_low =
+        let stood : StandsStraight world st.top.scene listing s.first s.cursor s.end e None =
+        subst (λ (b : Bool). StandsDone b world old height s.first s.cursor s.end st.top.scene e None) straight look.done in
+        let first = x.first in
+        let from = stood.order.0 in
+        omega (arith, first, from)
+
+    stands_after : StandsStraight world st.top.scene listing x.laid.first (suc position) x.laid.end after None
+    stands_after =
+        subst (λ (n : ℕ). StandsStraight world st.top.scene listing x.laid.first n x.laid.end after None) cursor_is
+        (subst (λ (n : ℕ). StandsStraight world st.top.scene listing n way.cursor x.laid.end after None) x.first
+        (subst (λ (n : ℕ). StandsStraight world st.top.scene listing s.first way.cursor n after None) x.end (way.stands straight)))
+
+    in_list : IsListedIn world st.top.scene listing x.laid.first x.laid.end after (taken_in chosen.choices)
+    in_list = (
+      subst (λ (es : List Listed). IsListingOf es (tree_of e.root)) parts look.listed.0,
+      λ n due. chosen.kept.chosen n ∙ ap (λ (b : Bool). if b then taken_by world st.top.scene after n else None) due,
+    )
+
+    by_law : completed_by (tree_of e.root) (taken_by world st.top.scene after) (is_done after) d.place.node
+        ≡ completed_of d (events_of (taken_in chosen.choices) (part_of listing (suc position) x.laid.end))
+    by_law = law world st.top.scene listing t.event.firsts t.event.nodes old.code.now.tables x.laid position after (taken_in chosen.choices) d
+        (subst (λ (l : Expression). LaidOutBy t.event.firsts t.event.nodes old.code.now.tables listing l) same_laid t.event.lays)
+        (sym (ap tree_of x.root ∙ trees x.laid.root.now)) stands_after in_list first_low here
+
+    pub completes_so : (c : Completed) → CompletesNoted d new c
+        → completed_seen c ≡ completed_by (tree_of e.root) (taken_by world st.top.scene after) (is_done after) d.place.node
+    completes_so c noted_so =
+        noted_so (record s { cursor = way.cursor }) (record x.shown { taken = chosen.choices }) (ap (λ (k : Machine). k.top.stage) moves)
+        (ap top_of moves ∙ chosen.shows)
+        ∙ (ap (λ (k : Machine). completed_of d (events_of (taken_in chosen.choices) (part_of k.code.now.listing.items way.cursor s.end))) moves
+        ∙ (ap (λ (n : ℕ). completed_of d (events_of (taken_in chosen.choices) (part_of listing n s.end))) cursor_is
+        ∙ (ap (λ (n : ℕ). completed_of d (events_of (taken_in chosen.choices) (part_of listing (suc position) n))) x.end ∙ sym by_law)))
+
 pub library_stands : TreesAreKept → KeepsAtEvent → RoomGives → StandsBehind → StaysClosed → LibraryStands
 library_stands trees keeps_at gives behind closes world meaning old new st e s laid d f ts hs w is t =
     library_stands_so trees keeps_at gives behind closes world meaning old new st e s laid d f ts hs w is t
+
+pub library_completes : TreesAreKept → KeepsAtEvent → RoomGives → StandsBehind → StaysClosed → CompletesListed → LibraryCompletes
+library_completes trees keeps_at gives behind closes law world meaning old new st e s laid d f ts hs w t straight c noted =
+    completes_so trees keeps_at gives behind closes world meaning old new st e s laid d f ts hs w [] t law straight c noted

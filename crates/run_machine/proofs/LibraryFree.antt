@@ -1,13 +1,13 @@
 -- A node whose body may come next has no value yet: its body comes before that (6.5.2.2p10).
-use Rattle.std.proofs.Common.{◌≡◌, ℕ, suc, ◌+◌, ◌==◌, ◌&&◌, Bool, true, false, refl, sym, ap, ◌∙◌, subst, Option, Some, None, nat_lt, true≢false}
+use Rattle.std.proofs.Common.{◌≡◌, ℕ, suc, ◌+◌, ◌==◌, ◌&&◌, Bool, true, false, refl, sym, ap, ◌∙◌, Option, Some, None, nat_lt, true≢false}
 use Rattle.std.specs.Prelude.{is_some, if◌then◌else◌}
 use Rattle.ub_base.specs.declared.clause.Kind.TheVariants.{Val, Body}
 use Rattle.c_typed.specs.declared.class.Class.{Class}
 use Rattle.c_typed.specs.declared.class.Class.TheVariants.{Update}
 use Rattle.c_typed.specs.declared.tree.Place.{Place}
-use Rattle.c_typed.specs.Decide.{between, due_among, due_in, has_kind, is_before}
+use Rattle.c_typed.specs.Decide.{between, due_among, due_in, is_before}
 use Rattle.c_typed.specs.Order.{Taken, goes, own_rule, place}
-use Rattle.c_typed.specs.Tree.{Tree, node, Trees, none, more, kinds_of, size}
+use Rattle.c_typed.specs.Tree.{Tree, node, Trees, none, more, size}
 use Rattle.c_model.specs.ChoiceLaws.{IsClosed, IsNext}
 use Rattle.c_model.specs.Program.{tree_of}
 use Rattle.c_model.specs.Steps.{Begun, Scene, taken_by}

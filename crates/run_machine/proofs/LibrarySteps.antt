@@ -27,11 +27,11 @@ use Rattle.libc_spec.specs.Library.{LibValue, heap_name, prov_in}
 use Rattle.libc_model.specs.Answers.{ArgumentsMade}
 use Rattle.libc_model.specs.Seen.{values_seen}
 use Rattle.c_model.specs.Libraries.{passed, result}
-use Rattle.c_model.specs.Runs.{Outcome, Running, State, depth_of, limit_passed, step}
+use Rattle.c_model.specs.Runs.{Running, State, limit_passed, step}
 use Rattle.c_model.specs.Steps.{Begun, Ev, Scene, event_of}
 use Rattle.c_model.specs.Values.{Value}
 use Rattle.c_model.specs.World.{Limits, World}
-use Rattle.library_laws.specs.Called.{called_with, items_of}
+use Rattle.library_laws.specs.Called.{called_with}
 use Rattle.library_laws.specs.Calls.{CallsMoreRows, ComesToAct, HasLibrary, IsLibraryCall, LibraryCallSteps}
 use Rattle.run_control.specs.View.{Meaning}
 use Rattle.run_code.specs.declared.nodes.NodeInfo.{NodeInfo}
@@ -49,7 +49,7 @@ use Rattle.run_events.specs.Performs.{store_in}
 use Rattle.run_events.proofs.Worlds.{in_rows}
 use Rattle.run_machine.specs.Answering.{IsWithin}
 use Rattle.run_machine.specs.Ending.{NotesWay}
-use Rattle.run_machine.specs.Library.{IsBodyOfCall, LibrarySteps, StepsByCall, TakesCall}
+use Rattle.run_machine.specs.Library.{IsBodyOfCall, LibrarySteps}
 use Rattle.run_machine.specs.Picks.{event_at}
 use Rattle.run_machine.specs.Taking.{Decides, IsEventOf, IsPast, after_event, staged}
 use Rattle.run_machine.proofs.Taken.{event_seen}
@@ -154,7 +154,9 @@ module _ (rows : CallsMoreRows) (steps : LibraryCallSteps) (world : World) (mean
     of_definitions = (λ i. called_with world.rows g (sym who_is i) ts (sym same i) (sym store_is i)) ∙ in_world
 
     pub comes_to : ComesToAct world st e u g act (step world st (Ev u))
-    comes_to = subst (λ (a : Act LibValue). ComesToAct world st e u g a (step world st (Ev u))) of_definitions (steps world st e u g ts vs begun has call within)
+    comes_to =
+        subst (λ (a : Act LibValue). ComesToAct world st e u g a (step world st (Ev u))) of_definitions
+        (steps world st e u g ts vs begun has call within)
 
 -- ---- the body is done
 abbrev given_state_at : World → State → Begun → Place → LibValue → List Item → Kept → Io → State
@@ -173,7 +175,8 @@ pub library_steps : CallsMoreRows → LibraryCallSteps → LibrarySteps
 library_steps rows steps world meaning old new st e s laid d g ts hs w vs t has call same within =
     let c = t.called in
     let p = past_staged s.straight old s d c.past c.passes in
-    let behind = same_behind s.straight c.done c.noted new d.place d.choice (choice_none world old.code.now st.top.scene laid e d t.event t.body) c.notes c.decides in
+    let behind = same_behind s.straight c.done c.noted new d.place d.choice (choice_none world old.code.now st.top.scene laid e d t.event t.body) c.notes
+    c.decides in
     let memory : c.past.memory ≡ old.memory = ap (λ (k : Machine). k.memory) p.1 in
     let comes = comes_to rows steps world meaning old c.past c.done st e d.place g ts hs vs t.stood.stands t.stood.begun p.0 p.1
     (subst (λ (k : Kept). RowsStay k.rows c.done.memory.rows) memory c.does.kept.rows)

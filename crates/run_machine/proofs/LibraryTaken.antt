@@ -28,21 +28,17 @@ use Rattle.std.proofs.Common.{
   Result,
   Ok,
   Err,
-  slice_get,
 }
-use Rattle.std.specs.Prelude.{◌||◌, is_some, if◌then◌else◌}
-use Rattle.std.specs.Borrow.{Bor}
+use Rattle.std.specs.Prelude.{◌||◌, is_some}
 use Rattle.ub_base.specs.declared.clause.Clause.{Clause}
 use Rattle.ub_base.specs.declared.clause.Cause.{Cause}
 use Rattle.ub_base.specs.declared.clause.Clause.TheVariants.{IncompatibleCall, InvalidPointer}
-use Rattle.ub_base.specs.declared.clause.Kind.TheVariants.{Body}
 use Rattle.ub_base.specs.declared.names.Event.{Event}
 use Rattle.ub_base.specs.declared.names.Item.{Item}
 use Rattle.addr_map.specs.Rows.{row_of}
 use Rattle.c_types.specs.declared.library.LibFunc.{LibFunc}
 use Rattle.c_types.specs.Types.{CType}
 use Rattle.c_typed.specs.declared.program.Program.{Program}
-use Rattle.c_typed.specs.declared.tree.Place.{Place}
 use Rattle.c_typed.specs.Order.{is_body}
 use Rattle.mem_laws.specs.MoreRows.{Extends}
 use Rattle.mem_spec.specs.Script.{Act, Done, Ended, Outside, Raised, Script, Unplaced, require, run, ◌>>◌}
@@ -50,7 +46,7 @@ use Rattle.mem_spec.specs.Store.{Store}
 use Rattle.mem_spec.specs.Streams.{Io}
 use Rattle.prov_memory.specs.declared.value.Value.{Value as Kept_value}
 use Rattle.prov_memory.specs.declared.value.Value.TheVariants as values
-use Rattle.prov_memory.specs.Keeps.{Keeps, RowsStay}
+use Rattle.prov_memory.specs.Keeps.{Keeps}
 use Rattle.prov_memory.specs.Made.{IsMade}
 use Rattle.prov_memory.specs.Memory.{Kept}
 use Rattle.prov_memory.specs.Pieces.{IsMadeValue}
@@ -59,7 +55,7 @@ use Rattle.libc_model.specs.Answers.{ArgumentsMade}
 use Rattle.libc_model.specs.Seen.{value_seen, values_seen}
 use Rattle.c_model.specs.Libraries.{library, passed}
 use Rattle.c_model.specs.Program.{Function}
-use Rattle.c_model.specs.Runs.{Entry, Ends, Outcome, Over, Raises, State, depth_of, entry_of, library_of, limit_passed, step}
+use Rattle.c_model.specs.Runs.{Entry, Ends, Over, Raises, State, depth_of, entry_of, library_of, limit_passed, step}
 use Rattle.c_model.specs.Steps.{
   Begun,
   Ev,
@@ -87,7 +83,6 @@ use Rattle.run_code.specs.declared.steps.Act.TheVariants as act
 use Rattle.run_code.specs.declared.steps.Due.{Due}
 use Rattle.run_code.specs.declared.steps.Expression.{Expression}
 use Rattle.run_code.specs.declared.steps.Operand.{Operand}
-use Rattle.run_code.specs.declared.whole.Code.{Code}
 use Rattle.run_state.specs.declared.halt.Halt.{Halt}
 use Rattle.run_state.specs.declared.machine.Machine.{Machine}
 use Rattle.run_state.specs.declared.machine.Stage.{Stage}
@@ -102,7 +97,7 @@ use Rattle.run_events.specs.Performs.{store_in}
 use Rattle.run_machine.specs.declared.pick.Pick.{Pick}
 use Rattle.run_machine.specs.declared.pick.Pick.TheVariants as pick
 use Rattle.run_machine.specs.Answering.{newest_items}
-use Rattle.run_machine.specs.Ending.{Notes, NotesIn, NotesWay}
+use Rattle.run_machine.specs.Ending.{NotesIn, NotesWay}
 use Rattle.run_machine.specs.Library.{
   AnswersCalled,
   AnswersLibrary,
@@ -165,13 +160,16 @@ some_library : (b : Bool) (l : Option LibFunc) (f : LibFunc) → l ≡ Some f �
 some_library true l f e = refl
 some_library false l f e = ap is_some e
 
-raised_not : (c : Clause) → Raised {V = LibValue} c ≡ Unplaced → ⊥
+abbrev no_row : Act LibValue
+no_row = Unplaced
+
+raised_not : (c : Clause) → Raised c ≡ no_row → ⊥
 raised_not c e = cc
 
-outside_not : (c : Cause) (n : ℕ) → Outside {V = LibValue} c n ≡ Unplaced → ⊥
+outside_not : (c : Cause) (n : ℕ) → Outside c n ≡ no_row → ⊥
 outside_not c n e = cc
 
-ended_not : (n : ℕ) (js : List Item) (u : Store) → Ended {V = LibValue} n js u ≡ Unplaced → ⊥
+ended_not : (n : ℕ) (js : List Item) (u : Store) → Ended n js u ≡ no_row → ⊥
 ended_not n js u e = cc
 
 true_not : (b : Bool) → b ≡ true → b ≡ false → ⊥
@@ -407,7 +405,8 @@ module _ (stands : LibraryStands) (steps : LibrarySteps) (more : CallsMoreRows) 
             → ComesByCall world meaning m st e s laid d g new (step world st (Ev d.place))
         comes_by w did extends =
             let took = takes w did extends in
-            let stepped = steps world meaning m new st e s laid d g (types_seen call.code.types) hs w (later_values all) took has c.is_call args.same t.within in
+            let stepped = steps world meaning m new st e s laid d g (types_seen call.code.types) hs w (later_values all) took has c.is_call args.same
+            t.within in
             record {
               types = types_seen call.code.types;
               values = hs;

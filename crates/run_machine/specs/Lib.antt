@@ -13,3 +13,4 @@ pub mod Completing
 pub mod Starting
 pub mod Settling
 pub mod Library
+pub mod LibraryCompletes

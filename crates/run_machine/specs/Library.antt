@@ -222,13 +222,19 @@ pub record MayCallLibraryNext (world : World) (meaning : Option ℕ → Meaning)
 abbrev pub untouched : Machine → Machine
 untouched m = record m { items = [] }
 
--- a canonical pick that is an event
-pub record AnswersCalledNext (world : World) (meaning : Option ℕ → Meaning) (old : Machine) (st : State) (e : Begun) (s : Stage) (laid : Expression)
+-- a canonical pick that is the event, as it is answered
+pub record IsCalledNext (world : World) (meaning : Option ℕ → Meaning) (old : Machine) (st : State) (e : Begun) (s : Stage) (laid : Expression)
     (r : Result Pick Halt) (new : Machine) (o : Outcome) (u : Place) : Type 0 where
   pub due : Due
   pub is : due.place ≡ u
   pub function : LibFunc
   pub answers : AnswersCalled world meaning (untouched old) st e s laid due function r new o
+
+-- .. if memory isn't wanted
+abbrev pub AnswersCalledNext : (world : World) (meaning : Option ℕ → Meaning) (old : Machine) (st : State) (e : Begun) (s : Stage) (laid : Expression)
+    (r : Result Pick Halt) (new : Machine) (o : Outcome) (u : Place) → Type 0
+AnswersCalledNext world meaning old st e s laid (Err halt.NoMemory) new o u = Unit {0}
+AnswersCalledNext world meaning old st e s laid r new o u = IsCalledNext world meaning old st e s laid r new o u
 
 abbrev pub AnswersNextLibrary : (old new : Machine) → Result Pick Halt → Type 0
 AnswersNextLibrary old new r =

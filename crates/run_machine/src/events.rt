@@ -4,6 +4,7 @@ ghost use Rattle.run_code.specs.Named.{IsDueOf};
 ghost use Rattle.run_machine.specs.Completing.{CompletesEvent, CompletesPick};
 ghost use Rattle.run_machine.specs.Ending.{Notes};
 ghost use Rattle.run_machine.specs.Library.{AnswersLibrary};
+ghost use Rattle.run_machine.specs.LibraryCompletes.{CompletesLibrary};
 ghost use Rattle.run_machine.specs.Picks.{event_at, IsOfEvent};
 ghost use Rattle.run_machine.specs.Starting.{AnswersBody, AnswersCall, FunctionStands, FunctionSteps};
 ghost use Rattle.run_machine.specs.Taking.{past_event, AnswersEvent, DecidesBy, FollowsEvent};
@@ -54,6 +55,7 @@ pub fn take_event(machine: &mut Machine, due: &Due) -> Result<Pick, Halt>
     ensures completes { CompletesEvent due.now machine.old machine.new result }
     ensures calls { AnswersCall due.now machine.old machine.new result }
     ensures libraries { AnswersLibrary due.now machine.old machine.new result }
+    ensures completes_libraries { CompletesLibrary due.now machine.old machine.new result }
 {
     law_events();
     law_bodies();
