@@ -127,17 +127,17 @@ staged_so m now s d true at = (Some (record s { cursor = min (s.cursor + at.1.0)
 staged_so m now s d false at = (m.top.stage, at)
 
 -- the stage behind it
-stage_past : (m past : Machine) (s : Stage) (d : Due) (straight : Bool) → m.top.stage ≡ Some s → IsPast straight m s d past →
+pub stage_past : (m past : Machine) (s : Stage) (d : Due) (straight : Bool) → m.top.stage ≡ Some s → IsPast straight m s d past →
     (k : ℕ) × (past.top.stage ≡ Some (record s { cursor = k }))
 stage_past m past s d true stage p = (suc (s.cursor + p.1.0), ap (λ (k : Machine). k.top.stage) p.5)
 stage_past m past s d false stage p = (s.cursor, ap (λ (k : Machine). k.top.stage) p ∙ stage)
 
 -- ---- what was noted and decided
-noted_code : (straight : Bool) (done noted : Machine) (u : Place) → NotesWay straight done u noted → noted.code.now ≡ done.code.now
+pub noted_code : (straight : Bool) (done noted : Machine) (u : Place) → NotesWay straight done u noted → noted.code.now ≡ done.code.now
 noted_code true done noted u n = ap (λ (k : Machine). k.code.now) n
 noted_code false done noted u n = ap (λ (k : Machine). k.code.now) n.rest
 
-decides_so : (o : Option ℕ) (code : Code) (noted new : Machine) → noted.code.now ≡ code → DecidesBy code o noted new → Decides o noted new
+pub decides_so : (o : Option ℕ) (code : Code) (noted new : Machine) → noted.code.now ≡ code → DecidesBy code o noted new → Decides o noted new
 decides_so None code noted new is d = d
 decides_so (Some n) code noted new is d = subst (λ (c : Code). Chooses c n noted new) (sym is) d
 

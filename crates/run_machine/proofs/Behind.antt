@@ -117,7 +117,7 @@ use Rattle.run_machine.proofs.Still.{above_same, depth_same}
 use Rattle.run_machine.proofs.Taken.{event_seen}
 
 -- ---- the full expression that is open
-open_at : (world : World) (meaning : Meaning) (m : Machine) (height : ℕ) (o : Open) (stage : Option Stage) (f : Scene) (b : Option Begun) (s : Stage)
+pub open_at : (world : World) (meaning : Meaning) (m : Machine) (height : ℕ) (o : Open) (stage : Option Stage) (f : Scene) (b : Option Begun) (s : Stage)
     (e : Begun) → StandsBegun world meaning m height o stage f b None → stage ≡ Some s → b ≡ Some e → StandsExpression world meaning m height o s f e None
 open_at world meaning m height o None f b s e x stage begun = absurd (cc)
 open_at world meaning m height o (Some r) f None s e x stage begun = absurd x
@@ -127,7 +127,7 @@ open_at world meaning m height o (Some r) f (Some z) s e x stage begun =
 
 -- ---- an event that may come next
 module _ (world : World) (f : Local) (e : Begun) (u : Place) (may : MayPick world f (Some e) (Ev u)) where
-  comes_next : IsNext world f.scene e u
+  pub comes_next : IsNext world f.scene e u
   comes_next = record {
     due = sym (has_due (taken_by world f.scene e) (tree_of e.root) 0 u) ∙ may.ready.due;
     left = none_of (e.given u) may.ready.left;
@@ -135,24 +135,24 @@ module _ (world : World) (f : Local) (e : Begun) (u : Place) (may : MayPick worl
         (has_due (taken_by world f.scene e) (tree_of e.root) 0 v ∙ d) may.ready.due h);
   }
 
-  done_within : IsClosed world f.scene e → (w : Place) → is_some (e.given w) ≡ true → w.node < size (tree_of e.root)
+  pub done_within : IsClosed world f.scene e → (w : Place) → is_some (e.given w) ≡ true → w.node < size (tree_of e.root)
   done_within closed w given =
       node_within (taken_by world f.scene e) (tree_of e.root) w
       (has_due (taken_by world f.scene e) (tree_of e.root) 0 w ∙ (closed w given).due)
 
 -- ---- an entry of a part
-get_take : (k : ℕ) (xs : List Listed) (n : ℕ) (y : Listed) → slice_get (take k xs) n ≡ Some y → slice_get xs n ≡ Some y
+pub get_take : (k : ℕ) (xs : List Listed) (n : ℕ) (y : Listed) → slice_get (take k xs) n ≡ Some y → slice_get xs n ≡ Some y
 get_take zero xs n y h = absurd (cc)
 get_take (suc k) [] n y h = absurd (cc)
 get_take (suc k) (z ∷ zs) zero y h = h
 get_take (suc k) (z ∷ zs) (suc n) y h = get_take k zs n y h
 
-get_drop : (xs : List Listed) (c n : ℕ) → slice_get (drop c xs) n ≡ slice_get xs (c + n)
+pub get_drop : (xs : List Listed) (c n : ℕ) → slice_get (drop c xs) n ≡ slice_get xs (c + n)
 get_drop xs zero n = ap (slice_get xs) (omega arith)
 get_drop [] (suc c) n = refl
 get_drop (x ∷ xs) (suc c) n = let e : suc (c + n) ≡ suc c + n = omega arith in get_drop xs c n ∙ ap (slice_get (x ∷ xs)) e
 
-abbrev cursor_in : Option Stage → ℕ
+abbrev pub cursor_in : Option Stage → ℕ
 cursor_in None = 0
 cursor_in (Some s) = s.cursor
 

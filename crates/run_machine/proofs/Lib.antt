@@ -45,3 +45,9 @@ mod Storing
 mod Taken
 mod Unwriting
 mod Waiting
+mod LibraryFree
+mod LibraryBehind
+mod LibrarySteps
+mod LibraryTaken
+mod LibraryNext
+mod LibraryCompletes

@@ -43,6 +43,7 @@ with_frames m n = record m {
   left = n.left;
   items = n.items;
   spare = n.spare;
+  streams = n.streams;
 }
 
 -- ---- what is said of a machine beside its frames

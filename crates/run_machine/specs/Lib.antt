@@ -13,3 +13,5 @@ pub mod Completing
 pub mod Starting
 pub mod Settling
 pub mod Keeping
+pub mod Library
+pub mod LibraryCompletes

@@ -3,14 +3,18 @@ ghost use Rattle.std.specs.Prelude.{◌≡◌, Some, IfOk, OnOk};
 ghost use Rattle.run_code.specs.Named.{IsDueOf};
 ghost use Rattle.run_machine.specs.Completing.{CompletesEvent, CompletesPick};
 ghost use Rattle.run_machine.specs.Ending.{Notes};
+ghost use Rattle.run_machine.specs.Library.{AnswersLibrary};
+ghost use Rattle.run_machine.specs.LibraryCompletes.{CompletesLibrary};
 ghost use Rattle.run_machine.specs.Picks.{event_at, IsOfEvent};
 ghost use Rattle.run_machine.specs.Starting.{AnswersBody, AnswersCall, FunctionStands, FunctionSteps};
 ghost use Rattle.run_machine.specs.Taking.{past_event, AnswersEvent, DecidesBy, FollowsEvent};
 
 use crate::laws::law_events;
+use crate::library::law_bodies;
 use crate::pick::Pick;
 use crate::picks::completed;
 use c_typed::Place;
+use library_laws::law_library;
 use program_view::law_view;
 use run_code::{Code, Due};
 use run_events::{Outcome, choose, perform};
@@ -50,8 +54,12 @@ pub fn take_event(machine: &mut Machine, due: &Due) -> Result<Pick, Halt>
     ensures bodies { AnswersBody due.now machine.old machine.new result }
     ensures completes { CompletesEvent due.now machine.old machine.new result }
     ensures calls { AnswersCall due.now machine.old machine.new result }
+    ensures libraries { AnswersLibrary due.now machine.old machine.new result }
+    ensures completes_libraries { CompletesLibrary due.now machine.old machine.new result }
 {
     law_events();
+    law_bodies();
+    law_library();
     law_view();
     law_cursor();
     let code = machine.code;

@@ -17,6 +17,8 @@ ghost use Rattle.run_state.specs.declared.watch.Begun.{Begun as BegunOf};
 ghost use Rattle.run_machine.specs.Answering.{AnswersCanonical, TakesControl};
 ghost use Rattle.run_machine.specs.Completing.{CompletesNext, CompletesNoted, completed_seen};
 ghost use Rattle.run_machine.specs.Keeping.{KeepsPick};
+ghost use Rattle.run_machine.specs.Library.{AnswersNextLibrary};
+ghost use Rattle.run_machine.specs.LibraryCompletes.{CompletesNextLibrary};
 ghost use Rattle.run_machine.specs.Starting.{AnswersNextBody, AnswersNextCall};
 ghost use Rattle.run_machine.specs.Taking.{AnswersNext};
 ghost use Rattle.run_machine.specs.Picks.{top_of, ahead_part, passed_part, kept_of, at_cursor, ByOrder, ComesNext, Decides, Follows, IsPick, IsStep, Permits, Refuses, Strays, Takes};
@@ -44,6 +46,8 @@ pub fn canonical(machine: &mut Machine) -> Result<Pick, Halt>
     ensures completes { CompletesNext machine.old machine.new result }
     ensures calls { AnswersNextCall machine.old machine.new result }
     ensures keeps { KeepsPick machine.old machine.new result }
+    ensures libraries { AnswersNextLibrary machine.old machine.new result }
+    ensures completes_libraries { CompletesNextLibrary machine.old machine.new result }
 {
     law_picks();
     let next = follow(machine)?;

@@ -4,6 +4,8 @@ use Rattle.run_machine.specs.Picks.{event_at}
 use Rattle.run_machine.proofs.Answered.{completed_done, completed_else, completed_ended, taken_done, taken_ended, taken_started, taken_stopped}
 use Rattle.run_machine.proofs.Bodies.{body_done, body_ended, body_started, body_stopped}
 use Rattle.run_machine.proofs.Callees.{call_done, call_ended, call_started, call_stopped}
+use Rattle.run_machine.proofs.LibraryCompletes.{completed_called}
+use Rattle.run_machine.proofs.LibraryTaken.{called_done, called_ended, called_started, called_stopped}
 use Rattle.run_machine.proofs.events.take_event.Goals as goal
 
 pub returns-in-Ok-Done-clause-answers : goal.returns-in-Ok-Done-clause-answers
@@ -103,3 +105,48 @@ returns-in-Err-clause-calls c =
     call_stopped c.law_view.ensures.trees c.law_cursor.ensures.starts c.args.due.now c.args.machine.now c.pass_event.new.machine c.perform.new.machine
     (event_at c.args.machine.now c.args.due.now.place) refl c.perform.result c.pass_event.ensures c.perform.ensures.calls c.in-Err.fault
     c.args.due.now.line c.of.result c.in-Err.is c.of.ensures
+
+pub returns-in-Ok-Done-clause-libraries : goal.returns-in-Ok-Done-clause-libraries
+returns-in-Ok-Done-clause-libraries c =
+    called_done c.law_bodies.ensures.stands c.law_bodies.ensures.steps c.law_library.ensures.rows c.law_library.ensures.steps c.args.due.now
+    c.args.machine.now c.pass_event.new.machine c.perform.new.machine c.perform.result c.pass_event.ensures c.perform.ensures.calls
+    (c.in-Ok-Done.is ∙ ap Ok c.in-Ok-Done.field-0-is) c.finish_event.new.machine c.finish_event.result c.finish_event.ensures.follows
+
+pub returns-in-Ok-Started-clause-libraries : goal.returns-in-Ok-Started-clause-libraries
+returns-in-Ok-Started-clause-libraries c =
+    called_started c.law_bodies.ensures.stands c.law_bodies.ensures.steps c.law_library.ensures.rows c.law_library.ensures.steps c.args.due.now
+    c.args.machine.now c.pass_event.new.machine c.perform.new.machine c.perform.result c.pass_event.ensures c.perform.ensures.calls
+    (c.in-Ok-Started.is ∙ ap Ok c.in-Ok-Started.field-0-is) c.perform.new.machine (Ok (pick.Starts (event_at c.args.machine.now c.args.due.now.place)))
+
+pub returns-in-Ok-End-clause-libraries : goal.returns-in-Ok-End-clause-libraries
+returns-in-Ok-End-clause-libraries c =
+    called_ended c.law_bodies.ensures.stands c.law_bodies.ensures.steps c.law_library.ensures.rows c.law_library.ensures.steps c.args.due.now
+    c.args.machine.now c.pass_event.new.machine c.perform.new.machine c.perform.result c.pass_event.ensures c.perform.ensures.calls
+    _ (c.in-Ok-End.is ∙ ap Ok c.in-Ok-End.field-0-is) c.finish_event-in-Ok-End.new.machine c.finish_event-in-Ok-End.result
+    c.finish_event-in-Ok-End.ensures.follows
+
+pub returns-in-Err-clause-libraries : goal.returns-in-Err-clause-libraries
+returns-in-Err-clause-libraries c =
+    called_stopped c.law_bodies.ensures.stands c.law_bodies.ensures.steps c.law_library.ensures.rows c.law_library.ensures.steps c.args.due.now
+    c.args.machine.now c.pass_event.new.machine c.perform.new.machine c.perform.result c.pass_event.ensures c.perform.ensures.calls
+    c.in-Err.fault c.args.due.now.line c.of.result c.in-Err.is c.of.ensures
+
+pub returns-in-Ok-Done-clause-completes_libraries : goal.returns-in-Ok-Done-clause-completes_libraries
+returns-in-Ok-Done-clause-completes_libraries c =
+    completed_called c.law_bodies.ensures.completes c.args.due.now c.args.machine.now c.finish_event.new.machine c.finish_event.result
+    (returns-in-Ok-Done-clause-libraries c) c.finish_event.ensures.completes
+
+pub returns-in-Ok-Started-clause-completes_libraries : goal.returns-in-Ok-Started-clause-completes_libraries
+returns-in-Ok-Started-clause-completes_libraries c =
+    completed_called c.law_bodies.ensures.completes c.args.due.now c.args.machine.now c.perform.new.machine
+    (Ok (pick.Starts (event_at c.args.machine.now c.args.due.now.place))) (returns-in-Ok-Started-clause-libraries c) tt
+
+pub returns-in-Ok-End-clause-completes_libraries : goal.returns-in-Ok-End-clause-completes_libraries
+returns-in-Ok-End-clause-completes_libraries c =
+    completed_called c.law_bodies.ensures.completes c.args.due.now c.args.machine.now c.finish_event-in-Ok-End.new.machine c.finish_event-in-Ok-End.result
+    (returns-in-Ok-End-clause-libraries c) c.finish_event-in-Ok-End.ensures.completes
+
+pub returns-in-Err-clause-completes_libraries : goal.returns-in-Err-clause-completes_libraries
+returns-in-Err-clause-completes_libraries c =
+    completed_called c.law_bodies.ensures.completes c.args.due.now c.args.machine.now c.perform.new.machine (Err c.of.result)
+    (returns-in-Err-clause-libraries c) tt

@@ -5,6 +5,7 @@ use Rattle.run_machine.proofs.Bodies.{next_bodies, none_body}
 use Rattle.run_machine.proofs.Callees.{next_calls, none_call}
 use Rattle.run_machine.specs.Picks.{top_of}
 use Rattle.run_machine.proofs.Keeping.{event_kept, step_kept}
+use Rattle.run_machine.proofs.LibraryNext.{next_completed, next_library, none_completed, none_library}
 use Rattle.run_machine.proofs.Onward.{next_answers, next_completes, none_completes, none_next}
 use Rattle.run_machine.proofs.Staying.{event_untold, followed, step_told, steps_taken}
 use Rattle.run_machine.proofs.Taken.{event_taken}
@@ -33,6 +34,13 @@ returns-in-Some c = record {
       c.take_event.result c.in_ok-next.ensures.follows c.in-Some.is c.clear.ensures
       (c.law_picks.ensures.follows c.args.machine.now c.follow.new.machine c.in_ok-next.next c.in_ok-next.ensures.follows) c.take_event.ensures.calls;
   keeps = event_kept c.args.machine.now c.take_event.new.machine _ c.take_event.result c.take_event.ensures.event;
+  libraries = next_library c.law_picks.ensures.next c.args.machine.now c.follow.new.machine c.take_event.new.machine c.clear.new.self c.in_ok-next.next
+      c.in-Some.due c.take_event.result c.in_ok-next.ensures.follows c.in-Some.is c.clear.ensures
+      (c.law_picks.ensures.follows c.args.machine.now c.follow.new.machine c.in_ok-next.next c.in_ok-next.ensures.follows) c.take_event.ensures.libraries;
+  completes_libraries = next_completed c.law_picks.ensures.next c.args.machine.now c.follow.new.machine c.take_event.new.machine c.clear.new.self
+      c.in_ok-next.next c.in-Some.due c.take_event.result c.in_ok-next.ensures.follows c.in-Some.is c.clear.ensures
+      (c.law_picks.ensures.follows c.args.machine.now c.follow.new.machine c.in_ok-next.next c.in_ok-next.ensures.follows)
+      c.take_event.ensures.completes_libraries;
 }
 
 pub returns-in-None : goal.returns-in-None
@@ -55,4 +63,8 @@ returns-in-None c = record {
   keeps = step_kept c.args.machine.now c.follow.new.machine c.take_control.new.machine c.clear.new.self c.take_control.result
       (followed c.args.machine.now c.args.machine.now.top.stage (top_of c.args.machine.now) c.follow.new.machine c.in_ok-next.next
       c.in_ok-next.ensures.follows c.in-None.is) c.take_control.ensures.keeps;
+  libraries = none_library c.args.machine.now c.take_control.new.machine c.in_ok-next.next c.take_control.result c.in-None.is
+      (c.law_picks.ensures.follows c.args.machine.now c.follow.new.machine c.in_ok-next.next c.in_ok-next.ensures.follows);
+  completes_libraries = none_completed c.args.machine.now c.take_control.new.machine c.in_ok-next.next c.take_control.result c.in-None.is
+      (c.law_picks.ensures.follows c.args.machine.now c.follow.new.machine c.in_ok-next.next c.in_ok-next.ensures.follows);
 }
