@@ -41,7 +41,7 @@ use Rattle.c_types.specs.Types.{CType}
 use Rattle.c_typed.specs.declared.program.Program.{Program}
 use Rattle.c_typed.specs.Order.{is_body}
 use Rattle.mem_laws.specs.MoreRows.{Extends}
-use Rattle.mem_spec.specs.Script.{Act, Done, Ended, Outside, Raised, Script, Unplaced, require, run, ◌>>◌}
+use Rattle.mem_spec.specs.Script.{Act, Ended, Outside, Raised, Script, Unplaced, require, run, ◌>>◌}
 use Rattle.mem_spec.specs.Store.{Store}
 use Rattle.mem_spec.specs.Streams.{Io}
 use Rattle.prov_memory.specs.declared.value.Value.{Value as Kept_value}
@@ -53,9 +53,9 @@ use Rattle.prov_memory.specs.Pieces.{IsMadeValue}
 use Rattle.libc_spec.specs.Library.{LibValue, heap_name, prov_in}
 use Rattle.libc_model.specs.Answers.{ArgumentsMade}
 use Rattle.libc_model.specs.Seen.{value_seen, values_seen}
-use Rattle.c_model.specs.Libraries.{library, passed}
+use Rattle.c_model.specs.Libraries.{passed}
 use Rattle.c_model.specs.Program.{Function}
-use Rattle.c_model.specs.Runs.{Entry, Ends, Over, Raises, State, depth_of, entry_of, library_of, limit_passed, step}
+use Rattle.c_model.specs.Runs.{Entry, Ends, Raises, State, depth_of, entry_of, library_of, limit_passed, step}
 use Rattle.c_model.specs.Steps.{
   Begun,
   Ev,
