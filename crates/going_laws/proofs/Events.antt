@@ -1,18 +1,17 @@
--- Behind an event that isn't a body the machine goes on as before.
-use Rattle.std.proofs.Common.{arith, ◌≡◌, ◌+◌, ◌<◌, ◌≤◌, ◌^◌, ℕ, suc, List, ◌∷◌, length, map, reverse, Option, Some, None, slice_get}
+-- Behind an event that is done at once the machine goes on as before.
+use Rattle.std.proofs.Common.{arith, ◌≡◌, ◌≢◌, ◌+◌, ◌<◌, ◌≤◌, ◌^◌, ℕ, suc, List, ◌∷◌, length, map, reverse, Option, Some, None, slice_get}
 use Rattle.std.proofs.Common.{sym, ap, subst, ◌∙◌}
 use Rattle.std.proofs.lemmas.List.{length-reverse}
 use Rattle.std.proofs.lemmas.Option.{same_Some}
+use Rattle.ub_base.specs.declared.names.Item.{Item}
 use Rattle.c_typed.specs.declared.program.Program.{Program}
+use Rattle.c_typed.specs.declared.tree.Place.{Place}
 use Rattle.c_model.specs.Runs.{Running, State, step}
 use Rattle.c_model.specs.Steps.{Begun, Ev, MayPick, Scene, with_given}
 use Rattle.c_model.specs.Values.{Value}
 use Rattle.c_model.specs.World.{World}
 use Rattle.seq_order.specs.Marked.{taken_in}
 use Rattle.run_code.specs.Chosen.{IsKept}
-use Rattle.run_code.specs.declared.nodes.NodeInfo.{NodeInfo}
-use Rattle.run_code.specs.declared.steps.Due.{Due}
-use Rattle.run_code.specs.declared.steps.Expression.{Expression as Laid}
 use Rattle.run_code.specs.declared.whole.Code.{Code}
 use Rattle.run_statements.specs.declared.numbers.Numbers.{Numbers}
 use Rattle.run_state.specs.declared.machine.Machine.{Machine}
@@ -21,17 +20,43 @@ use Rattle.run_state.specs.declared.machine.Stage.{Stage}
 use Rattle.run_state.specs.declared.watch.Begun.{Begun as Shown}
 use Rattle.run_state.specs.Stands.{Stands}
 use Rattle.run_machine.specs.Answering.{IsWithin}
-use Rattle.run_machine.specs.Taking.{after_event, store_after}
+use Rattle.run_machine.specs.Taking.{StandsOpen, after_event, store_after}
 use Rattle.code_view.specs.Numbering.{meaning_of}
 use Rattle.frame_laws.specs.Laws.{StepsOrdered}
 use Rattle.frame_laws.specs.Named.{LawfulIsScoped}
 use Rattle.frame_laws.specs.Reached.{StepsReached}
-use Rattle.run_laws.specs.Open.{IsOpen}
-use Rattle.run_laws.specs.Staying.{MovesOn}
+use Rattle.run_laws.specs.Staying.{MovesOn, moved_on}
 use Rattle.run_facts.specs.Frames.{IsOneOf, KeepFrames, KeepsBegun, KeepsFrame, KeepsOpen, Sees, SeesFunction, function_of}
 use Rattle.run_facts.specs.Going.{IsGoing, locals_of}
 use Rattle.run_facts.specs.SetUp.{IsSetUp}
 use Rattle.going_laws.proofs.Under.{IsMore, frames_still}
+
+-- ---- what an event that is done at once leaves of the machine
+abbrev pub moved_with : (old : Machine) → Stage → ℕ → (new : Machine) → Machine
+moved_with old s cursor new = record old {
+  memory = new.memory;
+  streams = new.streams;
+  top = record old.top { stage = Some (record s { cursor = cursor }) };
+  begun = new.begun;
+  strayed = new.strayed;
+  values = new.values;
+  items = new.items;
+  spare = new.spare;
+}
+
+pub record Moved (old : Machine) (s : Stage) (new : Machine) : Type 0 where
+  pub cursor : ℕ
+  pub rest : new ≡ moved_with old s cursor new
+  pub begun : (j : ℕ) (b : Shown) → j ≢ length old.below.items → slice_get old.begun.items j ≡ Some b → slice_get new.begun.items j ≡ Some b
+  pub values : length old.values.items ≤ length new.values.items
+
+pub moved_by : (old : Machine) (s : Stage) (new : Machine) → MovesOn old s new → Moved old s new
+moved_by old s new m = record {
+  cursor = m.cursor;
+  rest = m.rest ∙ (λ i. record (moved_on old s m.cursor new) { streams = sym (ap (λ (k : Machine). k.streams) m.rest) i });
+  begun = m.begun;
+  values = m.values;
+}
 
 -- ---- what is kept of a frame in which this full expression is open
 pub kept_open : (world : World) (m : Machine) (height : ℕ) (o : Open) (stage : Option Stage) (f : Scene) (begun : Option Begun) (s : Stage) (e : Begun)
@@ -63,11 +88,10 @@ module _ (old new : Machine) (o : Open) (s : Stage) (cursor : ℕ) (stage : o.st
   sees_moved None x = absurd x
   sees_moved (Some n) x = sees_function n x
 
-module _ (world : World) (p : Program) (numbers : Numbers) (old new : Machine) (st : State) (n : ℕ) (e : Begun) (s : Stage) (laid : Laid)
-    (firsts : List ℕ) (nodes : List NodeInfo) (d : Due) (v : Value) (going : IsGoing world p numbers old st n)
-    (o : IsOpen world (meaning_of p numbers old.code.now) old st e s laid firsts nodes) (m : MovesOn old s new) where
+module _ (world : World) (p : Program) (numbers : Numbers) (old new : Machine) (st : State) (n : ℕ) (e : Begun) (s : Stage) (u : Place) (v : Value)
+    (is : List Item) (going : IsGoing world p numbers old st n) (stage : old.top.stage ≡ Some s) (begun : st.top.begun ≡ Some e) (m : Moved old s new) where
   abbrev next : State
-  next = after_event world st e d.place v new.items (store_after new)
+  next = after_event world st e u v is (store_after new)
 
   abbrev stage_then : Stage
   stage_then = record s { cursor = m.cursor }
@@ -96,20 +120,20 @@ module _ (world : World) (p : Program) (numbers : Numbers) (old new : Machine) (
   }
 
   open_before : KeepsOpen world old (length below) old.top s st.top.scene e
-  open_before = kept_open world old (length below) old.top old.top.stage st.top.scene st.top.begun s e o.stage o.stood.begun going.frames.0.begun
+  open_before = kept_open world old (length below) old.top old.top.stage st.top.scene st.top.begun s e stage begun going.frames.0.begun
 
-  module _ (stays : IsOpen world (meaning_of p numbers old.code.now) new next (with_given e d.place v) stage_then laid firsts nodes) where
-    chosen_then : (b : Shown) → slice_get new.begun.items (length below) ≡ Some b → IsKept world st.top.scene (with_given e d.place v) (taken_in b.taken)
+  module _ (stays : StandsOpen world (meaning_of p numbers old.code.now) new next (with_given e u v)) where
+    chosen_then : (b : Shown) → slice_get new.begun.items (length below) ≡ Some b → IsKept world st.top.scene (with_given e u v) (taken_in b.taken)
     chosen_then b is =
-        stays.stood.chosen b (ap (λ (k : ℕ). slice_get new.begun.items k) (ap (λ bs. length bs.items) below_same ∙ sym height) ∙ is)
+        stays.chosen b (ap (λ (k : ℕ). slice_get new.begun.items k) (ap (λ bs. length bs.items) below_same ∙ sym height) ∙ is)
 
     rooms_then : old.top.base + old.top.rooms ≤ length new.values.items
-    rooms_then = subst (λ (k : Machine). k.top.base + k.top.rooms ≤ length new.values.items) m.rest stays.stood.rooms
+    rooms_then = subst (λ (k : Machine). k.top.base + k.top.rooms ≤ length new.values.items) m.rest stays.rooms
 
     top_then : KeepsFrame world new (moved_frame old.top s m.cursor) below next.top (suc n)
     top_then = record {
       begun = record { straight = open_before.straight; chosen = chosen_then; rooms = rooms_then };
-      sees = sees_moved old new old.top s m.cursor o.stage code_same locals_same (function_of old.top.function below) going.frames.0.sees;
+      sees = sees_moved old new old.top s m.cursor stage code_same locals_same (function_of old.top.function below) going.frames.0.sees;
       turn = let t = going.frames.0.turn in omega (arith, t);
       base = let b = going.frames.0.base in let w = m.values in omega (arith, b, w);
     }
@@ -122,16 +146,16 @@ module _ (world : World) (p : Program) (numbers : Numbers) (old new : Machine) (
     frames_then : KeepFrames world new (new.top ∷ reverse new.below.items) (locals_of next) (suc n)
     frames_then = subst (λ (k : Machine). KeepFrames world new (k.top ∷ reverse k.below.items) (locals_of next) (suc n)) (sym m.rest) (top_then, below_then)
 
-    pub goes_on : LawfulIsScoped → StepsOrdered → StepsReached → IsWithin world next → MayPick world st.top (Some e) (Ev d.place)
-        → step world st (Ev d.place) ≡ Running next → suc n < 2 ^ 32 → IsGoing world p numbers new next (suc n)
+    pub goes_on : LawfulIsScoped → StepsOrdered → StepsReached → IsWithin world next → MayPick world st.top (Some e) (Ev u)
+        → step world st (Ev u) ≡ Running next → suc n < 2 ^ 32 → IsGoing world p numbers new next (suc n)
     goes_on scoped ordered reached within may steps few = record {
       program = ap (λ (k : Machine). k.program.now) m.rest ∙ going.program;
       set_up = subst (λ (k : Machine). IsSetUp world p numbers k.code.now k.jumps) (sym m.rest) going.set_up;
-      stands = subst (λ (c : Code). Stands world (meaning_of p numbers c) new next) (ap (λ c. c.now) (sym code_same)) stays.stood.stands;
+      stands = subst (λ (c : Code). Stands world (meaning_of p numbers c) new next) (ap (λ c. c.now) (sym code_same)) stays.stands;
       within = within;
       ordered =
-          ordered world st next (Ev d.place) (scoped p world going.set_up.whole.lawful going.set_up.world.program.functions) going.ordered steps;
-      reached = reached world st next (Ev d.place) (subst (λ (b : Option Begun). MayPick world st.top b (Ev d.place)) (sym o.stood.begun) may)
+          ordered world st next (Ev u) (scoped p world going.set_up.whole.lawful going.set_up.world.program.functions) going.ordered steps;
+      reached = reached world st next (Ev u) (subst (λ (b : Option Begun). MayPick world st.top b (Ev u)) (sym begun) may)
           going.reached steps;
       frames = frames_then;
       few = few;

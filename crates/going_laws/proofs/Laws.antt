@@ -23,7 +23,7 @@ use Rattle.run_facts.specs.Frames.{KeepsOpen}
 use Rattle.run_facts.specs.Going.{IsGoing}
 use Rattle.going_laws.specs.Going.{CallGoesOn, EventGoesOn, InitializerGoesOn, StepGoesOn}
 use Rattle.going_laws.proofs.Body.{body_keeps}
-use Rattle.going_laws.proofs.Events.{goes_on as event_goes, kept_open}
+use Rattle.going_laws.proofs.Events.{goes_on as event_goes, kept_open, moved_by}
 use Rattle.going_laws.proofs.Started.{function_started, initializer_started, past_is}
 use Rattle.going_laws.proofs.Starts.{HasStarted, goes_on as frame_goes}
 use Rattle.going_laws.proofs.Steps.{step_goes}
@@ -45,7 +45,8 @@ module _ (scoped : LawfulIsScoped) (ordered : StepsOrdered) where
   pub events_go : StepsReached → OpenStays → EventGoesOn
   events_go reached stays world p numbers old new st n e s laid firsts nodes d v going o t steps within few =
       let moves = stays world (meaning_of p numbers old.code.now) old new st e s laid firsts nodes d v o t in
-      event_goes world p numbers old new st n e s laid firsts nodes d v going o moves.0 moves.1 scoped ordered reached within t.may steps few
+      event_goes world p numbers old new st n e s d.place v new.items going o.stage o.stood.begun (moved_by old s new moves.0) moves.1.stood scoped ordered
+      reached within t.may steps few
 
   -- the full expression that is open there
   open_of : (world : World) (p : Program) (numbers : Numbers) (old : Machine) (st : State) (n : ℕ) (e : Begun) (s : Stage)

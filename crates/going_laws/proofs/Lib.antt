@@ -7,3 +7,4 @@ mod Own
 mod Steps
 mod Body
 mod Laws
+mod Library

@@ -1,10 +1,16 @@
 -- Behind each pick along the canonical order the machine goes on (own).
 use Rattle.std.specs.Prelude.{◌≡◌, ◌<◌, ◌^◌, ℕ, suc, List, Some}
 use Rattle.ub_base.specs.declared.names.Frame.{Frame}
+use Rattle.ub_base.specs.declared.names.Item.{Item}
+use Rattle.c_types.specs.declared.library.LibFunc.{LibFunc}
+use Rattle.c_types.specs.Types.{CType}
 use Rattle.c_typed.specs.declared.program.Program.{Program}
 use Rattle.c_typed.specs.declared.tree.Place.{Place}
+use Rattle.libc_spec.specs.Library.{LibValue}
+use Rattle.prov_memory.specs.declared.value.Value.{Value as Kept_value}
+use Rattle.c_model.specs.Libraries.{result}
 use Rattle.c_model.specs.Runs.{Running, State, canonical_pick, step}
-use Rattle.c_model.specs.Steps.{Begun, Control, Ev}
+use Rattle.c_model.specs.Steps.{Begun, Control, Ev, with_given}
 use Rattle.c_model.specs.Values.{Value}
 use Rattle.c_model.specs.World.{World}
 use Rattle.run_code.specs.declared.nodes.NodeInfo.{NodeInfo}
@@ -16,8 +22,9 @@ use Rattle.run_state.specs.declared.machine.Stage.{Stage}
 use Rattle.run_state.specs.Stands.{Stands}
 use Rattle.run_machine.specs.Answering.{IsWithin, MayGoOn}
 use Rattle.run_machine.specs.Keeping.{KeepsStep}
+use Rattle.run_machine.specs.Library.{TakesCall}
 use Rattle.run_machine.specs.Starting.{CallsFunction, StartsIsolated, numbered}
-use Rattle.run_machine.specs.Taking.{TakesEvent, after_event, store_after}
+use Rattle.run_machine.specs.Taking.{StandsOpen, TakesEvent, after_event, store_after}
 use Rattle.code_view.specs.Numbering.{meaning_of}
 use Rattle.run_laws.specs.Open.{IsOpen}
 use Rattle.run_facts.specs.Going.{IsGoing}
@@ -32,6 +39,17 @@ EventGoesOn =
     → step world st (Ev d.place) ≡ Running (after_event world st e d.place v new.items (store_after new))
     → IsWithin world (after_event world st e d.place v new.items (store_after new)) → suc n < 2 ^ 32
     → IsGoing world p numbers new (after_event world st e d.place v new.items (store_after new)) (suc n)
+
+-- .. and the body of a call of a library function, which is done at once
+abbrev pub LibraryGoesOn : Type 0
+LibraryGoesOn =
+    (world : World) (p : Program) (numbers : Numbers) (old new : Machine) (st : State) (n : ℕ) (e : Begun) (s : Stage) (laid : Laid) (d : Due)
+    (f : LibFunc) (ts : List CType) (hs : List Kept_value) (w : LibValue) (is : List Item) → IsGoing world p numbers old st n
+    → TakesCall world (meaning_of p numbers old.code.now) old st e s laid d f ts hs w new
+    → StandsOpen world (meaning_of p numbers old.code.now) new (after_event world st e d.place (result w) is (store_after new))
+    (with_given e d.place (result w)) → step world st (Ev d.place) ≡ Running (after_event world st e d.place (result w) is (store_after new))
+    → IsWithin world (after_event world st e d.place (result w) is (store_after new)) → suc n < 2 ^ 32
+    → IsGoing world p numbers new (after_event world st e d.place (result w) is (store_after new)) (suc n)
 
 -- 2. A body that starts the frame of an isolated initializer, or of a function: so the machine goes on once the frame has the number that the world gives it.
 abbrev pub InitializerGoesOn : Type 0

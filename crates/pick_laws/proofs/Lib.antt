@@ -1,3 +1,4 @@
 mod Untouched
 mod Comes
 mod Next
+mod Library

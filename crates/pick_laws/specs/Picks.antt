@@ -1,22 +1,29 @@
 -- Each canonical pick of a machine that is going is the definitions' step, and it is going again behind it (own).
-use Rattle.std.specs.Prelude.{◌≡◌, ◌<◌, ◌^◌, ℕ, suc, List, Option, Some, None, Result, Ok, Err}
+use Rattle.std.specs.Prelude.{◌≡◌, ◌<◌, ◌^◌, ◌⊎◌, ℕ, suc, List, Option, Some, None, Result, Ok, Err}
 use Rattle.ub_base.specs.declared.names.Frame.{Frame}
+use Rattle.ub_base.specs.declared.names.ObjName.{ObjName}
+use Rattle.addr_map.specs.Rows.{row_of}
+use Rattle.c_types.specs.declared.library.LibFunc.{LibFunc}
 use Rattle.c_typed.specs.declared.program.Program.{Program}
 use Rattle.c_typed.specs.declared.tree.Place.{Place}
+use Rattle.mem_laws.specs.MoreRows.{Extends}
 use Rattle.prov_memory.specs.Keeps.{RowsStay}
-use Rattle.c_model.specs.Runs.{Entry, Ends, Outcome, Running, State, canonical_pick, step}
+use Rattle.library_laws.specs.Called.{items_of}
+use Rattle.c_model.specs.Runs.{Entry, Ends, No_row, Outcome, Over, Raises, Running, State, canonical_pick, step}
 use Rattle.c_model.specs.Steps.{Begun, Control, Ev}
 use Rattle.c_model.specs.World.{World}
 use Rattle.run_code.specs.declared.nodes.NodeInfo.{NodeInfo}
 use Rattle.run_code.specs.declared.steps.Expression.{Expression as Laid}
 use Rattle.run_statements.specs.declared.numbers.Numbers.{Numbers}
 use Rattle.run_state.specs.declared.halt.Halt.{Halt}
+use Rattle.run_state.specs.declared.halt.Halt.TheVariants as halt
 use Rattle.run_state.specs.declared.machine.Machine.{Machine}
 use Rattle.run_state.specs.declared.machine.Stage.{Stage}
 use Rattle.run_machine.specs.declared.pick.Pick.{Pick}
 use Rattle.run_machine.specs.declared.pick.Pick.TheVariants as pick
 use Rattle.run_machine.specs.Answering.{Answers, AnswersCanonical, MayGoOn, newest_items}
 use Rattle.run_machine.specs.Keeping.{KeepsPick}
+use Rattle.run_machine.specs.Library.{AnswersNextLibrary, MayCallLibraryNext}
 use Rattle.run_machine.specs.Starting.{AnswersNextBody, AnswersNextCall, MayCallNext, MayStartNext, numbered}
 use Rattle.run_machine.specs.Taking.{AnswersNext, MayTakeNext, untouched}
 use Rattle.code_view.specs.Numbering.{meaning_of}
@@ -48,6 +55,20 @@ module _ (world : World) (p : Program) (numbers : Numbers) (n : ℕ) (new : Mach
   Comes (Ok (pick.Event event completed (Some status))) o = HasEnded status o
   Comes (Err e) o = Answers world (meaning_of p numbers new.code.now) (Err e) new o
 
+  -- Of the body of a call of a library function, whose items the machine has with what is read of a string in one range.
+  abbrev pub GoesOnJoined : LibFunc → Outcome → Type 0
+  GoesOnJoined f o = (after : State) × (o ≡ Running after) × (new.items ≡ items_of f (newest_items after.trace)) × IsGoing world p numbers new after (suc n)
+
+  abbrev pub ComesOfLibrary : LibFunc → Result Pick Halt → Outcome → Type 0
+  ComesOfLibrary f (Ok (pick.Event event completed None)) o = GoesOnJoined f o
+  ComesOfLibrary f (Ok (pick.Event event completed (Some status))) o = HasEnded status o
+  ComesOfLibrary f (Ok (pick.Starts event)) o = ⊥
+  ComesOfLibrary f (Ok (pick.Step status)) o = ⊥
+  ComesOfLibrary f (Err (halt.Raised event line clause)) o = (trace : List Entry) × (o ≡ Raises clause trace)
+  ComesOfLibrary f (Err (halt.Over cause number)) o = o ≡ Over cause number
+  ComesOfLibrary f (Err halt.Unplaced) o = ((x : ObjName) → row_of world.rows x ≡ row_of new.memory.rows x) → o ≡ No_row
+  ComesOfLibrary f (Err halt.NoMemory) o = Unit {0}
+
 -- 2. Of a machine that is going, in a world that has the rows that it has behind the pick. What is asked of the pick stands beside.
 
 pub record GoesFrom (world : World) (p : Program) (numbers : Numbers) (old : Machine) (st : State) (n : ℕ) (new : Machine) : Type 0 where
@@ -70,6 +91,14 @@ EventComes =
     → MayTakeNext world (meaning_of p numbers old.code.now) old st e s laid
     → IsOpen world (meaning_of p numbers old.code.now) (untouched old) st e s laid firsts nodes → canonical_pick world st.top st.top.begun ≡ Ev u
     → Comes world p numbers n new r (step world st (Ev u))
+
+-- the body of a call of a function of the library, if memory isn't wanted
+abbrev pub LibraryComes : Type 0
+LibraryComes =
+    (world : World) (p : Program) (numbers : Numbers) (old new : Machine) (st : State) (n : ℕ) (e : Begun) (s : Stage) (laid : Laid) (u : Place)
+    (r : Result Pick Halt) → AnswersNextLibrary old new r → GoesFrom world p numbers old st n new → Extends new.memory.rows world.rows
+    → MayCallLibraryNext world (meaning_of p numbers old.code.now) old st e s laid → canonical_pick world st.top st.top.begun ≡ Ev u
+    → (r ≡ Err halt.NoMemory) ⊎ ((f : LibFunc) × ComesOfLibrary world p numbers n new f r (step world st (Ev u)))
 
 -- the body of an isolated initializer
 abbrev pub InitializerComes : Type 0

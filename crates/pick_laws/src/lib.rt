@@ -4,7 +4,7 @@
 #![tactic(auto)]
 
 ghost use Rattle.pick_laws.specs.Next.{EventIsNext};
-ghost use Rattle.pick_laws.specs.Picks.{ControlComes, EventComes, InitializerComes, CallComes};
+ghost use Rattle.pick_laws.specs.Picks.{ControlComes, EventComes, LibraryComes, InitializerComes, CallComes};
 
 use going_laws::law_going;
 use run_laws::law_given;
@@ -12,10 +12,12 @@ use run_machine::law_picks;
 
 /// What run_machine promises of a canonical pick, of a machine that is going and can take it, comes to the outcome of the definitions' step: the run goes on
 /// and the machine is going again, or it ends with its status and what was written, raises the clause, passes the limit, or needs a row that isn't there. So
-/// it is of control steps (`control`), of events that aren't bodies (`events`), and of bodies that start frames (`initializers`, `calls`).
+/// it is of control steps (`control`), of events that aren't bodies (`events`), of bodies of calls of the library (`libraries`), and of bodies that start
+/// frames (`initializers`, `calls`).
 pub fn law_pick()
     ensures control { ControlComes }
     ensures events { EventComes }
+    ensures libraries { LibraryComes }
     ensures initializers { InitializerComes }
     ensures calls { CallComes }
 {

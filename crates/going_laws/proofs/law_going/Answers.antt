@@ -1,8 +1,12 @@
+use Rattle.going_laws.proofs.Library.{libraries_go}
 use Rattle.going_laws.proofs.Laws.{calls_go, events_go, initializers_go, steps_go}
 use Rattle.going_laws.proofs.law_going.Goals as goal
 
 pub returns-clause-events : goal.returns-clause-events
 returns-clause-events c = events_go c.law_scoped.ensures.scoped c.law_ordered.ensures.keeps c.law_reached.ensures.keeps c.law_open.ensures.stays
+
+pub returns-clause-libraries : goal.returns-clause-libraries
+returns-clause-libraries c = libraries_go c.law_scoped.ensures.scoped c.law_ordered.ensures.keeps c.law_reached.ensures.keeps
 
 pub returns-clause-initializers : goal.returns-clause-initializers
 returns-clause-initializers c = initializers_go c.law_scoped.ensures.scoped c.law_ordered.ensures.keeps c.law_reached.ensures.canonical
