@@ -3,11 +3,11 @@
 //! A law function takes nothing and answers nothing: its contract is a law about the definitions.
 #![tactic(auto)]
 
-ghost use Rattle.pick_laws.specs.Next.{EventIsNext};
+ghost use Rattle.pick_laws.specs.Next.{EventIsNext, InitializerIsNext, CallIsNext};
 ghost use Rattle.pick_laws.specs.Picks.{ControlComes, EventComes, LibraryComes, InitializerComes, CallComes};
 
 use going_laws::law_going;
-use run_laws::law_given;
+use run_laws::{law_calls, law_given, law_initial};
 use run_machine::law_picks;
 
 /// What run_machine promises of a canonical pick, of a machine that is going and can take it, comes to the outcome of the definitions' step: the run goes on
@@ -24,10 +24,15 @@ pub fn law_pick()
     law_going();
 }
 
-/// The event that is the canonical pick of such a machine may be taken, where it isn't a body.
+/// The event that is the canonical pick of such a machine may be taken: one that isn't a body (`events`), that of an isolated initializer, which has the
+/// number of the full expression of its own tree (`initializers`), and that of a call of a function that is none of the library (`calls`).
 pub fn law_next()
-    ensures { EventIsNext }
+    ensures events { EventIsNext }
+    ensures initializers { InitializerIsNext }
+    ensures calls { CallIsNext }
 {
     law_given();
+    law_initial();
+    law_calls();
     law_picks();
 }
