@@ -199,7 +199,7 @@ module _ (rows : List Row) (x : ObjName) (s : Store) (d : Decl) (fresh : IsFresh
   put_by (access.Whole size align) Nothing long even suits fits = nothing
 
   put_does : (v : Value) → TakesValue rows x d v → IsDone rows (put rows true d.access d.ty there v) s
-  put_does v takes = put_by d.access v takes.size takes.align takes.suits takes.value
+  put_does v takes = put_by d.access v takes.size takes.align takes.suits (takes.value fresh.placed)
 
 -- ---- one after the other
 still_fresh : (rows : List Row) (s t : Store) (x : ObjName) (d : Decl) → ((y : ObjName) → t.life y ≡ s.life y) → IsFresh rows s x d → IsFresh rows t x d

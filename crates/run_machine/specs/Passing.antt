@@ -11,7 +11,7 @@ use Rattle.c_types.specs.Types.{CType, int}
 use Rattle.c_typed.specs.declared.tree.Access.{Access}
 use Rattle.c_typed.specs.declared.tree.Access.TheVariants as access
 use Rattle.c_typed.specs.Lawful.{ContentIsLawful}
-use Rattle.mem_spec.specs.Acts.{Seen, base_in, scalar, suits_store, whole}
+use Rattle.mem_spec.specs.Acts.{Seen, base_in, has_place, scalar, suits_store, whole}
 use Rattle.mem_spec.specs.Agreement.{bytes_of_kind}
 use Rattle.mem_spec.specs.Script.{Script, Give, Done, Raised, run, ◌>>◌}
 use Rattle.prov_memory.specs.declared.value.Value.{Value as Kept_value}
@@ -132,12 +132,13 @@ abbrev pub FitsAt : Access → (address : ℕ) → Value → Type 0
 FitsAt (access.Whole size align) a (model.Whole bs source) = (length bs ≡ size) × (overlap_inexactly size a source ≡ false)
 FitsAt how a v = Unit {0}
 
--- An object of this declaration and name takes the value: the declaration's access has the object's size and alignment, and suits its type (6.5p7).
+-- An object of this declaration and name takes the value: the declaration's access has the object's size and alignment, and suits its type (6.5p7); and
+-- where the object has its place, the value fits there.
 pub record TakesValue (rows : List Row) (x : ObjName) (d : Decl) (v : Value) : Type 0 where
   pub size : size_by d.access ≡ d.size
   pub align : align_by d.access ≡ d.align
   pub suits : suits_store (seen_by d.access d.ty) d.form 0 ≡ true
-  pub value : FitsAt d.access (base_in (row_of rows x)) v
+  pub value : has_place (row_of rows x) d.size d.align ≡ true → FitsAt d.access (base_in (row_of rows x)) v
 
 -- each row keeps the rules of an address map
 abbrev pub RowsAreLawful : List Row → Type 0

@@ -1,0 +1,9 @@
+pub mod Counts
+pub mod Lawful
+pub mod Nodes
+pub mod Given
+pub mod Frames
+pub mod States
+pub mod Objects
+pub mod Taken
+pub mod Laws
