@@ -1,14 +1,13 @@
 -- What picks do to a frame that has its arguments.
-use Rattle.std.proofs.Common.{◌≡◌, ℕ, suc, Bool, true, false, ◌==◌, if◌then◌else◌, List, [], ◌∷◌, map, Option, Some, None, refl, sym, ap, ◌∙◌, subst}
+use Rattle.std.proofs.Common.{◌≡◌, ℕ, Bool, true, false, ◌==◌, if◌then◌else◌, List, [], ◌∷◌, map, Option, Some, None, refl, ap, ◌∙◌, subst}
 use Rattle.std.specs.Prelude.{slice_get}
-use Rattle.c_types.specs.Types.{Params}
 use Rattle.c_typed.specs.declared.tree.Place.{Place}
 use Rattle.c_model.specs.Control.{Todo, Begin, Enter, Leave, Unwrite, Nothing_to_do, Go_to, Go_out, Go_on, Go_back, To_do, Rest, Round, Again, Test}
 use Rattle.c_model.specs.Control.{Break_here, ready_work, to_label}
-use Rattle.c_model.specs.Moves.{Move, Stay, Start, End}
+use Rattle.c_model.specs.Moves.{Move, Stay, End}
 use Rattle.c_model.specs.OpenBlocks.{Closes}
 use Rattle.c_model.specs.Program.{Decl, Function, Stmt}
-use Rattle.c_model.specs.Steps.{Begun, Local, body_of, control_move, control_next, ends_with, found_label, root_value, settled, with_given, without_block}
+use Rattle.c_model.specs.Steps.{Begun, Local, body_of, control_move, control_next, found_label, root_value, settled, with_given, without_block}
 use Rattle.c_model.specs.Values.{Value, integer_of, truth}
 use Rattle.c_model.specs.World.{World}
 use Rattle.frame_laws.specs.Facts.{IsAtLeave}
@@ -38,11 +37,10 @@ leaves_none b ds rest (o ∷ os) closes outermost none = go (o.0 == b) none
     go false e = absurd (cc (e))
 
 ends_not : (world : World) (b : ℕ) (ds : List Decl) (rest : Todo) → control_move world (Leave b ds ∷ rest) ≡ Stay → rest ≡ [] → ⊥
-ends_not world b ds rest stays none =
-    no_end (sym (ap (λ (r : Todo). control_move world (Leave b ds ∷ r)) none) ∙ stays)
+ends_not world b ds rest stays none = no_end (control_move world (Leave b ds ∷ rest)) (ap (λ (r : Todo). control_move world (Leave b ds ∷ r)) none) stays
   where
-    no_end : Move.End {F = Local} ≡ Stay → ⊥
-    no_end e = cc (e)
+    no_end : (m : Move Local) → m ≡ End → m ≡ Stay → ⊥
+    no_end m a e = cc (a, e)
 
 module _ (size : Sizes) (world : World) where
   -- while no block of a function's frame is open yet, it has an argument for each parameter

@@ -1,5 +1,5 @@
 -- The arguments of a call: as many as parameters, each of its size.
-use Rattle.std.proofs.Common.{◌≡◌, ℕ, suc, ◌+◌, true, false, List, [], ◌∷◌, Option, sym, subst}
+use Rattle.std.proofs.Common.{ℕ, ◌+◌, true, false, List, [], ◌∷◌, Option, Some, None, subst}
 use Rattle.c_types.specs.Types.{CType, void, int, enumeration, pointer, array, struct, union, function, Params, Compatible, EachMatches}
 use Rattle.c_types.specs.Types as types
 use Rattle.c_typed.specs.declared.tree.Place.{Place}
@@ -9,10 +9,14 @@ use Rattle.c_model.specs.Steps.{Scene, values_of}
 use Rattle.c_model.specs.Values.{Value}
 use Rattle.c_model.specs.World.{World}
 use Rattle.value_laws.specs.Parameters.{AreKept, Passes, parameters}
-use Rattle.value_laws.specs.Sizes.{ArePassed, ArgumentsFit, HasSize, Sizes, type_of}
-use Rattle.value_laws.proofs.Acts.{keeps_size}
+use Rattle.value_laws.specs.Sizes.{ArePassed, ArgumentsFit, HasSize, Keeps, Sizes, type_of}
 use Rattle.value_laws.proofs.Nodes.{OperandsFit, here_fits, later_fit, value_size}
 use Rattle.argument_laws.proofs.Counts.{AreAsMany, CallCounts}
+
+-- what has the first size has the second one
+keeps_size : (a b : Option ℕ) (v : Value) → Keeps a b → HasSize a v → HasSize b v
+keeps_size a None v k h = tt
+keeps_size a (Some n) v k h = subst (λ z. HasSize z v) k h
 
 module _ (size : Sizes) where
   -- a value of its size for each parameter

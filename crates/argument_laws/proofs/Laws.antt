@@ -1,15 +1,12 @@
 -- The laws of arguments.
-use Rattle.std.proofs.Common.{◌≡◌, ◌⊎◌, inl, inr, arith, ℕ, zero, suc, Bool, true, false, List, [], ◌∷◌, length, map, Option, Some, None, ℤ}
+use Rattle.std.proofs.Common.{◌≡◌, ◌⊎◌, inl, inr, ℕ, zero, suc, Bool, true, false, List, [], ◌∷◌, length, map, Option, Some, None, ℤ}
 use Rattle.std.proofs.Common.{refl, sym, ap, ◌∙◌, subst}
 use Rattle.std.specs.Prelude.{slice_get}
 use Rattle.std.proofs.lemmas.List.{length-map}
 use Rattle.std.proofs.lemmas.Option.{same_Some}
 use Rattle.ub_base.specs.declared.names.ObjName.{ObjName}
-use Rattle.addr_map.specs.declared.map.Row.{Row}
-use Rattle.addr_map.specs.Rows.{row_of}
 use Rattle.addr_map.specs.Sound.{Apart}
 use Rattle.exposure.specs.declared.prov.Prov.{Prov}
-use Rattle.c_types.specs.Same.{compatible}
 use Rattle.c_types.specs.declared.ty.FuncTy.{FuncTy, fold_out-FuncTy, out-FuncTy}
 use Rattle.c_types.specs.Types.{CType, Params, Qualified, Signature, func_step, params_of, qual_step, qualified_of, signature_of, ty_step}
 use Rattle.c_types.specs.Types as types
@@ -18,11 +15,10 @@ use Rattle.c_typed.specs.declared.program.Program.{Program}
 use Rattle.c_typed.specs.declared.tree.Place.{Place}
 use Rattle.c_typed.specs.Lawful as lawful
 use Rattle.c_typed.specs.Lawful.{FunctionIsLawful, IsLawful, IsMainType, There}
-use Rattle.c_model.specs.Control.{Todo, Enter, To_do, opened, ready_work}
-use Rattle.c_model.specs.Libraries.{library}
+use Rattle.c_model.specs.Control.{Todo, Enter, opened, ready_work}
 use Rattle.c_model.specs.Program as model
 use Rattle.c_model.specs.Program.{Decl, Stmt}
-use Rattle.c_model.specs.Runs.{Running, State, main_frame, start, step, work_of}
+use Rattle.c_model.specs.Runs.{Running, State, main_frame, start, work_of}
 use Rattle.c_model.specs.Steps.{Local, body_of}
 use Rattle.c_model.specs.Values as values
 use Rattle.c_model.specs.Values.{Value, Whole}
@@ -182,7 +178,7 @@ module _ (laws : Laws) (world : World) (p : Program) (r : RunsLawful world p) wh
   main_own strings = record {
     todo = work_counts (body_of world (Some world.program.main)) (body_counts p world usable (Some world.program.main));
     begun = λ e q. absurd (cc (q));
-    given = λ n fun open is at.
+    given = λ n fun shut is at.
         let same : world.program.main ≡ n = cc (is) in
         main_given strings fun (ap (slice_get world.program.functions) same ∙ at);
   }
@@ -206,11 +202,11 @@ module _ (laws : Laws) (world : World) (p : Program) (r : RunsLawful world p) wh
   -- ---- the count
   count_so : (st : State) (n : ℕ) (f : Function) → IsReached world p st → st.top.scene.blocks ≡ [] → st.top.function ≡ Some n
       → slice_get p.functions n ≡ Some f → length st.top.arguments ≡ length (out-FuncTy f.ty).params
-  count_so st n f h open is at =
+  count_so st n f h shut is at =
       let own = (reached_own st h).top in
       let there : slice_get world.program.functions n ≡ Some (function_of p.tags f) =
       subst (λ (fs : List model.Function). slice_get fs n ≡ Some (function_of p.tags f)) (sym r.functions) (seen_at p.functions n f at) in
-      parameters_count size f.ty st.top.arguments (own.given n (function_of p.tags f) open is there)
+      parameters_count size f.ty st.top.arguments (own.given n (function_of p.tags f) shut is there)
     where
       seen_at : (fs : List Function) (n : ℕ) (f : Function) → slice_get fs n ≡ Some f
           → slice_get (map (function_of p.tags) fs) n ≡ Some (function_of p.tags f)
@@ -285,7 +281,7 @@ module _ (laws : Laws) (world : World) (p : Program) (r : RunsLawful world p) wh
         go (inr i) = absurd (none_there st.top.arguments k v i.arguments is)
 
 pub arguments_are_there : Laws → ArgumentsAreThere
-arguments_are_there laws world p st n f h open is at = count_so laws world p h.of_program st n f h.reached open is at
+arguments_are_there laws world p st n f h shut is at = count_so laws world p h.of_program st n f h.reached shut is at
 
 pub arguments_are_taken : Laws → ArgumentsAreTaken
 arguments_are_taken laws world p st b ds rest h placed apart next k d v x at is =

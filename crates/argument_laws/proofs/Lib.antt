@@ -3,6 +3,7 @@ pub mod Lawful
 pub mod Nodes
 pub mod Given
 pub mod Frames
+pub mod Linked
 pub mod States
 pub mod Objects
 pub mod Taken

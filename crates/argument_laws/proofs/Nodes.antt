@@ -1,5 +1,5 @@
 -- The nodes of a full expression whose calls pass as many arguments as they should.
-use Rattle.std.proofs.Common.{ℕ, suc, ◌+◌, Bool, true, false, if◌then◌else◌, ◌==◌, Option, Some, None}
+use Rattle.std.proofs.Common.{ℕ, suc, ◌+◌, Bool, true, false, if◌then◌else◌, ◌==◌, Some}
 use Rattle.std.specs.Prelude.{nat_lt}
 use Rattle.c_typed.specs.Tree.{size}
 use Rattle.c_model.specs.Program.{Expr, expr, Exprs, none, more, tree_of}

@@ -1,5 +1,5 @@
 -- The object of a parameter takes a value of its type.
-use Rattle.std.proofs.Common.{◌≡◌, ◌<◌, arith, ℕ, Bool, true, false, ◌&&◌, ◌==◌, if◌then◌else◌, List, length, Option, Some, None, inl, refl, sym, ap, subst}
+use Rattle.std.proofs.Common.{◌≡◌, ◌<◌, arith, ℕ, Bool, true, false, ◌&&◌, ◌==◌, List, length, Option, Some, None, inl, refl, sym, subst}
 use Rattle.std.proofs.lemmas.Bool.Decides.{nat_tests}
 use Rattle.ub_base.specs.declared.names.ObjName.{ObjName}
 use Rattle.addr_map.specs.declared.map.Row.{Row}
@@ -13,12 +13,10 @@ use Rattle.c_types.specs.Same.{agrees}
 use Rattle.c_types.specs.Types.{CType, void, int, enumeration, pointer, array, struct, union, function, EachMatches, Matches, Params, Qualified, SizesAgree}
 use Rattle.c_types.specs.Types as types
 use Rattle.c_types.proofs.SameTests.{agrees_tells}
-use Rattle.c_typed.specs.declared.tree.Access.{Access}
 use Rattle.c_typed.specs.declared.tree.Access.TheVariants as access
 use Rattle.c_typed.specs.Lawful.{IsNoArray, IsSized, There}
 use Rattle.mem_spec.specs.Acts.{base_in, has_place, suits_store}
 use Rattle.mem_spec.specs.Agreement.{bytes_of_kind}
-use Rattle.mem_spec.specs.Store.{TaggedByte}
 use Rattle.c_model.specs.Nodes.{overlap_inexactly}
 use Rattle.c_model.specs.Values as model
 use Rattle.c_model.specs.Values.{Value, Whole}
@@ -165,8 +163,7 @@ module _ (tags : List Tag) where
         go None at placed = absurd (cc (placed))
         go (Some r) at placed =
             let long : r.size ≡ e.size = (let first = both (r.size == e.size) (r.align == e.align) placed in grind (arith, nat_tests, first)) in
-            let exact : length bs ≡ r.size = (let k = h in omega (arith, k, long)) in
-            (
+            let exact : length bs ≡ r.size = (let k = h in omega (arith, k, long)) in (
               h,
               subst (λ (n : ℕ). overlap_inexactly n (base_in (row_of rows x)) source ≡ false) h
                   (subst (λ (z : Option Row). overlap_inexactly (length bs) (base_in z) source ≡ false) (sym at) (a r at exact)),

@@ -1,28 +1,29 @@
 -- In each state of a run of a lawful program each frame has its arguments.
-use Rattle.std.proofs.Common.{◌≡◌, ℕ, suc, Bool, true, false, if◌then◌else◌, List, [], ◌∷◌, map, Option, Some, None, is_some, refl, sym, ap, ◌∙◌, subst}
+use Rattle.std.proofs.Common.{◌≡◌, ◌+◌, ℕ, suc, Bool, true, false, if◌then◌else◌, List, [], Option, Some, None, is_some, refl, sym, ap, ◌∙◌, subst}
 use Rattle.std.specs.Prelude.{slice_get}
 use Rattle.ub_base.specs.declared.clause.Kind.TheVariants.{Val}
+use Rattle.ub_base.specs.declared.names.Event.{Event}
 use Rattle.ub_base.specs.declared.names.Item.{Item}
-use Rattle.c_types.specs.Types.{CType, void, int, enumeration, pointer, array, struct, union, function, Compatible, Params, Signature}
+use Rattle.c_types.specs.Types.{CType, void, int, enumeration, pointer, array, struct, union, function, Compatible, Signature}
 use Rattle.c_typed.specs.declared.program.Program.{Program}
 use Rattle.c_typed.specs.declared.tree.Place.{Place}
 use Rattle.c_typed.specs.Order.{is_body, place}
 use Rattle.c_typed.specs.Tree.{size as count}
-use Rattle.mem_spec.specs.Script.{Done, run}
+use Rattle.mem_spec.specs.Script.{Done, Script, run}
 use Rattle.mem_spec.specs.Store.{Store}
-use Rattle.c_model.specs.Control.{ready_work}
 use Rattle.c_model.specs.Moves.{Move, Stay, Start}
 use Rattle.c_model.specs.Program.{Call, Expr, expr, Exprs, none, more, Function, Head, Isolated, Stmt, tree_of}
 use Rattle.c_model.specs.Runs.{Running, State, step}
-use Rattle.c_model.specs.Steps.{Begun, Control, Ev, Local, Pick, Scene, at_node, body_frame, body_of, called_by, does, event_act, first_type, move, move_of}
-use Rattle.c_model.specs.Steps.{next, own_body, start_call, started, target, values_of}
-use Rattle.c_model.specs.Values.{Value, later_values}
+use Rattle.c_model.specs.Nodes.{act_of}
+use Rattle.c_model.specs.Steps.{Begun, Control, Ev, Local, Pick, Scene, at_node, body_frame, body_of, call_act, called_by, does, event_act, event_of}
+use Rattle.c_model.specs.Steps.{first_type, move, move_of, next, operand_values, own_body, own_kind, start_call, started, target, values_of}
+use Rattle.c_model.specs.Values.{Value, later_values, or_nothing}
 use Rattle.c_model.specs.World.{World}
 use Rattle.program_view.specs.View.{type_by}
 use Rattle.static_laws.specs.LawfulSizes.{IsFunctionOf, IsProgramOf}
 use Rattle.frame_laws.specs.Frames.{AreOrdered, IsScoped}
 use Rattle.frame_laws.proofs.StateKeeps.{steps_ordered}
-use Rattle.value_facts.specs.Constants.{EachLeft, EachOf}
+use Rattle.value_facts.specs.Constants.{EachOf}
 use Rattle.value_facts.proofs.Steps.{has_gone, moved_keeps}
 use Rattle.value_laws.specs.Layouts.{laid_out}
 use Rattle.value_laws.specs.Parameters.{Passes, ProgramTakes, parameters}
@@ -30,12 +31,11 @@ use Rattle.value_laws.specs.Sizes.{ArgumentsFit, ProgramFits, Sizes, behind_firs
 use Rattle.value_laws.proofs.Frames.{BegunFits, IsFunction, Linked, body_there, function_there}
 use Rattle.value_laws.proofs.Nodes.{OperandsFit, inside, later_fit, node_fits}
 use Rattle.value_laws.proofs.Orders.{OutcomeFits, StateFits, step_fits}
-use Rattle.value_laws.proofs.Picks.{EventIs, event_gives}
-use Rattle.value_laws.proofs.Scripts.{Gave, run_gave}
 use Rattle.argument_laws.proofs.Counts.{CallCounts, CountsIf, ExprCounts}
-use Rattle.argument_laws.proofs.Frames.{HasItsOwn, HaveTheirOwn, IsGiven, control_own, given_own, settled_own}
+use Rattle.argument_laws.proofs.Frames.{HasItsOwn, HaveTheirOwn, control_own, given_own, settled_own}
 use Rattle.argument_laws.proofs.Given.{AreGiven, call_given}
 use Rattle.argument_laws.proofs.Lawful.{made_counts}
+use Rattle.argument_laws.proofs.Linked.{call_linked}
 use Rattle.argument_laws.proofs.Nodes.{node_counts}
 
 own_is : (c : Function) (s : Stmt) → own_body c ≡ Some s → c.body ≡ Some s
@@ -90,7 +90,7 @@ module _ (p : Program) (world : World) (usable : IsUsable p world) where
   fresh_frame f k c vs there (Some s) e given = record {
     todo = (function_counts c.0 c.1 s there (own_is c.1 s e), tt);
     begun = λ b q. absurd (cc (q));
-    given = λ n fun open is at.
+    given = λ n fun shut is at.
         let here = sym there ∙ (ap (slice_get world.program.functions) (same_number c.0 n is) ∙ at) in
         subst (λ (g : Function). AreGiven size (parameters g.ty) vs) (same_function c.1 fun here) (given s (own_is c.1 s e));
   }
@@ -145,33 +145,43 @@ module _ (p : Program) (world : World) (usable : IsUsable p world) where
         (passes_by c.0 c.1 s there body (target (first_type es)) l.0 l.1)
         (agreed_types c.1 (usable.made.functions c.0 c.1 there) (target (first_type es)) l.0 l.1))
 
-    head_starts : (h : Head) (ty : CType) (line : ℕ) (es : Exprs) → at_node 0 b.root u.node ≡ Some (expr h ty line es)
-        → Linked size world h es (values_of world f b.given (suc u.node) es) → StartsOwn (started world f u.node h (values_of world f b.given (suc u.node) es))
-    head_starts (Call d) ty line es q link = call_starts d ty line es q link (called_by world (values_of world f b.given (suc u.node) es)) refl
-    head_starts (Isolated x) ty line es q link =
-        let counted : CountsIf (Some (expr (Isolated x) ty line es)) = subst CountsIf q (node_counts 0 b.root u.node counts) in
-        record { todo = ((counted.1.0, tt), tt); begun = λ c r. absurd (cc (r)); given = λ n fun e r at. absurd (cc (r)) }
-    head_starts h ty line es q link = tt
+    -- a body that ran starts such a frame
+    module _ (who : Event) (s t : Store) (v : Value) (is : List Item) where
+      head_starts : (h : Head) (ty : CType) (line : ℕ) (es : Exprs) → at_node 0 b.root u.node ≡ Some (expr h ty line es)
+          → run world.rows (call_act world who h es (values_of world f b.given (suc u.node) es)) s ≡ Done v is t
+          → StartsOwn (started world f u.node h (values_of world f b.given (suc u.node) es))
+      head_starts (Call d) ty line es q ran =
+          call_starts d ty line es q (call_linked size world who d es (values_of world f b.given (suc u.node) es) s t v is ran)
+          (called_by world (values_of world f b.given (suc u.node) es)) refl
+      head_starts (Isolated x) ty line es q ran =
+          let counted : CountsIf (Some (expr (Isolated x) ty line es)) = subst CountsIf q (node_counts 0 b.root u.node counts) in
+          record { todo = ((counted.1.0, tt), tt); begun = λ c r. absurd (cc (r)); given = λ n fun e r at. absurd (cc (r)) }
+      head_starts h ty line es q ran = tt
 
-    move_starts : (o : Option Expr) → at_node 0 b.root u.node ≡ o → (v : Value) → EventIs size world f b u o v → StartsOwn (move_of world f b u o)
-    move_starts None q v k = tt
-    move_starts (Some (expr h ty line es)) q v k = go (is_body u.kind) refl
+    move_starts : (o : Option Expr) → at_node 0 b.root u.node ≡ o → (s t : Store) (v : Value) (is : List Item)
+        → run world.rows (event_act world f b u o) s ≡ Done v is t → StartsOwn (move_of world f b u o)
+    move_starts None q s t v is ran = tt
+    move_starts (Some (expr h ty line es)) q s t v is ran = go (is_body u.kind) ran
       where
-        go : (c : Bool) → is_body u.kind ≡ c → StartsOwn (if c then started world f u.node h (values_of world f b.given (suc u.node) es) else Stay)
-        go true e = head_starts h ty line es q (k.1 e)
-        go false e = tt
+        vs : List Value
+        vs = values_of world f b.given (suc u.node) es
+
+        act : Script Value
+        act = act_of world.rows (event_of world f u) h (target (first_type es)) u.kind (operand_values world f b.given (suc u.node) h es)
+            (or_nothing (b.given (place u.node (own_kind u.kind))))
+
+        go : (c : Bool) → run world.rows (if c then call_act world (event_of world f u) h es vs else act) s ≡ Done v is t
+            → StartsOwn (if c then started world f u.node h vs else Stay)
+        go true r = head_starts (event_of world f u) s t v is h ty line es q r
+        go false r = tt
 
   event_starts : (st : State) → StateFits size world st → HasItsOwn size world st.top → (o : Option Begun) → st.top.begun ≡ o → (u : Place) (v : Value)
       (is : List Item) (s : Store) → run world.rows (does world st.top o (Ev u)) st.store ≡ Done v is s → (g : Local)
       → move world st.top o (Ev u) ≡ Start g → HasItsOwn size world g
   event_starts st fits own None e u v is s ran g q = absurd (cc (q))
   event_starts st fits own (Some b) e u v is s ran g q =
-      let begun = fits.top.begun b e in
-      let gave = run_gave world.rows (EventIs size world st.top.scene b u (at_node 0 b.root u.node))
-      (event_act world st.top.scene b u (at_node 0 b.root u.node)) st.store
-      (event_gives size world usable.fits fits.result st.top.scene b begun u (at_node 0 b.root u.node) refl) in
-      let is_so = subst (Gave world.rows (EventIs size world st.top.scene b u (at_node 0 b.root u.node))) ran gave in
-      subst StartsOwn q (move_starts st.top.scene b fits.result begun (own.begun b e).0 u (at_node 0 b.root u.node) refl v is_so)
+      subst StartsOwn q
+      (move_starts st.top.scene b fits.result (fits.top.begun b e) (own.begun b e).0 u (at_node 0 b.root u.node) refl st.store s v is ran)
 
   -- ---- the frame behind a pick
   frame_on : (f : Local) (hs : List (Local × Place)) → AreOrdered world f hs → HasItsOwn size world f → (o : Option Begun) → f.begun ≡ o → (q : Pick)

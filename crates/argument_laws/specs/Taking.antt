@@ -1,5 +1,5 @@
 -- Which values the object of a parameter takes (6.5.2.2p4, 6.9.1p10).
-use Rattle.std.specs.Prelude.{◌≡◌, ℕ, true, false, List, length, Some, None}
+use Rattle.std.specs.Prelude.{◌≡◌, ℕ, true, false, List, length}
 use Rattle.ub_base.specs.declared.names.ObjName.{ObjName}
 use Rattle.addr_map.specs.declared.map.Row.{Row}
 use Rattle.addr_map.specs.Rows.{row_of}
