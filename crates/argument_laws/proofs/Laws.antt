@@ -262,8 +262,8 @@ module _ (laws : Laws) (world : World) (p : Program) (r : RunsLawful world p) wh
         let given = subst (λ (g : model.Function). AreGiven size (parameters g.ty) st.top.arguments) (sym of.2)
         (keeps.top.given n it.function fresh.blocks function it.there) in
         let body_is = ap (λ (g : model.Function). g.body) of.2 ∙ (it.defines ∙ ap Some (same ∙ block.1)) in
-        body_takes laws.text p world.rows x of.0 b ds block.0 st.top.arguments (lawful_at p p.functions n of.0 of.1 r.lawful.functions) body_is given k d v at is
-        (lies_apart st x placed apart k v is)
+        let law = lawful_at p p.functions n of.0 of.1 r.lawful.functions in
+        body_takes laws.text p world.rows x of.0 b ds block.0 st.top.arguments law body_is given k d v at is (lies_apart st x placed apart k v is)
 
     function_takes : IsOfFunction world st.top → TakesArgument world.rows x d v
     function_takes f = go f.stage

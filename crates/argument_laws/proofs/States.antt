@@ -191,7 +191,8 @@ module _ (p : Program) (world : World) (usable : IsUsable p world) where
   frame_on f hs ordered h (Some b) e Control v stays = settled_own size world f h b e
   frame_on f hs ordered h (Some b) e (Ev u) v stays = given_own size world f h b e u v
 
-  frame_back : (f : Local) → HasItsOwn size world f → (o : Option Begun) → f.begun ≡ o → (u : Place) (v : Value) → HasItsOwn size world (next world f o (Ev u) v)
+  frame_back : (f : Local) → HasItsOwn size world f → (o : Option Begun) → f.begun ≡ o → (u : Place) (v : Value)
+      → HasItsOwn size world (next world f o (Ev u) v)
   frame_back f h None e u v = h
   frame_back f h (Some b) e u v = given_own size world f h b e u v
 

@@ -10,3 +10,4 @@ mod Held
 mod Top
 mod Steps
 mod Settles
+mod Arguments

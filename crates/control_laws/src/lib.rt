@@ -4,7 +4,9 @@
 #![tactic(auto)]
 
 ghost use Rattle.control_laws.specs.Control.{ControlGoesOn, OpenStandsSo};
+ghost use Rattle.control_laws.specs.Asked.{ArgumentsAreAsked};
 
+use argument_laws::law_arguments;
 use code_view::{law_blocks, law_labels, law_named, law_views};
 use program_view::law_view;
 use run_laws::law_asked;
@@ -32,4 +34,12 @@ pub fn law_open_frame()
     law_named();
     law_views();
     law_asked();
+}
+
+/// What is asked where a block is entered next (`AsksOfEnter`) holds in each state of a run of a lawful program: the frame has an argument for each parameter,
+/// and each is one that its object takes (6.5.2.2p2, 6.5.2.2p4, 6.9.1p10).
+pub fn law_entered_arguments()
+    ensures { ArgumentsAreAsked }
+{
+    law_arguments();
 }
