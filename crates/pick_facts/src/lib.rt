@@ -7,10 +7,11 @@ ghost use Rattle.pick_facts.specs.Asked.{EventIsAsked};
 ghost use Rattle.pick_facts.specs.Held.{StartHoldsNone, StepsHoldOneMore, CanonicalHoldsFew};
 ghost use Rattle.pick_facts.specs.Idle.{StepStaysIdle, EventLeavesNone, LibraryLeavesNone, InitializerLeavesNone, CallLeavesNone};
 
-use code_view::{law_blocks, law_constants, law_trees};
+use code_view::{law_blocks, law_constants, law_labels, law_named, law_trees, law_views};
 use control_laws::law_open_frame;
 use pick_laws::law_next;
-use run_laws::law_library_calls;
+use program_view::law_view;
+use run_laws::{law_asked, law_library_calls};
 use run_machine::{law_events, law_picks};
 use value_facts::{law_small_values, law_unresulted};
 
@@ -38,9 +39,14 @@ pub fn law_idle()
 pub fn law_event_asked()
     ensures { EventIsAsked }
 {
+    law_view();
     law_blocks();
     law_constants();
+    law_labels();
+    law_named();
     law_trees();
+    law_views();
+    law_asked();
     law_open_frame();
     law_next();
     law_library_calls();
