@@ -42,4 +42,5 @@ module _ (world : World) where
 pub canonical_holds_few : CanonicalHoldsFew
 canonical_holds_few world input vs n st after begins goes =
     let none = start_holds_none world input vs st begins in
-    few_after world n 0 st after (omega (arith, none)) goes
+    let few = few_after world n 0 st after (omega (arith, none)) goes in
+    omega (arith, few)

@@ -4,7 +4,7 @@ use Rattle.pick_facts.proofs.law_event_asked.Goals as goal
 
 pub returns : goal.returns
 returns c =
-    event_asked record {
+    event_asked (record {
       laws =
           laws_of c.law_view.ensures.text c.law_blocks.ensures.stand c.law_blocks.ensures.there c.law_blocks.ensures.expressions c.law_labels.ensures
           c.law_named.ensures.placed c.law_views.ensures c.law_named.ensures.root c.law_asked.ensures.code c.law_asked.ensures.labels;
@@ -20,4 +20,4 @@ returns c =
       call = c.law_next.ensures.calls;
       library = c.law_library_calls.ensures.next;
       follows = c.law_picks.ensures.follows;
-    }
+    })
