@@ -43,8 +43,8 @@ EventLeavesNone =
 abbrev pub LibraryLeavesNone : Type 0
 LibraryLeavesNone =
     (world : World) (meaning : Option ℕ → Meaning) (old new : Machine) (st : State) (e : Begun) (s : Stage) (laid : Laid) (u : Place)
-    (event : Event) (completed : Completed) → AnswersNextLibrary old new (Ok (pick.Event event completed None)) → MayCallLibraryNext world meaning old st e s laid
-    → canonical_pick world st.top st.top.begun ≡ Ev u → Extends new.memory.rows world.rows → new.left ≡ None
+    (event : Event) (completed : Completed) → AnswersNextLibrary old new (Ok (pick.Event event completed None))
+    → MayCallLibraryNext world meaning old st e s laid → canonical_pick world st.top st.top.begun ≡ Ev u → Extends new.memory.rows world.rows → new.left ≡ None
 
 -- .. or a body that starts a frame.
 abbrev pub InitializerLeavesNone : Type 0
