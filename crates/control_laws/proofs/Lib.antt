@@ -1,13 +1,13 @@
-mod Bodies
-mod Firsts
+pub mod Bodies
+pub mod Firsts
 mod Rounds
-mod Laws
-mod Seen
+pub mod Laws
+pub mod Seen
 mod Entered
 mod Updates
-mod Rooms
-mod Held
-mod Top
+pub mod Rooms
+pub mod Held
+pub mod Top
 mod Steps
-mod Settles
+pub mod Settles
 mod Arguments

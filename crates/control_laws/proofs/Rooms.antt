@@ -22,6 +22,7 @@ use Rattle.run_code.specs.declared.nodes.NodeInfo.{NodeInfo}
 use Rattle.run_code.specs.declared.steps.Expression.{Expression as Laid}
 use Rattle.run_code.specs.declared.steps.Listed.{Listed}
 use Rattle.run_code.specs.Functions.{HasExpressions, HaveExpressions, laid_in}
+use Rattle.run_code.specs.Initializers.{NumberInitializers}
 use Rattle.run_code.specs.LaidOut.{LaidOutBy}
 use Rattle.run_code.specs.Named.{IsExpressionOf}
 use Rattle.run_code.specs.OfTrees.{ListsTrees, listing_in}
@@ -42,6 +43,7 @@ use Rattle.control_laws.proofs.Updates.{own_room, room_behind}
 pub record LaysOut (m : Machine) (firsts : List ℕ) (laid : Laid) : Type 0 where
   pub nodes : List NodeInfo
   pub lays : LaidOutBy firsts nodes m.code.now.tables m.code.now.listing.items laid
+  pub initializers : NumberInitializers m.code.now nodes
 
 pub lays_out : Laws → (world : World) (p : Program) (m : Machine) (o : Open) (f : Local) (hs : List (Local × Place)) (c : OfCode world p m o f hs)
     → HaveExpressions m.code.now.tables (laid_in m.code.now) p.functions m.code.now.functions.items → (n : ℕ) (laid : Laid)
@@ -61,6 +63,7 @@ lays_out laws world p m o f hs c have n laid within at =
     record {
       nodes = it.nodes;
       lays = subst (λ (z : Laid). LaidOutBy (firsts world p m o f hs c) it.nodes m.code.now.tables m.code.now.listing.items z) same it.lays;
+      initializers = it.initializers;
     }
 
 -- a node that has a body is no update

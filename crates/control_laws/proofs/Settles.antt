@@ -60,7 +60,7 @@ name_clear m firsts bs (shape.Obj named) is = slot_clear m firsts bs named is
 name_clear m firsts bs (shape.List named bytes) is = slot_clear m firsts bs named is
 name_clear m firsts bs _ is = tt
 
-names_clear : (m : Machine) (firsts : List ℕ) (bs : List (ℕ × ℕ)) (t : Typed) → NamesAreOpen m firsts bs t
+pub names_clear : (m : Machine) (firsts : List ℕ) (bs : List (ℕ × ℕ)) (t : Typed) → NamesAreOpen m firsts bs t
     → NamesAreOpen (record m { items = [] }) firsts bs t
 names_clear m firsts bs t all =
     All-weaker (λ s. NamedIsOpen m firsts bs s.head) (λ s. NamedIsOpen (record m { items = [] }) firsts bs s.head)
@@ -82,7 +82,7 @@ keeps_here world m height o (Some r) f (Some z) s e x stage begun =
     subst (λ (k : Stage). KeepsOpen world m height o k f e) (same_Some r s stage)
     (subst (λ (k : Begun). KeepsOpen world m height o r f k) (same_Some z e begun) x)
 
-stage_there : (world : World) (meaning : Meaning) (m : Machine) (height : ℕ) (o : Open) (stage : Option Stage) (f : Scene) (b : Option Begun) (e : Begun)
+pub stage_there : (world : World) (meaning : Meaning) (m : Machine) (height : ℕ) (o : Open) (stage : Option Stage) (f : Scene) (b : Option Begun) (e : Begun)
     → StandsBegun world meaning m height o stage f b None → b ≡ Some e → (s : Stage) × (stage ≡ Some s)
 stage_there world meaning m height o None f None e x begun = absurd (cc)
 stage_there world meaning m height o None f (Some z) e x begun = absurd x
@@ -220,6 +220,7 @@ module _ (laws : Laws) (world : World) (p : Program) (numbers : Numbers) (m : Ma
           bytes = small.bytes;
           lists = small.lists;
         };
+        initializers = lays.initializers;
       }
 
 pub open_stands_so : Laws → OpenStandsSo

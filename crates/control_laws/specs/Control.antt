@@ -17,6 +17,7 @@ use Rattle.run_code.specs.declared.nodes.NodeInfo.{NodeInfo}
 use Rattle.run_code.specs.declared.steps.Expression.{Expression as Laid}
 use Rattle.run_code.specs.declared.steps.FunctionCode.{FunctionCode}
 use Rattle.run_code.specs.declared.whole.Code.{Code}
+use Rattle.run_code.specs.Initializers.{NumberInitializers}
 use Rattle.run_state.specs.declared.machine.Machine.{Machine}
 use Rattle.run_state.specs.declared.machine.Stage.{Stage}
 use Rattle.run_machine.specs.Answering.{MayGoOn}
@@ -66,12 +67,14 @@ pub record OpensSmall (m : Machine) (st : State) (e : Begun) : Type 0 where
   pub bytes : HasSmallBytes st.store
   pub lists : ListsAreSmall e.root
 
--- the full expression of this stage, as it is laid out by some nodes
+-- The full expression of this stage, as it is laid out by some nodes. Each isolated initializer in it has the number of the full expression of its own tree
+-- (6.7.9p23).
 pub record IsOpenAs (world : World) (p : Program) (numbers : Numbers) (m : Machine) (st : State) (e : Begun) (s : Stage) : Type 0 where
   pub laid : Laid
   pub firsts : List ℕ
   pub nodes : List NodeInfo
   pub open_so : IsOpen world (meaning_of p numbers m.code.now) m st e s laid firsts nodes
+  pub initializers : NumberInitializers m.code.now nodes
 
 abbrev pub OpenStandsSo : Type 0
 OpenStandsSo = (world : World) (p : Program) (numbers : Numbers) (m : Machine) (st : State) (n : ℕ) (e : Begun) (s : Stage)

@@ -136,6 +136,7 @@ module _ (world : World) (p : Program) (numbers : Numbers) (old new : Machine) (
       sees = sees_moved old new old.top s m.cursor stage code_same locals_same (function_of old.top.function below) going.frames.0.sees;
       turn = let t = going.frames.0.turn in omega (arith, t);
       base = let b = going.frames.0.base in let w = m.values in omega (arith, b, w);
+      lowest = going.frames.0.lowest;
     }
 
     below_then : KeepFrames world new below (map (λ h. h.0) st.held) (suc n)

@@ -42,6 +42,9 @@ pub record HasStarted (old : Machine) (s : Stage) (new : Machine) : Type 0 where
   pub base : top.base ≤ length new.values.items
   pub sees : Sees new top (function_of top.function (moved_frame old.top s cursor ∷ reverse old.below.items))
 
+is_some_frame : (o : Open) (os : List Open) → o ∷ os ≡ [] → ⊥
+is_some_frame o os none = cc (none)
+
 -- ---- then it goes on
 module _ (world : World) (p : Program) (numbers : Numbers) (old new : Machine) (st : State) (n : ℕ) (e : Begun) (s : Stage) (u : Place) (g : Local)
     (going : IsGoing world p numbers old st n) (stage : old.top.stage ≡ Some s) (begun : st.top.begun ≡ Some e) (h : HasStarted old s new)
@@ -102,6 +105,7 @@ module _ (world : World) (p : Program) (numbers : Numbers) (old new : Machine) (
     sees = sees_moved old then old.top s h.cursor stage code_same h.locals (function_of old.top.function below) going.frames.0.sees;
     turn = let t = going.frames.0.turn in omega (arith, t);
     base = let b = going.frames.0.base in let v = h.values in omega (arith, b, v);
+    lowest = going.frames.0.lowest;
   }
 
   below_then : KeepFrames world then below (map (λ h. h.0) st.held) (suc n)
@@ -131,6 +135,7 @@ module _ (world : World) (p : Program) (numbers : Numbers) (old new : Machine) (
     sees = numbered_sees (function_of h.top.function (was ∷ below)) h.sees;
     turn = let t = h.turn in omega (arith, t);
     base = h.base;
+    lowest = λ none. absurd (is_some_frame was below none);
   }
 
   frames_then : KeepFrames world then (then.top ∷ reverse then.below.items) (locals_of next) (suc n)

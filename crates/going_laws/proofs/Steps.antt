@@ -211,6 +211,7 @@ module _ (world : World) (p : Program) (numbers : Numbers) (old new : Machine) (
           (λ c. subst (IsOneOf c) (sym stage) tt) going.frames.0.sees;
       turn = let t = k.turn in let u = going.frames.0.turn in omega (arith, t, u);
       base = let b = going.frames.0.base in let v = k.values in omega (arith, b, v);
+      lowest = going.frames.0.lowest;
     })
 
   -- 2. A full expression has begun in it.
@@ -310,6 +311,7 @@ module _ (world : World) (p : Program) (numbers : Numbers) (old new : Machine) (
             going.frames.0.sees;
         turn = let t = b.keeps.turn in let u = going.frames.0.turn in omega (arith, t, u);
         base = let z = going.frames.0.base in let v = b.keeps.values in omega (arith, z, v);
+        lowest = going.frames.0.lowest;
       })
 
     pub begins_goes : KeepFrames world new (new.top ∷ reverse new.below.items) (locals_of after) (suc n)
@@ -409,6 +411,7 @@ module _ (world : World) (p : Program) (numbers : Numbers) (old new : Machine) (
       sees = kept_then.0.sees;
       turn = kept_then.0.turn;
       base = kept_then.0.base;
+      lowest = kept_then.0.lowest;
     }
 
     pub ends_goes : KeepFrames world new (new.top ∷ reverse new.below.items) (locals_of after) (suc n)

@@ -73,6 +73,7 @@ module _ (world : World) (old new : Machine) where
     sees = sees_still (suc (length below)) more o (function_of o.function below) keeps.sees;
     turn = let t = keeps.turn in omega (arith, t, le);
     base = let b = keeps.base in let v = more.values in omega (arith, b, v);
+    lowest = keeps.lowest;
   }
 
   -- the frames that are held

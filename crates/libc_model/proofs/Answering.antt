@@ -10,8 +10,6 @@ use Rattle.ub_base.specs.declared.names.Event.{Event}
 use Rattle.addr_map.specs.declared.map.Row.{Row}
 use Rattle.exposure.specs.declared.prov.Prov.{Prov}
 use Rattle.exposure.specs.declared.prov.Prov.TheVariants.{Empty}
-use Rattle.c_types.specs.declared.kind.IntKind.TheVariants.{ULong}
-use Rattle.c_types.specs.Kinds.{holds}
 use Rattle.c_types.specs.declared.library.LibFunc.{LibFunc}
 use Rattle.c_types.specs.declared.library.LibFunc.TheVariants.{Malloc, Calloc, Realloc, Free}
 use Rattle.prov_memory.specs.declared.value.Value.{Value}
@@ -41,7 +39,7 @@ use Rattle.libc_spec.specs.Library.{
   created_within,
   called,
 }
-use Rattle.libc_model.specs.Answers.{Does, Answers, IsCall, HaveCells, are_sizes, given_value, answer_in}
+use Rattle.libc_model.specs.Answers.{Does, Answers, IsCall, HaveCells, are_sizes, given_value, answer_in, is_size}
 use Rattle.libc_model.proofs.Scripts.{then, run_then, behind_done}
 
 output_kept : (v : LibValue) (is : List Item) (s : Store) → total s.output ≤ 2 ^ 24 → output_within (Done v is s) ≡ Done v is s
@@ -136,12 +134,12 @@ size_there : (b : Bool) → b && true ≡ true → IsTrue b
 size_there true e = refl
 size_there false e = absurd (cc)
 
-pub first_size : (vs : List LibValue) → are_sizes vs (0 ∷ []) ≡ true → IsTrue (holds ULong (integer_in (argument_at vs 0)))
-first_size vs e = size_there (holds ULong (integer_in (argument_at vs 0))) e
+pub first_size : (vs : List LibValue) → are_sizes vs (0 ∷ []) ≡ true → IsTrue (is_size (integer_in (argument_at vs 0)))
+first_size vs e = size_there (is_size (integer_in (argument_at vs 0))) e
 
--- the one size among the arguments is one of size_t
-pub one_size : (vs : List LibValue) (i : ℕ) → are_sizes vs (i ∷ []) ≡ true → IsTrue (holds ULong (integer_in (argument_at vs i)))
-one_size vs i e = size_there (holds ULong (integer_in (argument_at vs i))) e
+-- the one size among the arguments has 64 bits
+pub one_size : (vs : List LibValue) (i : ℕ) → are_sizes vs (i ∷ []) ≡ true → IsTrue (is_size (integer_in (argument_at vs i)))
+one_size vs i e = size_there (is_size (integer_in (argument_at vs i))) e
 
 -- what holds of a call of a function holds where the function is known to be it
 pub arm : (f g : LibFunc) (rows : List Row) (vs : List LibValue) (who : Event) (m : Kept) (io : Io) (a : LibAnswer) (is : List Item) (s u : Store) → f ≡ g →

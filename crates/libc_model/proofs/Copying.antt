@@ -35,8 +35,6 @@ use Rattle.ub_base.specs.declared.names.Event.{Event}
 use Rattle.addr_map.specs.declared.map.Row.{Row}
 use Rattle.exposure.specs.declared.prov.Prov.{Prov}
 use Rattle.c_types.specs.Shapes.{Form}
-use Rattle.c_types.specs.declared.kind.IntKind.TheVariants.{ULong}
-use Rattle.c_types.specs.Kinds.{holds}
 use Rattle.c_types.specs.declared.library.LibFunc.TheVariants.{Strcpy}
 use Rattle.prov_memory.specs.declared.value.Value.TheVariants.{Ptr}
 use Rattle.prov_memory.specs.declared.answer.LibAnswer.{LibAnswer}
@@ -69,7 +67,7 @@ use Rattle.libc_spec.specs.Library.{
   called,
 }
 use Rattle.libc_model.specs.declared.arguments.Range.{Range}
-use Rattle.libc_model.specs.Answers.{Answers, AreWithin, are_sizes, size_places, copy_function}
+use Rattle.libc_model.specs.Answers.{Answers, AreWithin, are_sizes, is_size, size_places, copy_function}
 use Rattle.libc_model.specs.Parts.{
   after,
   CanFollow,
@@ -322,7 +320,7 @@ memmove_raises m io is may to p from q n c h =
     (λ r. copy_between n r.0 r.1 >> Give (pointer to p)) c h
 
 pub copy_size : (may : Bool) (vs : List LibValue) → are_sizes vs (size_places (copy_function may)) ≡ true →
-    IsTrue (holds ULong (integer_in (argument_at vs 2)))
+    IsTrue (is_size (integer_in (argument_at vs 2)))
 copy_size true vs e = one_size vs 2 e
 copy_size false vs e = one_size vs 2 e
 

@@ -1,11 +1,9 @@
 -- What a call answers, against the act that the definitions give it.
-use Rattle.std.specs.Prelude.{◌≡◌, ℕ, ◌≤◌, ◌^◌, Bool, true, false, ◌&&◌, List, [], ◌∷◌, None, IfSome, Result, Ok, Err}
+use Rattle.std.specs.Prelude.{◌≡◌, ℕ, ℤ, ◌≤◌, ◌^◌, Bool, true, false, ◌&&◌, nat_lt, unsigned_abs, List, [], ◌∷◌, None, IfSome, Result, Ok, Err}
 use Rattle.ub_base.specs.declared.names.Item.{Item}
 use Rattle.ub_base.specs.declared.names.ObjName.{ObjName}
 use Rattle.addr_map.specs.declared.map.Row.{Row}
 use Rattle.addr_map.specs.Sound.{Above}
-use Rattle.c_types.specs.declared.kind.IntKind.TheVariants.{ULong}
-use Rattle.c_types.specs.Kinds.{holds}
 use Rattle.c_types.specs.declared.library.LibFunc.{LibFunc}
 use Rattle.c_types.specs.declared.library.LibFunc.TheVariants.{Malloc, Calloc, Realloc, Memcpy, Memmove, Memset, Memcmp}
 use Rattle.prov_memory.specs.declared.value.Value.{Value}
@@ -66,9 +64,13 @@ size_places Memset = 2 ∷ []
 size_places Memcmp = 2 ∷ []
 size_places _ = []
 
+-- the number of bytes that an integer stands for, its distance from 0, has 64 bits; that of a value of size_t is the value itself (own)
+abbrev pub is_size : ℤ → Bool
+is_size n = nat_lt (unsigned_abs n) (2 ^ 64)
+
 abbrev pub are_sizes : List LibValue → List ℕ → Bool
 are_sizes vs [] = true
-are_sizes vs (i ∷ is) = holds ULong (integer_in (argument_at vs i)) && are_sizes vs is
+are_sizes vs (i ∷ is) = is_size (integer_in (argument_at vs i)) && are_sizes vs is
 
 -- each ambiguity among the arguments is one of this memory
 abbrev pub HaveCells : Kept → List LibValue → Type 0
@@ -109,7 +111,7 @@ StandHigh Calloc rows = Above 16777216 rows
 StandHigh Realloc rows = Above 16777216 rows
 StandHigh f rows = Unit {0}
 
--- memory, streams and arguments as they are in a run: sizes are values of size_t
+-- memory, streams and arguments as they are in a run: sizes have 64 bits
 pub record IsCall (f : LibFunc) (vs : List LibValue) (m : Kept) (io : Io) : Type 0 where
   pub known : AreKnown m
   pub streams : AreWithin io

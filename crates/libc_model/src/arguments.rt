@@ -4,8 +4,6 @@ ghost use Rattle.ub_base.specs.declared.names.Item.TheVariants.{Alive, Read};
 ghost use Rattle.ub_base.specs.Names.{same_event};
 ghost use Rattle.addr_map.specs.Rows.{row_of};
 ghost use Rattle.exposure.specs.Cells.{has_cell, is_other};
-ghost use Rattle.c_types.specs.declared.kind.IntKind.TheVariants.{ULong};
-ghost use Rattle.c_types.specs.Kinds.{holds};
 ghost use Rattle.prov_memory.specs.declared.value.Value.TheVariants.{Ptr};
 ghost use Rattle.mem_spec.specs.Store.{is_live};
 ghost use Rattle.mem_spec.specs.Acts.{in_row, size_in, argument_object, argument_in, argument};
@@ -13,6 +11,7 @@ ghost use Rattle.mem_spec.specs.Streams.{Io};
 ghost use Rattle.prov_memory.specs.Held.{held_of};
 ghost use Rattle.prov_memory.specs.Memory.{HasCell, life_in, store_of};
 ghost use Rattle.libc_spec.specs.Library.{argument_at, pointer_in, integer_in, size_of_value, is_zero, text};
+ghost use Rattle.libc_model.specs.Answers.{is_size};
 ghost use Rattle.libc_model.specs.Parts.{after, kept_by, kept_after, Follows, settled_to, one_of_two, offset_if, byte_at, accessed, accessed_if, text_in, IsShort, IsRange, string_size};
 ghost use Rattle.libc_model.specs.Writes.{IsPlace};
 ghost use Rattle.libc_model.specs.Seen.{value_seen, values_seen, pointer_seen};
@@ -96,11 +95,11 @@ pub fn int_at(args: &[Value], at: usize) -> i128
     }
 }
 
-/// The number of bytes among the arguments at the place; 0 where there is none.
+/// The number of bytes among the arguments at the place, the distance of the integer from 0; 0 where there is none.
 pub fn size_at(args: &[Value], at: usize) -> u64
-    ensures { IsTrue (holds ULong (integer_in (argument_at (values_seen args.now) at))) → result ≡ size_of_value (argument_at (values_seen args.now) at) }
+    ensures { IsTrue (is_size (integer_in (argument_at (values_seen args.now) at))) → result ≡ size_of_value (argument_at (values_seen args.now) at) }
 {
-    u64::try_from(int_at(args, at)).unwrap_or(0)
+    u64::try_from(int_at(args, at).unsigned_abs()).unwrap_or(0)
 }
 
 // Whether the range lies in the object; one of no bytes may also begin one past it.

@@ -4,12 +4,10 @@ ghost use Rattle.std.specs.Prelude.{◌≡◌, ◌<◌, ◌^◌, length, take, d
 ghost use Rattle.ub_base.specs.declared.clause.Clause.TheVariants.{LibraryArgument};
 ghost use Rattle.ub_base.specs.Names.{same_object};
 ghost use Rattle.addr_map.specs.declared.map.Row.{Row};
-ghost use Rattle.c_types.specs.declared.kind.IntKind.TheVariants.{ULong};
-ghost use Rattle.c_types.specs.Kinds.{holds};
 ghost use Rattle.libc_spec.specs.Library.{argument_at, integer_in, size_of_value};
 ghost use Rattle.libc_spec.specs.Formatted as formatted;
 ghost use Rattle.libc_spec.specs.Formatted.{array, ended, placed, room, stored_by, touches, touches_any};
-ghost use Rattle.libc_model.specs.Answers.{AreWithin, Answers, GivesMade, HaveCells, answer_in, gives_value};
+ghost use Rattle.libc_model.specs.Answers.{AreWithin, Answers, GivesMade, HaveCells, answer_in, gives_value, is_size};
 ghost use Rattle.libc_model.specs.Parts.{Follows, Gives, accessed_if};
 ghost use Rattle.libc_model.specs.Seen.{pointer_seen, values_seen};
 ghost use Rattle.libc_model.specs.Writes.{FillsRange, IsPlace};
@@ -223,7 +221,7 @@ pub fn format_within(
     m: &mut Memory,
     t: &mut Touched,
 ) -> LibAnswer
-    ensures exact { (io : Io) → AreWithin io → IsTrue (holds ULong (integer_in (argument_at (values_seen args.now) 1))) → HaveCells m.old (values_seen args.now) → Answers result t.new (store_of m.new io) (stored_by m.new.rows (Some (size_of_value (argument_at (values_seen args.now) 1))) (argument_at (values_seen args.now) 0) (argument_at (values_seen args.now) 2) (drop 3 (typed args.now types.now)) (store_of m.old io)) }
+    ensures exact { (io : Io) → AreWithin io → IsTrue (is_size (integer_in (argument_at (values_seen args.now) 1))) → HaveCells m.old (values_seen args.now) → Answers result t.new (store_of m.new io) (stored_by m.new.rows (Some (size_of_value (argument_at (values_seen args.now) 1))) (argument_at (values_seen args.now) 0) (argument_at (values_seen args.now) 2) (drop 3 (typed args.now types.now)) (store_of m.old io)) }
     ensures known { AreKnown m.old → AreKnown m.new }
     ensures same { gives_value result ≡ false → m.new ≡ m.old }
     ensures kept { Keeps m.old m.new }

@@ -1,4 +1,4 @@
-mod Untouched
+pub mod Untouched
 mod Comes
-mod Next
+pub mod Next
 mod Library

@@ -57,12 +57,12 @@ same_place u v q = cc
 module _ (follows : FollowsCanonical) (world : World) (p : Program) (numbers : Numbers) (m : Machine) (st : State) (n : ℕ) (e : Begun) (s : Stage)
     (laid : Laid) (firsts : List ℕ) (nodes : List NodeInfo) (u : Place) (going : IsGoing world p numbers m st n)
     (o : IsOpen world (meaning_of p numbers m.code.now) m st e s laid firsts nodes) (is : canonical_pick world st.top st.top.begun ≡ Ev u) where
-  straight : s.straight ≡ true
+  pub straight : s.straight ≡ true
   straight =
       (kept_open world m (length (reverse m.below.items)) m.top m.top.stage st.top.scene st.top.begun s e o.stage o.stood.begun
       going.frames.0.begun).straight
 
-  next_is : (next : ℕ × Bor Due) → ComesNext m s (Some next) → next.1.now.place ≡ u
+  pub next_is : (next : ℕ × Bor Due) → ComesNext m s (Some next) → next.1.now.place ≡ u
   next_is next c =
       same_place next.1.now.place u
       (follows m (gone m s next.0) (Some next.1) (comes_follows m s next o.stage straight c) world (meaning_of p numbers m.code.now) st going.stands ∙ is)

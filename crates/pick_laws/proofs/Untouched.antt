@@ -69,6 +69,7 @@ frames_same world m (o ∷ os) (f ∷ fs) n k = (
     sees = sees_same m o (function_of o.function os) k.0.sees;
     turn = k.0.turn;
     base = k.0.base;
+    lowest = k.0.lowest;
   },
   frames_same world m os fs n k.1,
 )

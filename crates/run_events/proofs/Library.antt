@@ -41,9 +41,7 @@ use Rattle.addr_map.specs.declared.map.Row.{Row}
 use Rattle.c_types.specs.declared.library.LibFunc.{LibFunc}
 use Rattle.c_types.specs.declared.library.LibFunc.TheVariants.{Malloc, Calloc, Realloc, Free, Memcpy, Memmove, Memset, Memcmp, Strlen, Strcpy, Strcmp}
 use Rattle.c_types.specs.declared.library.LibFunc.TheVariants.{Strchr, Getchar, Putchar, Puts, Printf, Fprintf, Sprintf, Snprintf, Exit, Abort}
-use Rattle.c_types.specs.declared.kind.IntKind.TheVariants.{ULong}
 use Rattle.c_types.specs.declared.ty.Qual.{Qual}
-use Rattle.c_types.specs.Kinds.{holds}
 use Rattle.c_types.specs.Types.{CType, qualified_of}
 use Rattle.mem_spec.specs.Script.{Act, Done, Raised, Ended, Outside, Unplaced}
 use Rattle.mem_spec.specs.Store.{Store}
@@ -59,7 +57,7 @@ use Rattle.prov_memory.proofs.KeepLemmas.{keeps_none}
 use Rattle.libc_spec.specs.Formatted.{printed_to_by, stored_by}
 use Rattle.libc_spec.specs.Library.{LibValue, number, pointer, nothing, argument_at, called, integer_in, prov_in, size_of_value}
 use Rattle.libc_spec.specs.Print.{Argument, printed_by}
-use Rattle.libc_model.specs.Answers.{Answers, AreTyped, AreWithin, ArgumentsMade, GivesMade, HaveCells, IsCall, StandHigh, are_sizes, given_value, size_places}
+use Rattle.libc_model.specs.Answers.{Answers, AreTyped, AreWithin, ArgumentsMade, GivesMade, HaveCells, IsCall, StandHigh, are_sizes, given_value, is_size, size_places}
 use Rattle.libc_model.specs.Seen.{value_seen, values_seen}
 use Rattle.libc_print.specs.Seen as printing
 use Rattle.c_model.specs.Libraries.{result, typed}
@@ -284,7 +282,7 @@ module _ (old : Machine) (k : Kept) (io : Io) (t : List Item) (who : Event) (hs 
       (λ given is. ap (λ (zs : List Argument). stored_by k.rows None (argument_at vs 0) (argument_at vs 1) (drop 2 zs) (store_in old)) is)
       (λ can held. exact can.within held) kept (λ can held. made held)
 
-  pub answers_snprintf : (AreWithin old.streams → IsTrue (holds ULong (integer_in (argument_at vs 1))) → HaveCells old.memory vs → Answers answer t (store_of k io)
+  pub answers_snprintf : (AreWithin old.streams → IsTrue (is_size (integer_in (argument_at vs 1))) → HaveCells old.memory vs → Answers answer t (store_of k io)
       (stored_by k.rows (Some (size_of_value (argument_at vs 1))) (argument_at vs 0) (argument_at vs 2) (drop 3 (printing.typed hs ts)) (store_in old)))
       → Keeps old.memory k → (HaveCells old.memory vs → GivesMade k answer) → Answered Snprintf
   answers_snprintf exact kept made =

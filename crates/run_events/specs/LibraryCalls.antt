@@ -2,11 +2,9 @@
 use Rattle.std.specs.Prelude.{◌≡◌, ◌≢◌, ℕ, ◌+◌, ◌<◌, ◌≤◌, ◌^◌, Bool, true, List, [], ◌∷◌, length, map, slice_get, Some, Result, Ok, Err}
 use Rattle.ub_base.specs.declared.names.Event.{Event}
 use Rattle.addr_map.specs.Sound.{Above}
-use Rattle.c_types.specs.declared.kind.IntKind.TheVariants.{ULong}
 use Rattle.c_types.specs.declared.library.LibFunc.{LibFunc}
 use Rattle.c_types.specs.declared.library.LibFunc.TheVariants.{Snprintf}
 use Rattle.c_types.specs.declared.ty.Qual.{Qual}
-use Rattle.c_types.specs.Kinds.{holds}
 use Rattle.c_types.specs.Types.{CType, qualified_of}
 use Rattle.mem_spec.specs.Script.{Act, Done, Raised, Ended, Outside, Unplaced}
 use Rattle.mem_spec.specs.Streams.{total}
@@ -17,7 +15,7 @@ use Rattle.prov_memory.specs.Keeps.{AreBare, Keeps}
 use Rattle.prov_memory.specs.Sound.{IsSound}
 use Rattle.prov_memory.specs.Tags.{AreTagged}
 use Rattle.libc_spec.specs.Library.{LibValue, argument_at, integer_in}
-use Rattle.libc_model.specs.Answers.{Answers, ArgumentsMade, GivesMade, are_sizes, size_places}
+use Rattle.libc_model.specs.Answers.{Answers, ArgumentsMade, GivesMade, are_sizes, is_size, size_places}
 use Rattle.libc_model.specs.Seen.{values_seen}
 use Rattle.c_model.specs.Libraries.{result}
 use Rattle.library_laws.specs.Called.{called_with}
@@ -47,15 +45,15 @@ AreArguments m os vs = (hs : List Kept_value) → Arguments m os hs → vs ≡ h
 abbrev pub types_seen : List Qual → List CType
 types_seen ts = map (λ t. (qualified_of t).ty) ts
 
--- the arguments that are numbers of bytes are values of size_t
+-- the arguments that are numbers of bytes have 64 bits
 abbrev pub are_call_sizes : LibFunc → List LibValue → Bool
-are_call_sizes Snprintf vs = holds ULong (integer_in (argument_at vs 1))
+are_call_sizes Snprintf vs = is_size (integer_in (argument_at vs 1))
 are_call_sizes f vs = are_sizes vs (size_places f)
 
 -- 2. What is asked of a machine.
 
 -- Memory is sound, has the types of its tags, declares nothing of the heap, and begins no row below 16,777,216; what was written is within its limit; the
--- arguments that are numbers of bytes are values of size_t, and the pointers among the arguments were made in the memory.
+-- arguments that are numbers of bytes have 64 bits, and the pointers among the arguments were made in the memory.
 pub record CanCall (m : Machine) (f : LibFunc) (hs : List Kept_value) : Type 0 where
   pub sound : IsSound m.memory
   pub tagged : AreTagged m.memory

@@ -61,6 +61,8 @@ pub record KeepsFrame (world : World) (m : Machine) (o : Open) (below : List Ope
   pub sees : Sees m o (function_of o.function below)
   pub turn : o.turn ≤ n
   pub base : o.base ≤ length m.values.items
+  -- the rooms of the lowest one come first
+  pub lowest : below ≡ [] → o.base ≡ 0
 
 -- The frames, from the top one down.
 abbrev pub KeepFrames : World → Machine → List Open → List Local → ℕ → Type 0

@@ -18,10 +18,11 @@ use Rattle.code_view.specs.Laws.{IsCodeOfProgram}
 use Rattle.frame_laws.specs.Named.{MainIsBlock}
 use Rattle.value_facts.specs.Small.{EndInTime}
 
--- the limits of the profile on open frames and created bytes
+-- the limits of the profile on open frames, created bytes and what is written
 pub record IsProfile (limits : Limits) : Type 0 where
   pub depth : limits.depth ≡ 100000
   pub created : limits.created ≡ 2 ^ 26
+  pub output : limits.output ≡ 2 ^ 24
 
 -- A lawful program whose functions are defined by blocks.
 pub record IsWhole (p : Program) : Type 0 where

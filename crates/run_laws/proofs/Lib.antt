@@ -1,9 +1,10 @@
 mod Asked
 mod Sites
 mod Near
-mod Frames
-mod Given
+pub mod Frames
+pub mod Given
 mod Initial
 mod Calling
+mod LibraryCalling
 mod Beginning
 mod Staying

@@ -3,5 +3,6 @@ pub mod Open
 pub mod Given
 pub mod Initial
 pub mod Calls
+pub mod LibraryCalls
 pub mod Beginning
 pub mod Staying

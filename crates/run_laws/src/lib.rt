@@ -7,6 +7,7 @@ ghost use Rattle.run_laws.specs.Asked.{RoomsAreAsked, CodeHasRooms, EventsAreAsk
 ghost use Rattle.run_laws.specs.Given.{MovesAreNear, OpenTakesGiven, OpenCanBeTaken, OpenMayTake, OpenMayTakeNext};
 ghost use Rattle.run_laws.specs.Initial.{OpenIsInitializer, OpenMayStart, OpenMayStartNext};
 ghost use Rattle.run_laws.specs.Calls.{OpenIsCall, OpenIsCallCode, OpenMayCall, OpenMayCallNext};
+ghost use Rattle.run_laws.specs.LibraryCalls.{OpenIsLibraryCall, OpenMayCallLibraryNext};
 ghost use Rattle.run_laws.specs.Beginning.{BeginsOpen};
 ghost use Rattle.run_laws.specs.Staying.{OpenStays};
 
@@ -70,6 +71,18 @@ pub fn law_calls()
 {
     law_acts();
     law_named();
+    law_asked();
+    law_picks();
+}
+
+/// So the body of a call of a library function may be done, that comes next in such a machine, where its numbers of bytes have 64 bits (7.21, 7.22, 7.24).
+pub fn law_library_calls()
+    ensures is { OpenIsLibraryCall }
+    ensures next { OpenMayCallLibraryNext }
+{
+    law_acts();
+    law_named();
+    law_events();
     law_asked();
     law_picks();
 }

@@ -123,7 +123,7 @@ ArgumentsGive m (o ∷ os) (v ∷ vs) = Gives m o v × ArgumentsGive m os vs
 ArgumentsGive m _ _ = ⊥
 
 -- So it is in code that was laid out of a program: its act is that of a call of the table, which goes by the type of the node's designator, and has the types
--- of its arguments. In this machine the operands of the call give the values of those of the node; those that are numbers of bytes are values of size_t. The
+-- of its arguments. In this machine the operands of the call give the values of those of the node; those that are numbers of bytes have 64 bits. The
 -- function that is called is this one of the library.
 pub record IsCallOfLibrary (world : World) (past : Machine) (f : Scene) (e : Begun) (d : Due) : Type 0 where
   pub number : ℕ
