@@ -59,6 +59,6 @@ decided_passed m s u done permitted is straight same passed by =
     )
 
 pub strays_code : (straight : Bool) (old : Machine) (s : Stage) (new : Machine) (permitted : Bool) → StraysIn straight old s new permitted → new.code ≡ old.code
-strays_code true old s new true h = ap (λ (m : Machine). m.code) h.0
+strays_code true old s new true h = ap (λ (m : Machine). m.code) h.rest
 strays_code true old s new false h = ap (λ (m : Machine). m.code) h
 strays_code false old s new permitted h = ap (λ (m : Machine). m.code) h
