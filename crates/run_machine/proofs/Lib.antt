@@ -38,7 +38,7 @@ mod RootValue
 mod Selecting
 mod Settling
 mod Standing
-mod Single
+mod Named
 mod Started
 mod Staying
 mod Steering

@@ -1,5 +1,5 @@
 -- A clause is raised of the event that was taken, and of a node in its line.
-use Rattle.std.proofs.Common.{◌≡◌, ◌+◌, ◌-◌, ◌^◌, min, ℕ, refl, sym, ap, ◌∙◌, subst, tt, Option, Some, None, Result, Ok, Err, true}
+use Rattle.std.proofs.Common.{◌≡◌, ◌+◌, ◌-◌, ◌^◌, min, ℕ, refl, sym, ap, ◌∙◌, subst, Option, Some, None, Result, Ok, Err, true}
 use Rattle.std.specs.Borrow.{Bor}
 use Rattle.ub_base.specs.declared.clause.Clause.{Clause}
 use Rattle.ub_base.specs.declared.names.Event.{Event}
@@ -28,14 +28,14 @@ use Rattle.run_machine.proofs.Onward.{came_next, ev_place}
 use Rattle.run_machine.proofs.Taken.{event_seen}
 
 -- ---- an event that was performed
-pub raised_by : (m : Machine) (d : Due) (f : Fault) (h : Halt) → h ≡ halt_by (event_at m d.place) d.line f → RaisesAt m d (Err h)
-raised_by m d f h is = subst (λ (k : Halt). RaisesAt m d (Err k)) (sym is) (by_fault m d f)
-
 by_fault : (m : Machine) (d : Due) (f : Fault) → RaisesAt m d (Err (halt_by (event_at m d.place) d.line f))
 by_fault m d (fault.Raise clause) = (refl, refl)
 by_fault m d (fault.Over cause number) = tt
 by_fault m d fault.Unplaced = tt
 by_fault m d fault.NoMemory = tt
+
+pub raised_by : (m : Machine) (d : Due) (f : Fault) (h : Halt) → h ≡ halt_by (event_at m d.place) d.line f → RaisesAt m d (Err h)
+raised_by m d f h is = subst (λ (k : Halt). RaisesAt m d (Err k)) (sym is) (by_fault m d f)
 
 -- what follows its act raises nothing
 pub finished_raises : (m : Machine) (code : Code) (event : Event) (status : Option ℕ) (d : Due) (old new : Machine) (r : Result Pick Halt) →

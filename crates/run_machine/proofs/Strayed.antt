@@ -1,5 +1,5 @@
 -- A machine that leaves the canonical way stands for what it stood for.
-use Rattle.std.proofs.Common.{◌≡◌, ◌≢◌, ℕ, Bool, true, false, refl, sym, ap, ◌∙◌, subst, tt, List, ◌∷◌, length, map, reverse, Option, Some, None, slice_get, arith}
+use Rattle.std.proofs.Common.{◌≡◌, ◌≢◌, ℕ, Bool, true, false, refl, sym, ap, ◌∙◌, subst, List, ◌∷◌, length, map, reverse, Option, Some, None, slice_get, arith}
 use Rattle.std.proofs.lemmas.List.{length-reverse}
 use Rattle.c_typed.specs.declared.tree.Place.{Place}
 use Rattle.c_model.specs.Runs.{State}

@@ -1,11 +1,12 @@
 -- An event that is named is taken from a machine that stands for what the one before stood for.
-use Rattle.std.proofs.Common.{◌≡◌, ◌+◌, ◌-◌, ◌^◌, ◌⊎◌, min, ℕ, Bool, true, false, refl, sym, ap, ◌∙◌, subst, inl, inr, List, [], Option, Some, None, Result}
+use Rattle.std.proofs.Common.{◌≡◌, ◌+◌, ◌-◌, ◌^◌, ◌⊎◌, min, ℕ, Bool, true, false, refl, sym, ap, ◌∙◌, subst, inl, inr, List, [], Option, Some, None, Result, Err}
 use Rattle.std.specs.Borrow.{Bor}
 use Rattle.ub_base.specs.declared.names.Item.{Item}
 use Rattle.c_typed.specs.declared.tree.Place.{Place}
 use Rattle.run_code.specs.declared.steps.Due.{Due}
 use Rattle.run_listing.specs.Along.{IsListed}
 use Rattle.run_state.specs.declared.halt.Halt.{Halt}
+use Rattle.run_state.specs.declared.halt.Halt.TheVariants as halt
 use Rattle.run_state.specs.declared.machine.Machine.{Machine}
 use Rattle.run_state.specs.declared.machine.Stage.{Stage}
 use Rattle.run_machine.specs.declared.pick.Pick.{Pick}
@@ -13,7 +14,7 @@ use Rattle.run_machine.specs.Library.{AnswersLibrary}
 use Rattle.run_machine.specs.Picks.{LeavesWay, StraysIn, whole_part}
 use Rattle.run_machine.specs.Raising.{RaisesAt}
 use Rattle.run_machine.specs.Starting.{AnswersBody, AnswersCall}
-use Rattle.run_machine.specs.Straying.{LeavesStanding, MovesTo, Reaches, TakesFrom}
+use Rattle.run_machine.specs.Straying.{LeavesStanding, MovesTo, Reaches, TakesFrom, TakesSo}
 use Rattle.run_machine.specs.Taking.{AnswersEvent, IsAt, at_next, untouched}
 use Rattle.run_machine.proofs.Onward.{at_ready, cleared_open}
 
@@ -116,3 +117,10 @@ promised_of d mid new is r none events bodies calls libraries raised = record {
   libraries = subst (λ (k : List Item). AnswersLibrary d (record mid { items = k }) new r) none libraries;
   raised = subst (λ (k : List Item). RaisesAt (record mid { items = k }) d r) none raised;
 }
+
+-- memory may be wanted beside
+pub taken_or_wanted : (old : Machine) (u : Place) (new : Machine) (h : Halt) → TakesFrom old u new (Err h) → TakesSo old u new (Err h)
+taken_or_wanted old u new (halt.Raised event line clause) t = t
+taken_or_wanted old u new (halt.Over cause number) t = t
+taken_or_wanted old u new halt.Unplaced t = t
+taken_or_wanted old u new halt.NoMemory t = tt
