@@ -25,6 +25,7 @@ use Rattle.run_listing.specs.Cursor.{
   placed,
   IsListed,
   NextIsCanonical,
+  PassedIsDone,
   PermitsPicks,
   StandsAtBegin,
   StandsBehind,
@@ -117,12 +118,16 @@ module _ (law : ListsTerm) (faithful : TermsAreFaithful) where
         settles_at_end world f e _ _ s.along ∙ ap is_none same,
       )
 
+  pub passed_is_done : PassedIsDone
+  passed_is_done world f xs first cursor end e taken u s l =
+      ap (λ us. has us u) (as_kept world f xs first cursor end e None taken s l).0 ∙ s.along.done u ∙ or_false (is_done e u)
+
   pub permits_picks : PermitsPicks
   permits_picks world f xs first cursor end e taken u s l =
       let T = taken_by world f.scene e in
       let tree = tree_of e.root in
       let done : has (events_of taken (part_of xs first cursor)) ≡ is_done e =
-      ap has (as_kept world f.scene xs first cursor end e None taken s l).0 ∙ (λ i w. (s.along.done w ∙ or_false (is_done e w)) i) in
+      (λ i w. passed_is_done world f.scene xs first cursor end e taken w s l i) in
       let same : is_permitted tree taken (has (events_of taken (part_of xs first cursor))) u ≡ is_permitted tree T (is_done e) u =
       ap (λ d. is_permitted tree taken d u) done ∙ permits_alike tree T taken (is_done e) u l.1 in
       let d = decides_permitted tree T (is_done e) u in

@@ -50,6 +50,13 @@ PermitsPicks =
     → StandsStraight world f.scene listing first cursor end e None → IsListed world f.scene listing first end e taken
     → (is_permitted (tree_of e.root) taken (has (events_of taken (part_of listing first cursor))) u ≡ true) ↔ MayPick world f (Some e) (Ev u)
 
+-- what it has passed is what is done
+abbrev pub PassedIsDone : Type 0
+PassedIsDone =
+    (world : World) (f : Scene) (listing : List Listed) (first cursor end : ℕ) (e : Begun) (taken : Taken) (u : Place)
+    → StandsStraight world f listing first cursor end e None → IsListed world f listing first end e taken
+    → has (events_of taken (part_of listing first cursor)) u ≡ is_done e u
+
 -- as a full expression begins, the cursor stands at its first entry
 abbrev pub StandsAtBegin : Type 0
 StandsAtBegin =

@@ -1,6 +1,6 @@
 // Laws of listings, and of the cursor in them.
 ghost use Rattle.run_listing.specs.Straight.{ListsTree, HasEntries, PartsAtEvent, PartsAlike, PartsFurther};
-ghost use Rattle.run_listing.specs.Cursor.{NextIsCanonical, PermitsPicks, StandsAtBegin, StandsBehind, StandsAtStart, StandsAtEnd, TakesByDone, PermitsByDone};
+ghost use Rattle.run_listing.specs.Cursor.{NextIsCanonical, PassedIsDone, PermitsPicks, StandsAtBegin, StandsBehind, StandsAtStart, StandsAtEnd, TakesByDone, PermitsByDone};
 
 use elaborate::law_faithful;
 use run_code::law_listing;
@@ -19,11 +19,12 @@ pub fn law_listed_tree()
 }
 
 /// Along a run the cursor stands where the canonical order of the definitions does: the next event that is listed is the canonical pick, and
-/// the control step is where none is; an event may come next by what was passed exactly where it may by the definitions. So it stands as a
+/// the control step is where none is; what was passed is what is done, and an event may come next by it exactly where it may by the definitions. So it stands as a
 /// full expression begins, behind the next event as that is done or its body starts, and where it stood as the body ends.
 pub fn law_cursor()
     ensures next { NextIsCanonical }
     ensures permits { PermitsPicks }
+    ensures done { PassedIsDone }
     ensures begins { StandsAtBegin }
     ensures behind { StandsBehind }
     ensures starts { StandsAtStart }

@@ -250,7 +250,7 @@ module _ (trees : TreesAreKept) (starts : StandsAtStart) (world : World) (meanin
         (map (λ h. (h.0, Some h.1)) held)
     held_moved =
         frames_under world old with_values top_then (keeps_none old.memory) (old.top.base + old.top.rooms) (suc (length old.below.items)) rooms_same
-        (λ j b ne at. at) (λ j ne. refl) meaning top_then then_frame (there ∷ reverse old.below.items) (old.work.now ∷ old.work.below) held
+        (λ j b ne at. at) (λ j other ne at. at) meaning top_then then_frame (there ∷ reverse old.below.items) (old.work.now ∷ old.work.below) held
         (let l = length-reverse old.below.items in omega (arith, l)) (omega arith) on_it w.keeps w.frames
 
     held_stand : StandFrames world meaning there_then None (there ∷ reverse old.below.items) (old.work.now ∷ old.work.below)

@@ -30,6 +30,7 @@ mod Parts
 mod Passed
 mod Passing
 mod Picked
+mod Raised
 mod Results
 mod Returning
 mod Rooms
@@ -37,11 +38,13 @@ mod RootValue
 mod Selecting
 mod Settling
 mod Standing
+mod Named
 mod Started
 mod Staying
 mod Steering
 pub mod Still
 mod Storing
+mod Strayed
 mod Taken
 mod Unwriting
 mod Waiting

@@ -226,7 +226,7 @@ passed_stands world meaning m n st trace s none closed result to is keeps rows r
           begun = begun_closed world mg m k (length os) m.top m.top.stage st.top.scene st.top.begun None closed frame.begun;
         },
         s.frames.1,
-        frames_under world m k m.top keeps m.top.base (length m.below.items) rooms (λ j b ne e. e) (λ j ne. refl) meaning m.top st.top os m.work.below st.held
+        frames_under world m k m.top keeps m.top.base (length m.below.items) rooms (λ j b ne e. e) (λ j other ne e. e) meaning m.top st.top os m.work.below st.held
             high (omega arith) s.frames.1 to s.frames.2,
       );
       depth = s.depth;

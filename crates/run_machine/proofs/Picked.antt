@@ -1,5 +1,5 @@
 -- What is done in the top frame's full expression.
-use Rattle.std.proofs.Common.{◌≡◌, ◌<◌, ◌^◌, Bool, true, false, List, Some, Result, Ok, Err, IfOk, slice_get, length, sym, ap, ◌∙◌}
+use Rattle.std.proofs.Common.{◌≡◌, ◌≢◌, ℕ, subst, ◌<◌, ◌^◌, Bool, true, false, List, Some, Result, Ok, Err, IfOk, slice_get, length, sym, ap, ◌∙◌}
 use Rattle.c_typed.specs.declared.tree.Place.{Place}
 use Rattle.c_typed.specs.Tree.{tree_of, size}
 use Rattle.c_typed.specs.Order.{has}
@@ -59,6 +59,23 @@ decided_passed m s u done permitted is straight same passed by =
     )
 
 pub strays_code : (straight : Bool) (old : Machine) (s : Stage) (new : Machine) (permitted : Bool) → StraysIn straight old s new permitted → new.code ≡ old.code
-strays_code true old s new true h = ap (λ (m : Machine). m.code) h.0
+strays_code true old s new true h = ap (λ (m : Machine). m.code) h.rest
 strays_code true old s new false h = ap (λ (m : Machine). m.code) h
 strays_code false old s new permitted h = ap (λ (m : Machine). m.code) h
+
+-- the canonical way is left with what was passed
+pub leaves_way : (m new : Machine) (s : Stage) (done : List Marks) (permitted : Bool) → s.straight ≡ true → permitted ≡ true
+    → new ≡ record m { top = record m.top { stage = Some (record s { straight = false }) }; strayed = new.strayed }
+    → slice_get new.strayed.items (length m.below.items) ≡ Some done
+    → ((j : ℕ) (other : List Marks) → j ≢ length m.below.items → slice_get m.strayed.items j ≡ Some other → slice_get new.strayed.items j ≡ Some other)
+    → (b : Begun) × (top_of m ≡ Some b) × ((p : Place) → done_in done p ≡ has (events_of (taken_in b.taken) (passed_part m s)) p)
+    → StraysIn s.straight m s new permitted
+leaves_way m new s done permitted straight is rest there others passed =
+    subst (λ w. StraysIn w m s new permitted) (sym straight) (subst (StraysIn true m s new) (sym is) (record {
+      rest = rest;
+      marks = done;
+      there = there;
+      done = λ b top p. passed.2 p ∙ ap (λ (z : Begun). has (events_of (taken_in z.taken) (passed_part m s)) p) (same_shown m b passed.0 top passed.1)
+          ∙ ap (λ w. by_way w m s b p) (sym straight);
+      others = others;
+    }))

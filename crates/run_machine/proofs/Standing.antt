@@ -47,6 +47,7 @@ use Rattle.run_code.specs.declared.steps.StoreCode.{StoreCode}
 use Rattle.run_code.specs.declared.whole.Code.{Code}
 use Rattle.run_control.specs.declared.work.Work.{Work}
 use Rattle.run_control.specs.View.{Meaning}
+use Rattle.seq_order.specs.declared.done.Marks.{Marks}
 use Rattle.run_listing.specs.Along.{part_of}
 use Rattle.run_state.specs.declared.machine.Machine.{Machine}
 use Rattle.run_state.specs.declared.machine.Open.{Open}
@@ -211,7 +212,7 @@ no_arguments world meaning m height o (Some stage) f (Some e) u g code rooms b k
 module _ (world : World) (m n : Machine) (t : Open) (keeps : Keeps m.memory n.memory) (at top : ℕ)
     (rooms : (j : ℕ) → j < at → slice_get n.values.items j ≡ slice_get m.values.items j)
     (begun : (j : ℕ) (b : Shown) → j ≢ top → slice_get m.begun.items j ≡ Some b → slice_get n.begun.items j ≡ Some b)
-    (strays : (j : ℕ) → j ≢ top → slice_get n.strayed.items j ≡ slice_get m.strayed.items j) where
+    (strays : (j : ℕ) (other : List Marks) → j ≢ top → slice_get m.strayed.items j ≡ Some other → slice_get n.strayed.items j ≡ Some other) where
   holds_under : (room : ℕ) (v : Value) → room < at → Holds m.memory m.values.items room v → Holds n.memory n.values.items room v
   holds_under room v lt h = holds_stay m.memory n.memory m.values.items n.values.items room v keeps (rooms room lt) h
 
@@ -241,7 +242,7 @@ module _ (world : World) (m n : Machine) (t : Open) (keeps : Keeps m.memory n.me
       StandsDone straight world m height first cursor end f e waiting →
       StandsDone straight world (moved_on m n t) height first cursor end f e waiting
   done_under true height first cursor end f e waiting ne d = d
-  done_under false height first cursor end f e waiting ne d = (d.0, strays height ne ∙ d.1, d.2)
+  done_under false height first cursor end f e waiting ne d = (d.0, strays height d.0 ne d.1, d.2)
 
   expression_under : (meaning : Meaning) (height : ℕ) (o : Open) (stage : Stage) (f : Scene) (e : Begun) (waiting : Option Place) → height ≢ top →
       o.base + o.rooms ≤ at → IsInRooms (stage_part m.code.now stage) o.rooms e →

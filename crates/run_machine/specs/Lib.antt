@@ -1,4 +1,5 @@
 pub mod Picks
+pub mod Raising
 pub mod Moving
 pub mod Jumps
 pub mod Answering
@@ -11,6 +12,7 @@ pub mod Ended
 pub mod Taking
 pub mod Completing
 pub mod Starting
+pub mod Straying
 pub mod Settling
 pub mod Keeping
 pub mod Library

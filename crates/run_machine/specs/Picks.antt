@@ -119,10 +119,18 @@ FollowsIn old (Some s) (Some b) new due = ByWay s.straight old s b new due
 abbrev pub Follows : Machine → Machine → Option (Bor Due) → Type 0
 Follows old new due = FollowsIn old old.top.stage (top_of old) new due
 
--- once an event leaves the canonical way, what was done by then is kept; otherwise nothing changes
+-- Off the canonical way one list of what is done is kept for each frame: that of the top frame has what was done by then, and those of others stay.
+pub record LeavesWay (old : Machine) (s : Stage) (new : Machine) : Type 0 where
+  pub rest : new ≡ record old { top = record old.top { stage = Some (record s { straight = false }) }; strayed = new.strayed }
+  pub marks : List Marks
+  pub there : slice_get new.strayed.items (length old.below.items) ≡ Some marks
+  pub done : (b : Begun) → top_of old ≡ Some b → (p : Place) → done_in marks p ≡ is_done old s b p
+  pub others : (j : ℕ) (other : List Marks) → j ≢ length old.below.items → slice_get old.strayed.items j ≡ Some other
+      → slice_get new.strayed.items j ≡ Some other
+
+-- an event that isn't the next one leaves the canonical way; otherwise nothing changes
 abbrev pub StraysIn : (straight : Bool) → Machine → Stage → Machine → Bool → Type 0
-StraysIn true old s new true = record new { strayed = old.strayed } ≡ record old { top = record old.top { stage = Some (record s { straight = false }) } } ×
-    ((b : Begun) → top_of old ≡ Some b → (p : Place) → kept_of new p ≡ is_done old s b p)
+StraysIn true old s new true = LeavesWay old s new
 StraysIn true old s new false = new ≡ old
 StraysIn false old s new permitted = new ≡ old
 

@@ -6,6 +6,7 @@ ghost use Rattle.run_machine.specs.Ending.{Notes};
 ghost use Rattle.run_machine.specs.Library.{AnswersLibrary};
 ghost use Rattle.run_machine.specs.LibraryCompletes.{CompletesLibrary};
 ghost use Rattle.run_machine.specs.Picks.{event_at, IsOfEvent};
+ghost use Rattle.run_machine.specs.Raising.{RaisesAt};
 ghost use Rattle.run_machine.specs.Starting.{AnswersBody, AnswersCall, FunctionStands, FunctionSteps};
 ghost use Rattle.run_machine.specs.Taking.{past_event, AnswersEvent, DecidesBy, FollowsEvent};
 
@@ -56,6 +57,7 @@ pub fn take_event(machine: &mut Machine, due: &Due) -> Result<Pick, Halt>
     ensures calls { AnswersCall due.now machine.old machine.new result }
     ensures libraries { AnswersLibrary due.now machine.old machine.new result }
     ensures completes_libraries { CompletesLibrary due.now machine.old machine.new result }
+    ensures raised { RaisesAt machine.old due.now result }
 {
     law_events();
     law_bodies();

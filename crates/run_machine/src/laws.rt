@@ -1,6 +1,7 @@
 // Laws of the picks of a machine.
 ghost use Rattle.run_machine.specs.Picks.{NoneIsPermitted, UnlistedIsRefused, NextIsPermitted, PermitsDecided, FollowsCanonical, BelowIsShown};
 ghost use Rattle.run_machine.specs.Completing.{EventCompletes};
+ghost use Rattle.run_machine.specs.Straying.{LeavesStanding};
 ghost use Rattle.run_machine.specs.Taking.{EventComes, EventStands, EventSteps};
 
 use c_model::law_update_halves;
@@ -26,6 +27,14 @@ pub fn law_picks()
     law_listed_tree();
     law_cursor();
     law_strayed();
+}
+
+/// A machine that leaves the canonical way stands for what it stood for: what is done is kept then as a list of its own.
+pub fn law_straying()
+    ensures { LeavesStanding }
+{
+    law_view();
+    law_cursor();
 }
 
 /// Behind an event that isn't a body, and that may come next, a machine stands for the state of the definitions that has the event done: its value, what is

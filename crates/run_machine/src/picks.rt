@@ -1,5 +1,5 @@
 // Which pick is the canonical one, which are permitted, and what an event completes.
-ghost use Rattle.std.specs.Prelude.{◌≡◌, ◌+◌, ◌-◌, ◌<◌, ◌^◌, ◌∷◌, ◌==◌, min, false, true, [], length, is_some, ℕ, List, Option, Some, slice_get, IfOk, IfSome, IfNone, OnOk, if◌then◌else◌};
+ghost use Rattle.std.specs.Prelude.{◌≡◌, ◌≢◌, ◌+◌, ◌-◌, ◌<◌, ◌^◌, ◌∷◌, ◌==◌, min, false, true, [], length, is_some, ℕ, List, Option, Some, slice_get, IfOk, IfSome, IfNone, OnOk, if◌then◌else◌};
 ghost use Rattle.c_typed.specs.declared.tree.Place.{Place as PlaceOf};
 ghost use Rattle.c_typed.specs.Tree.{tree_of, size};
 ghost use Rattle.c_typed.specs.Order.{has, Taken};
@@ -8,6 +8,7 @@ ghost use Rattle.c_model.specs.Steps.{Ev, MayPick};
 ghost use Rattle.c_model.specs.Runs.{State, canonical_pick};
 ghost use Rattle.c_model.specs.World.{World};
 ghost use Rattle.c_model.specs.Completions.{Operands_of, Own_node};
+ghost use Rattle.seq_order.specs.declared.done.Marks.{Marks};
 ghost use Rattle.seq_order.specs.Marked.{taken_in, done_in};
 ghost use Rattle.run_control.specs.View.{Meaning};
 ghost use Rattle.run_code.specs.Named.{IsDueOf};
@@ -19,13 +20,15 @@ ghost use Rattle.run_machine.specs.Completing.{CompletesNext, CompletesNoted, co
 ghost use Rattle.run_machine.specs.Keeping.{KeepsPick};
 ghost use Rattle.run_machine.specs.Library.{AnswersNextLibrary};
 ghost use Rattle.run_machine.specs.LibraryCompletes.{CompletesNextLibrary};
+ghost use Rattle.run_machine.specs.Raising.{RaisesNext};
 ghost use Rattle.run_machine.specs.Starting.{AnswersNextBody, AnswersNextCall};
+ghost use Rattle.run_machine.specs.Straying.{Reaches, TakesSo};
 ghost use Rattle.run_machine.specs.Taking.{AnswersNext};
 ghost use Rattle.run_machine.specs.Picks.{top_of, ahead_part, passed_part, kept_of, at_cursor, ByOrder, ComesNext, Decides, Follows, IsPick, IsStep, Permits, Refuses, Strays, Takes};
 
 use crate::control::control_step;
 use crate::events::take_event;
-use crate::laws::law_picks;
+use crate::laws::{law_picks, law_straying};
 use crate::pick::{Completed, Pick};
 use c_typed::Place;
 use run_code::{Due, Listed};
@@ -48,6 +51,7 @@ pub fn canonical(machine: &mut Machine) -> Result<Pick, Halt>
     ensures keeps { KeepsPick machine.old machine.new result }
     ensures libraries { AnswersNextLibrary machine.old machine.new result }
     ensures completes_libraries { CompletesNextLibrary machine.old machine.new result }
+    ensures raises { RaisesNext machine.old result }
 {
     law_picks();
     let next = follow(machine)?;
@@ -80,7 +84,9 @@ pub fn single(machine: &mut Machine, place: Place) -> Result<Option<Pick>, Halt>
     ensures named { (world : World) (meaning : Option ℕ → Meaning) (st : State) → Stands world meaning machine.old st
         → IfOk result (λ pick. IfSome pick (IsPick world st (Ev place))) }
     ensures unchanged { IfOk result (λ pick. IfNone pick (machine.new ≡ record machine.old { items = [] })) }
+    ensures does { TakesSo machine.old place machine.new result }
 {
+    law_straying();
     let due = permitted(machine, place)?;
     machine.items.clear();
     match due {
@@ -99,6 +105,7 @@ fn permitted<'p, 'c>(
     ensures named { IfOk result (λ due. IfSome due (λ d. IsDueOf machine.new.code.now.tables d.now)) }
     ensures frame { IfOk result (λ due. (machine.new.top.frame ≡ machine.old.top.frame) × (machine.new.top.turn ≡ machine.old.top.turn)) }
     ensures unchanged { IfOk result (λ due. IfNone due (machine.new ≡ machine.old)) }
+    ensures reaches { IfOk result (λ due. IfSome due (λ d. Reaches machine.old d.now machine.new)) }
 {
     law_picks();
     let Some(stage) = machine.top.stage else {
@@ -309,7 +316,9 @@ fn keep_done(
     height: usize,
     done: Done,
 ) -> Result<(), NoMemory>
-    ensures { OnOk result (slice_get strayed.new.items height ≡ Some done) }
+    ensures kept { OnOk result (slice_get strayed.new.items height ≡ Some done) }
+    ensures others { OnOk result ((j : ℕ) (other : List Marks) → j ≢ height → slice_get strayed.old.items j ≡ Some other
+        → slice_get strayed.new.items j ≡ Some other) }
 {
     while strayed.len() <= height {
         strayed.push(Done::new(alloc))?;

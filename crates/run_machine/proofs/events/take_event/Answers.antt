@@ -6,6 +6,7 @@ use Rattle.run_machine.proofs.Bodies.{body_done, body_ended, body_started, body_
 use Rattle.run_machine.proofs.Callees.{call_done, call_ended, call_started, call_stopped}
 use Rattle.run_machine.proofs.LibraryCompletes.{completed_called}
 use Rattle.run_machine.proofs.LibraryTaken.{called_done, called_ended, called_started, called_stopped}
+use Rattle.run_machine.proofs.Raised.{finished_raises, raised_by}
 use Rattle.run_machine.proofs.events.take_event.Goals as goal
 
 pub returns-in-Ok-Done-clause-answers : goal.returns-in-Ok-Done-clause-answers
@@ -150,3 +151,13 @@ pub returns-in-Err-clause-completes_libraries : goal.returns-in-Err-clause-compl
 returns-in-Err-clause-completes_libraries c =
     completed_called c.law_bodies.ensures.completes c.args.due.now c.args.machine.now c.perform.new.machine (Err c.of.result)
     (returns-in-Err-clause-libraries c) tt
+
+pub returns-in-Ok-Done-clause-raised : goal.returns-in-Ok-Done-clause-raised
+returns-in-Ok-Done-clause-raised c = finished_raises c.args.machine.now _ _ _ c.args.due.now _ _ c.finish_event.result c.finish_event.ensures.follows
+
+pub returns-in-Ok-End-clause-raised : goal.returns-in-Ok-End-clause-raised
+returns-in-Ok-End-clause-raised c =
+    finished_raises c.args.machine.now _ _ _ c.args.due.now _ _ c.finish_event-in-Ok-End.result c.finish_event-in-Ok-End.ensures.follows
+
+pub returns-in-Err-clause-raised : goal.returns-in-Err-clause-raised
+returns-in-Err-clause-raised c = raised_by c.args.machine.now c.args.due.now c.in-Err.fault c.of.result c.of.ensures

@@ -7,6 +7,7 @@ use Rattle.run_machine.specs.Picks.{top_of}
 use Rattle.run_machine.proofs.Keeping.{event_kept, step_kept}
 use Rattle.run_machine.proofs.LibraryNext.{next_completed, next_library, none_completed, none_library}
 use Rattle.run_machine.proofs.Onward.{next_answers, next_completes, none_completes, none_next}
+use Rattle.run_machine.proofs.Raised.{next_raises, none_raises}
 use Rattle.run_machine.proofs.Staying.{event_untold, followed, step_told, steps_taken}
 use Rattle.run_machine.proofs.Taken.{event_taken}
 use Rattle.run_machine.proofs.picks.canonical.Goals as goal
@@ -41,6 +42,10 @@ returns-in-Some c = record {
       c.in_ok-next.next c.in-Some.due c.take_event.result c.in_ok-next.ensures.follows c.in-Some.is c.clear.ensures
       (c.law_picks.ensures.follows c.args.machine.now c.follow.new.machine c.in_ok-next.next c.in_ok-next.ensures.follows)
       c.take_event.ensures.completes_libraries;
+  raises = next_raises c.args.machine.now c.follow.new.machine c.in-Some.due c.in_ok-next.next (record c.follow.new.machine { items = [] })
+      c.take_event.result c.in_ok-next.ensures.follows c.in-Some.is
+      (c.law_picks.ensures.follows c.args.machine.now c.follow.new.machine c.in_ok-next.next c.in_ok-next.ensures.follows)
+      c.in_ok-next.ensures.frame.0 c.in_ok-next.ensures.frame.1 c.take_event.ensures.raised;
 }
 
 pub returns-in-None : goal.returns-in-None
@@ -66,5 +71,7 @@ returns-in-None c = record {
   libraries = none_library c.args.machine.now c.take_control.new.machine c.in_ok-next.next c.take_control.result c.in-None.is
       (c.law_picks.ensures.follows c.args.machine.now c.follow.new.machine c.in_ok-next.next c.in_ok-next.ensures.follows);
   completes_libraries = none_completed c.args.machine.now c.take_control.new.machine c.in_ok-next.next c.take_control.result c.in-None.is
+      (c.law_picks.ensures.follows c.args.machine.now c.follow.new.machine c.in_ok-next.next c.in_ok-next.ensures.follows);
+  raises = none_raises c.args.machine.now c.in_ok-next.next c.take_control.result c.in-None.is
       (c.law_picks.ensures.follows c.args.machine.now c.follow.new.machine c.in_ok-next.next c.in_ok-next.ensures.follows);
 }

@@ -1,11 +1,12 @@
-use Rattle.std.proofs.Common.{rules, ◌≡◌, sym, ap, subst, ◌∙◌}
+use Rattle.std.proofs.Common.{rules, ◌≡◌, refl, sym, ap, subst, ◌∙◌, inl, inr}
 use Rattle.std.specs.Borrow.{Bor}
 use Rattle.std.specs.Option.{IfSome}
 use Rattle.run_code.specs.Named.{IsDueOf}
 use Rattle.run_code.specs.declared.whole.Code.{Code}
 use Rattle.run_listing.specs.Along.{part_of, IsListed}
 use Rattle.run_state.specs.declared.machine.Machine.{Machine}
-use Rattle.run_machine.specs.Picks.{ComesNext, Decides, Permits}
+use Rattle.run_machine.specs.Picks.{ComesNext, Decides, Permits, Strays}
+use Rattle.run_machine.specs.Straying.{Reaches}
 use Rattle.run_machine.proofs.Parts.{named_listed}
 use Rattle.run_machine.proofs.Picked.{strays_code}
 use Rattle.run_machine.proofs.picks.permitted.Goals as goal
@@ -51,3 +52,30 @@ pub returns-else-branch-clause-permits : goal.returns-else-branch-clause-permits
 returns-else-branch-clause-permits c =
     c.law_picks.ensures.decided c.args.machine.now c.in-Some.stage c.args.place _ c.in-Some.is
     (subst (Decides c.args.machine.now c.in-Some.stage c.args.place) c.if-branch.false c.in_ok-strays.ensures.permitted)
+
+pub returns-then-eq-clause-reaches : goal.returns-then-eq-clause-reaches
+returns-then-eq-clause-reaches c = record {
+  stage = c.in-Some.stage;
+  open_so = c.in-Some.is;
+  way = inl (record {
+    straight = c.if-stage.true;
+    count = c.in-Some-2.count;
+    due = c.in-Some-2.due;
+    is = refl;
+    comes = subst (ComesNext c.args.machine.now c.in-Some.stage) c.in-Some-2.is c.in_ok-count.ensures.next;
+    moved = c.move_on.ensures;
+  });
+}
+
+pub returns-then-branch-clause-reaches : goal.returns-then-branch-clause-reaches
+returns-then-branch-clause-reaches c =
+    let m = c.args.machine.now in
+    let s = c.in-Some.stage in
+    let part = c.part.ensures ∙ ap (λ es. part_of es s.first s.end) c.deref.ensures.value in record {
+      stage = s;
+      open_so = c.in-Some.is;
+      way = inr (
+        subst (λ es. IsListed es c.in-Some-due_of.due.now) part c.in-Some-due_of.ensures.listed,
+        subst (Strays m s c.strays.new.machine) c.if-branch.true c.in_ok-strays.ensures.state,
+      );
+    }
