@@ -43,7 +43,7 @@ pub enum Request<'a> {
 }
 
 /// Why the words ask for nothing: the command doesn't take them, or memory ran out.
-#[derive(Clone, Copy, Debug, PartialEq, Eq)]
+#[derive(Clone, Copy, PartialEq, Eq)]
 pub enum WordFault {
     Usage,
     NoMemory,
