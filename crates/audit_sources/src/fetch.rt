@@ -8,7 +8,7 @@ use std::alloc::Global;
 use ub_base::{Bytes, Fetched, FileFault, Files};
 
 /// Why a file isn't fetched.
-#[derive(Clone, Copy, Debug, PartialEq, Eq)]
+#[derive(Clone, Copy, PartialEq, Eq)]
 pub enum FetchFault {
     /// It isn't there, or a read failed.
     ReadFault,
@@ -57,7 +57,7 @@ fn fetch_input<F: Files>(
 }
 
 /// The texts that an audit reads.
-#[derive(Debug, Drop)]
+#[derive(Drop)]
 pub struct Sources {
     pub text: Bytes,
     pub input: Bytes,
@@ -85,7 +85,7 @@ pub fn fetch_sources<F: Files>(
 }
 
 /// The texts that a check of a certificate reads.
-#[derive(Debug, Drop)]
+#[derive(Drop)]
 pub struct CheckSources {
     pub text: Bytes,
     pub certificate: Bytes,

@@ -9,7 +9,7 @@ use std::alloc::Global;
 use ub_base::{FileFault, Files, NoMemory};
 
 /// Why a certificate isn't kept.
-#[derive(Clone, Copy, Debug, PartialEq, Eq)]
+#[derive(Clone, Copy, PartialEq, Eq)]
 pub enum KeepFault {
     TooLong,
     /// A write failed.

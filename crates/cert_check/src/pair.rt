@@ -67,7 +67,7 @@ fn add_all(foot: &mut Foot, items: &[Item]) -> Result<(), NoMemory> {
 }
 
 // What the two evaluations are to be: unsequenced accesses of one byte, or otherwise conflicting in no order.
-#[derive(Clone, Copy, Debug, PartialEq, Eq)]
+#[derive(Clone, Copy, PartialEq, Eq)]
 pub enum Sought {
     Race,
     Quarrel,

@@ -6,7 +6,7 @@ use run_machine::{Halt, Machine, Pick, canonical, single};
 use ub_base::{Clause, Event, Frame, Frames, NoMemory};
 
 // How far an order has led: it can go on, its last pick ended the run or raised a clause, or it breaks a rule.
-#[derive(Clone, Copy, Debug, PartialEq, Eq)]
+#[derive(Clone, Copy, PartialEq, Eq)]
 pub enum Course {
     Going,
     Ended(u8),

@@ -1,7 +1,7 @@
 // Answers of a check of a certificate.
 
 /// What is asked of a certificate, in this order (own).
-#[derive(Clone, Copy, Debug, PartialEq, Eq)]
+#[derive(Clone, Copy, PartialEq, Eq)]
 pub enum Part {
     /// The rows are those of an address map.
     Map,
@@ -12,7 +12,7 @@ pub enum Part {
 }
 
 /// Whether a certificate holds, and the first part that doesn't.
-#[derive(Clone, Copy, Debug, PartialEq, Eq)]
+#[derive(Clone, Copy, PartialEq, Eq)]
 pub enum Answer {
     Yes,
     No(Part),

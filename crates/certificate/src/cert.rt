@@ -13,14 +13,14 @@ pub type Rows = Items<Row>;
 pub type Segments = Items<Segment>;
 
 /// A stretch of an order: so many picks of the canonical order, at least one, or one event of the top frame.
-#[derive(Clone, Copy, Debug, PartialEq, Eq)]
+#[derive(Clone, Copy, PartialEq, Eq)]
 pub enum Segment {
     Canonical(u64),
     Pick { node: u32, kind: Kind },
 }
 
 /// What a certificate says of its order.
-#[derive(Debug, Drop)]
+#[derive(Drop)]
 pub enum Claim {
     /// The run ends, with this status and output, and without a finding.
     Clean {
@@ -47,7 +47,7 @@ pub enum Claim {
 }
 
 /// The version of a certificate.
-#[derive(Clone, Copy, Debug, PartialEq, Eq)]
+#[derive(Clone, Copy, PartialEq, Eq)]
 pub enum Version {
     One,
     Two,
@@ -63,7 +63,7 @@ pub struct Cert {
 }
 
 /// A member of a certificate's object, or the object itself.
-#[derive(Clone, Copy, Debug, PartialEq, Eq)]
+#[derive(Clone, Copy, PartialEq, Eq)]
 pub enum Field {
     Root,
     Version,
@@ -102,7 +102,7 @@ impl Field {
 }
 
 /// Why a text is no certificate: it is no JSON, its first wrong field, or memory ran out.
-#[derive(Clone, Copy, Debug, PartialEq, Eq)]
+#[derive(Clone, Copy, PartialEq, Eq)]
 pub enum CertFault {
     NotJson,
     BadShape(Field),

@@ -52,7 +52,7 @@ fn moved_name(name: ObjName, by: u64) -> Option<ObjName>
 }
 
 /// How far the rows of a run stand apart: the bases, and the moving numbers of the names.
-#[derive(Clone, Copy, Debug, PartialEq, Eq)]
+#[derive(Clone, Copy, PartialEq, Eq)]
 pub struct Stride {
     pub step: u64,
     pub raise: u64,
@@ -92,7 +92,7 @@ pub fn row_at(first: Row, stride: Stride, at: u64) -> Option<Row>
 }
 
 /// A run of rows: how many, their stride, and the first.
-#[derive(Clone, Copy, Debug, PartialEq, Eq)]
+#[derive(Clone, Copy, PartialEq, Eq)]
 pub struct Run {
     pub count: u64,
     pub stride: Stride,

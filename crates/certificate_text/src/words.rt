@@ -5,7 +5,7 @@ ghost use Rattle.certificate_text.specs.Reading.{verdict_named, kind_named, caus
 use ub_base::{Cause, Kind};
 
 /// The verdict that a certificate claims.
-#[derive(Clone, Copy, Debug, PartialEq, Eq)]
+#[derive(Clone, Copy, PartialEq, Eq)]
 pub enum Verdict {
     Clean,
     Undefined,

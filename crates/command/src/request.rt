@@ -4,7 +4,7 @@ ghost use Rattle.std.specs.Prelude.{◌≡◌};
 use std::alloc::AllocError;
 
 /// `audit FILE [--input F] [--steps N] [--tight] [--cert F] [ARGS]`.
-#[derive(Debug, Drop)]
+#[derive(Drop)]
 pub struct AuditRequest<'a> {
     pub file: &'a str,
     pub input: Option<&'a str>,
@@ -17,7 +17,7 @@ pub struct AuditRequest<'a> {
 }
 
 /// `check FILE CERT [--input F] [ARGS]`.
-#[derive(Debug, Drop)]
+#[derive(Drop)]
 pub struct CheckRequest<'a> {
     pub file: &'a str,
     pub cert: &'a str,
@@ -26,7 +26,7 @@ pub struct CheckRequest<'a> {
 }
 
 /// `self SEED N`.
-#[derive(Clone, Copy, Debug)]
+#[derive(Clone, Copy)]
 pub struct SelfRequest {
     /// At most 65,536.
     pub seed: u64,
@@ -35,7 +35,7 @@ pub struct SelfRequest {
 }
 
 /// What the words ask for.
-#[derive(Debug, Drop)]
+#[derive(Drop)]
 pub enum Request<'a> {
     Audit(AuditRequest<'a>),
     Check(CheckRequest<'a>),
@@ -43,7 +43,7 @@ pub enum Request<'a> {
 }
 
 /// Why the words ask for nothing: the command doesn't take them, or memory ran out.
-#[derive(Clone, Copy, Debug, PartialEq, Eq)]
+#[derive(Clone, Copy, PartialEq, Eq)]
 pub enum WordFault {
     Usage,
     NoMemory,

@@ -8,7 +8,7 @@ use ub_base::{Event, Frames, Item};
 
 /// Two evaluations of one full expression, the smaller one first, that conflict, and their least conflicting items: a race
 /// (6.5p2) where the two are unsequenced accesses of one byte, and otherwise a dependence on the order.
-#[derive(Clone, Copy, Debug, PartialEq, Eq)]
+#[derive(Clone, Copy, PartialEq, Eq)]
 pub struct Found {
     pub race: bool,
     pub event: Event,

@@ -10,7 +10,7 @@ use std::alloc::Global;
 use ub_base::NoMemory;
 
 /// How a node sequences its operands and its own events.
-#[derive(Clone, Copy, Debug, PartialEq, Eq)]
+#[derive(Clone, Copy, PartialEq, Eq)]
 pub enum Rule {
     /// The operands are unsequenced, and only their values come before the node's own events (6.5p2).
     Open,
@@ -25,7 +25,7 @@ pub enum Rule {
 }
 
 /// The rules of a full expression's nodes, by their preorder numbers.
-#[derive(Debug, Drop)]
+#[derive(Drop)]
 pub struct Rules {
     list: Vec<Rule>,
 }

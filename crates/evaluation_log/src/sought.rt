@@ -20,7 +20,7 @@ pub struct Under<'u> {
 }
 
 /// Which conflicts are sought: races, which no body has a part in, or any.
-#[derive(Clone, Copy, Debug, PartialEq, Eq)]
+#[derive(Clone, Copy, PartialEq, Eq)]
 pub enum Sought {
     Races,
     Any,

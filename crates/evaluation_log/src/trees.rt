@@ -100,7 +100,7 @@ pub fn first_behind(tree: &Typed, k: u32, node: u32) -> Option<u32>
 }
 
 /// An operand: its index among those of its node, and the number of its root.
-#[derive(Clone, Copy, Debug, PartialEq, Eq)]
+#[derive(Clone, Copy, PartialEq, Eq)]
 pub struct Spot {
     pub index: usize,
     pub number: u32,

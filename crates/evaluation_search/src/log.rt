@@ -24,7 +24,7 @@ pub struct Log<'l> {
 }
 
 /// A full expression: its frame, and the turn of that.
-#[derive(Clone, Copy, Debug, PartialEq, Eq)]
+#[derive(Clone, Copy, PartialEq, Eq)]
 pub struct Place {
     pub frame: Frame,
     pub turn: u64,

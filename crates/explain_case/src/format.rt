@@ -18,7 +18,7 @@ pub struct Mismatch<'p> {
 }
 
 /// What a conversion takes (7.21.6.1p8).
-#[derive(Clone, Copy, Debug, PartialEq, Eq)]
+#[derive(Clone, Copy, PartialEq, Eq)]
 pub enum Taken {
     Integer(IntKind),
     Text,
@@ -35,7 +35,7 @@ struct Directive {
 }
 
 // The length modifier of a directive.
-#[derive(Clone, Copy, Debug, PartialEq, Eq)]
+#[derive(Clone, Copy, PartialEq, Eq)]
 enum Length {
     Plain,
     Long,

@@ -5,9 +5,8 @@ use crate::page::put_tokens;
 use c_typed::Typed;
 use c_types::{IntKind, Ty};
 use explain_facts::{Opened, tree_at};
-use explain_page::{Page, empty, put_number, put_type};
+use explain_page::{Page, put_number, put_type};
 use explain_places::{extent_of, function_of, token_of};
-use std::alloc::Global;
 use ub_base::{Bytes, NoMemory};
 
 /// Adds a number with its sign.
@@ -46,13 +45,6 @@ pub fn put_a_type(out: &mut Bytes, page: &Page<'_, '_>, ty: &Ty) -> Result<(), N
 /// Adds the tokens of a node.
 pub fn put_tree(out: &mut Bytes, page: &Page<'_, '_>, tree: &Typed) -> Result<(), NoMemory> {
     put_tokens(out, page, &extent_of(page.tokens, tree))
-}
-
-/// The tokens of a node as a text of its own.
-pub fn tree_text(alloc: Global, page: &Page<'_, '_>, tree: &Typed) -> Result<Bytes, NoMemory> {
-    let mut text = empty(alloc);
-    put_tree(&mut text, page, tree)?;
-    Ok(text)
 }
 
 /// Adds the name of the function in which a token stands.

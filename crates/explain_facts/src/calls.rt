@@ -7,7 +7,7 @@ use std::alloc::Global;
 use ub_base::{Frame, Frames, NoMemory};
 
 /// Where a function was called, by the line of the call; and how many calls in a row stand there.
-#[derive(Clone, Copy, Debug, PartialEq, Eq)]
+#[derive(Clone, Copy, PartialEq, Eq)]
 pub struct CallSite {
     pub line: u32,
     pub times: u32,

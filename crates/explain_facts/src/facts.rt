@@ -5,7 +5,7 @@ use std::alloc::Global;
 use ub_base::{Bytes, Event, Frame, Frames, ObjName};
 
 /// A full expression that is open, with the number of its tree.
-#[derive(Clone, Copy, Debug, PartialEq, Eq)]
+#[derive(Clone, Copy, PartialEq, Eq)]
 pub struct Opened {
     pub frame: Frame,
     pub turn: u64,
@@ -13,14 +13,14 @@ pub struct Opened {
 }
 
 /// An address, and the object that a pointer to it may be used for, where that is known to be one.
-#[derive(Clone, Copy, Debug, PartialEq, Eq)]
+#[derive(Clone, Copy, PartialEq, Eq)]
 pub struct Aim {
     pub addr: u64,
     pub object: Option<ObjName>,
 }
 
 /// A value as far as it can be shown.
-#[derive(Clone, Copy, Debug, PartialEq, Eq)]
+#[derive(Clone, Copy, PartialEq, Eq)]
 pub enum Shown {
     Integer(i128),
     Pointer(Aim),
@@ -66,7 +66,7 @@ impl Moment {
 }
 
 /// Bytes of an object.
-#[derive(Clone, Copy, Debug, PartialEq, Eq)]
+#[derive(Clone, Copy, PartialEq, Eq)]
 pub struct Sought {
     pub object: ObjName,
     pub from: u64,
@@ -74,7 +74,7 @@ pub struct Sought {
 }
 
 /// An act on an object: its full expression, the one that called it, its node, and the bytes.
-#[derive(Clone, Copy, Debug, PartialEq, Eq)]
+#[derive(Clone, Copy, PartialEq, Eq)]
 pub struct Touch {
     pub opened: Opened,
     pub caller: Option<Opened>,
@@ -85,7 +85,7 @@ pub struct Touch {
 }
 
 /// How a text names an automatic object: by its slot, in one of these full expressions, from the first up to the last.
-#[derive(Clone, Copy, Debug, PartialEq, Eq)]
+#[derive(Clone, Copy, PartialEq, Eq)]
 pub struct Named {
     pub slot: Slot,
     pub first: u32,
@@ -93,7 +93,7 @@ pub struct Named {
 }
 
 /// A call of malloc, calloc or realloc that gave null for so many bytes, which are above what one allocation gives.
-#[derive(Clone, Copy, Debug, PartialEq, Eq)]
+#[derive(Clone, Copy, PartialEq, Eq)]
 pub struct Unallocated {
     pub touch: Touch,
     pub size: u128,

@@ -4,7 +4,7 @@ use addr_map::AddrMap;
 use ub_base::{Cause, Clause, Event, Frames, Item};
 
 /// A verdict on a run.
-#[derive(Clone, Copy, Debug, PartialEq, Eq)]
+#[derive(Clone, Copy, PartialEq, Eq)]
 pub enum Verdict {
     Clean { status: u8 },
     Undefined(Clause),
@@ -37,7 +37,7 @@ impl Verdict {
 }
 
 /// Two events, their lines, and their items, where there are two; the first one alone, where it broke a clause by itself.
-#[derive(Clone, Copy, Debug, PartialEq, Eq)]
+#[derive(Clone, Copy, PartialEq, Eq)]
 pub struct Events {
     pub event: Event,
     pub line: u32,

@@ -22,7 +22,7 @@ pub struct Page<'t, 'a> {
 
 /// A stretch of the text: from `start` up to but without `end`, its operator, and the line that it begins on, as the line
 /// markers number the lines.
-#[derive(Clone, Copy, Debug, PartialEq, Eq)]
+#[derive(Clone, Copy, PartialEq, Eq)]
 pub struct Stretch {
     pub start: usize,
     pub end: usize,

@@ -1,7 +1,7 @@
 // The pieces of a line: words, literals, and single bytes.
 
 /// A part of a line from `start` up to but without `end`.
-#[derive(Clone, Copy, Debug, PartialEq, Eq)]
+#[derive(Clone, Copy, PartialEq, Eq)]
 pub struct Piece {
     pub start: usize,
     pub end: usize,

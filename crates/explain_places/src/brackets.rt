@@ -3,7 +3,7 @@
 use c_lex::{Mark, TokenKind, Tokens};
 
 /// How a token changes the depth of brackets.
-#[derive(Clone, Copy, Debug, PartialEq, Eq)]
+#[derive(Clone, Copy, PartialEq, Eq)]
 pub enum Side {
     Opens,
     Closes,

@@ -11,7 +11,7 @@ use c_typed::{Node, Typed};
 use c_types::BinOp;
 
 /// The first token of an expression, that of its operator, and its last one.
-#[derive(Clone, Copy, Debug, PartialEq, Eq)]
+#[derive(Clone, Copy, PartialEq, Eq)]
 pub struct Extent {
     pub first: u32,
     pub operator: u32,
@@ -55,14 +55,6 @@ fn last_token(tree: &Typed) -> u32 {
     operand_token(tree, 0)
         .max(operand_token(tree, 1))
         .max(operand_token(tree, 2))
-}
-
-// How many postfix operators the first operand has, where it begins at this token.
-fn steps_of_operand(tokens: &Tokens<'_>, tree: &Typed, first: u32) -> u32 {
-    match tree.children.get(0) {
-        Some(operand) => steps_of(tokens, operand, first),
-        None => 0,
-    }
 }
 
 // How many postfix operators an expression has, where it begins at this token.

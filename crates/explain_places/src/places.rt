@@ -1,7 +1,7 @@
 // Lines, columns and files.
 
 /// The part of a text from `start` up to but without `end`.
-#[derive(Clone, Copy, Debug, PartialEq, Eq)]
+#[derive(Clone, Copy, PartialEq, Eq)]
 pub struct FileName {
     pub start: usize,
     pub end: usize,

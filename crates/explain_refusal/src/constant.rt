@@ -7,7 +7,7 @@ use explain_places::{declaration_of, open_before};
 use ub_base::{Bytes, NoMemory};
 
 /// A declaration that makes an operand const. Tokens are named by their numbers.
-#[derive(Clone, Copy, Debug, PartialEq, Eq)]
+#[derive(Clone, Copy, PartialEq, Eq)]
 pub struct Constant {
     /// The declaration of the object that is const, or of the member.
     pub declared: Declared,
@@ -19,7 +19,7 @@ pub struct Constant {
 
 /// A name that is declared: the name, the first token of its declaration, and the keyword of the structure or union that it is a
 /// member of.
-#[derive(Clone, Copy, Debug, PartialEq, Eq)]
+#[derive(Clone, Copy, PartialEq, Eq)]
 pub struct Declared {
     pub name: u32,
     pub first: u32,

@@ -10,10 +10,10 @@ use explain_places::{one_a_line, token_of};
 use parse_reason::{Reason as SyntaxReason, reason_of};
 use std::alloc::Global;
 use type_reasons::Reason;
-use ub_base::{Bytes, NoMemory};
+use ub_base::NoMemory;
 
 /// Why a text isn't run.
-#[derive(Clone, Copy, Debug, PartialEq, Eq)]
+#[derive(Clone, Copy, PartialEq, Eq)]
 pub enum Refused {
     /// The byte at this offset begins no token.
     Stray(u32),

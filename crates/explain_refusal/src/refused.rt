@@ -29,7 +29,7 @@ pub struct Refusal {
 }
 
 /// The rule of a refusal.
-#[derive(Clone, Copy, Debug, PartialEq, Eq)]
+#[derive(Clone, Copy, PartialEq, Eq)]
 pub enum Rule {
     Unsaid,
     /// It belongs to this part of C, or to what compilers add, which the profile leaves out.

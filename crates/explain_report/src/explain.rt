@@ -3,7 +3,6 @@ ghost use Rattle.std.specs.Prelude.{◌≤◌, ◌^◌, length};
 
 use crate::asked::Asked;
 use crate::found::{events_of, picks_of, verdict_of};
-use c_typed::Program;
 use core_ir::CoreProgram;
 use elaborate::{elaborate, roots_of};
 use explain_case::{Act, Case, Words, first_act, library_call, second_act, sought_of};
@@ -18,7 +17,7 @@ use std::alloc::Global;
 use ub_base::{Bytes, Clause, Event, Item, Kind, NoMemory, ObjName};
 
 // How an explanation is put.
-#[derive(Clone, Copy, Debug, PartialEq, Eq)]
+#[derive(Clone, Copy, PartialEq, Eq)]
 enum Form {
     Words,
     Json,

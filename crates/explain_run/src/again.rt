@@ -176,7 +176,7 @@ pub fn trail_of(
 }
 
 /// Nodes of a full expression whose events are taken as soon as they may be: from `first` up to but without `end`.
-#[derive(Clone, Copy, Debug, PartialEq, Eq)]
+#[derive(Clone, Copy, PartialEq, Eq)]
 pub struct Before {
     pub event: Event,
     pub first: u32,

@@ -55,7 +55,7 @@ fn source_behind(source: Option<ObjName>, does: Does, read: Option<Read>) -> Opt
 }
 
 // What an item does to the bytes that are sought.
-#[derive(Clone, Copy, Debug, PartialEq, Eq)]
+#[derive(Clone, Copy, PartialEq, Eq)]
 enum Does {
     Nothing,
     Accesses { writes: bool, from: u64, len: u64 },

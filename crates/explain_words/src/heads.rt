@@ -3,7 +3,7 @@
 use ub_base::Clause;
 
 /// A sentence: what stands before the expression, what behind it, and whether the type of its value follows.
-#[derive(Clone, Copy, Debug, PartialEq, Eq)]
+#[derive(Clone, Copy, PartialEq, Eq)]
 pub struct Head {
     pub before: &'static str,
     pub behind: &'static str,

@@ -1,7 +1,7 @@
 // The tokens of the first form (6.4).
 
 /// A keyword.
-#[derive(Clone, Copy, Debug, PartialEq, Eq)]
+#[derive(Clone, Copy, PartialEq, Eq)]
 pub enum Word {
     Int,
     Void,
@@ -9,7 +9,7 @@ pub enum Word {
 }
 
 /// A punctuator.
-#[derive(Clone, Copy, Debug, PartialEq, Eq)]
+#[derive(Clone, Copy, PartialEq, Eq)]
 pub enum Mark {
     OpenParen,
     CloseParen,
@@ -23,7 +23,7 @@ pub enum Mark {
     Percent,
 }
 
-#[derive(Clone, Copy, Debug, PartialEq, Eq)]
+#[derive(Clone, Copy, PartialEq, Eq)]
 pub enum TokenKind {
     Name,
     Keyword(Word),
@@ -32,7 +32,7 @@ pub enum TokenKind {
 }
 
 /// A token, where it stands in the text, and on which line.
-#[derive(Clone, Copy, Debug, PartialEq, Eq)]
+#[derive(Clone, Copy, PartialEq, Eq)]
 pub struct Token {
     pub kind: TokenKind,
     pub start: u32,
@@ -41,7 +41,7 @@ pub struct Token {
 }
 
 /// The tokens of a text.
-#[derive(Debug, Drop)]
+#[derive(Drop)]
 pub struct Tokens<'a> {
     pub text: &'a [u8],
     pub list: Vec<Token>,

@@ -4,7 +4,7 @@ ghost use Rattle.footprint.specs.States.{either, not_alive};
 ghost use Rattle.footprint.specs.Meets.{states_conflict, states_meet};
 
 /// What was done to an object as a whole.
-#[derive(Clone, Copy, Debug, PartialEq, Eq)]
+#[derive(Clone, Copy, PartialEq, Eq)]
 pub struct State {
     pub born: bool,
     pub dies: bool,

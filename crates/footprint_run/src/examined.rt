@@ -11,7 +11,7 @@ use std::alloc::Global;
 use ub_base::NoMemory;
 
 /// The rules of a tree's nodes, and whether no two of its evaluations may conflict of which neither is sequenced before the other.
-#[derive(Debug, Drop)]
+#[derive(Drop)]
 pub struct Examined {
     pub rules: Rules,
     pub quiet: bool,

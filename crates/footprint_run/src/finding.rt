@@ -5,7 +5,7 @@ use core_run::{Calls, Ran};
 use ub_base::{Bytes, Cause, Clause, Event, Frames, Item};
 
 /// The first finding along the canonical order, with the number of picks that lead to it.
-#[derive(Clone, Copy, Debug, PartialEq, Eq)]
+#[derive(Clone, Copy, PartialEq, Eq)]
 pub enum Finding {
     /// The run ended, and nothing was found.
     Clean {
@@ -42,7 +42,7 @@ pub enum Finding {
 }
 
 /// The greater event of a race, its line, and the least conflicting accesses of the two events.
-#[derive(Clone, Copy, Debug, PartialEq, Eq)]
+#[derive(Clone, Copy, PartialEq, Eq)]
 pub struct Race {
     pub against: Event,
     pub against_line: u32,

@@ -21,7 +21,7 @@ pub trait Progress {
 }
 
 /// Tells nobody.
-#[derive(Clone, Copy, Debug)]
+#[derive(Clone, Copy)]
 pub struct Quiet;
 
 impl Progress for Quiet {

@@ -4,7 +4,7 @@ ghost use Rattle.evaluation_log.specs.FoundItems.{IsConflict};
 use evaluation_log::Found;
 
 /// Two evaluations that conflict, and their lines.
-#[derive(Clone, Copy, Debug)]
+#[derive(Clone, Copy)]
 pub struct Seen {
     pub found: Found,
     pub line: u32,

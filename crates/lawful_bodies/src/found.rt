@@ -11,7 +11,7 @@ use std::alloc::Global;
 use ub_base::Items;
 
 /// What stands round a statement: whether a `break`, and whether a `continue` has something to leave.
-#[derive(Clone, Copy, Debug, PartialEq, Eq)]
+#[derive(Clone, Copy, PartialEq, Eq)]
 pub(crate) struct Inside {
     pub breaks: bool,
     pub continues: bool,

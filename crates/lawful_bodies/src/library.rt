@@ -8,7 +8,7 @@ ghost use Rattle.lawful_bodies.specs.Parts.{part_type};
 use c_types::{FuncTy, IntKind, LibFunc, Qual, Ty};
 
 /// The types of which those of the library functions are made.
-#[derive(Clone, Copy, Debug, PartialEq, Eq)]
+#[derive(Clone, Copy, PartialEq, Eq)]
 pub(crate) enum Part {
     Nothing,
     Int,

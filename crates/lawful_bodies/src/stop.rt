@@ -5,7 +5,7 @@ use std::alloc::AllocError;
 use ub_base::NoMemory;
 
 /// Why the check of a function ends before its end.
-#[derive(Clone, Copy, Debug, PartialEq, Eq, Drop)]
+#[derive(Clone, Copy, PartialEq, Eq, Drop)]
 pub(crate) enum Stop {
     Unlawful,
     NoMemory,

@@ -6,7 +6,7 @@ ghost use Rattle.c_typed.specs.Lawful.{Divides, AddressSuits, SuitsType};
 
 use c_typed::{Program, Target};
 use c_types::Ty;
-use layout::{align, size};
+use layout::align;
 
 fn divides(align: u64, n: u64) -> bool
     ensures { IsTrue result → Divides align n }

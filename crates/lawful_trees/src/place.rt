@@ -3,7 +3,7 @@
 use c_types::Qual;
 
 /// What a full expression is for (6.8p4).
-#[derive(Clone, Copy, Debug, PartialEq, Eq)]
+#[derive(Clone, Copy, PartialEq, Eq)]
 pub enum Purpose {
     Unused,
     Tested,

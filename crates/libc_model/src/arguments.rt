@@ -22,7 +22,7 @@ use prov_memory::{LibAnswer, MemByte, Memory, Touched, Value};
 use ub_base::{Clause, Event, Item, ObjName};
 
 /// A pointer that a library function was given.
-#[derive(Clone, Copy, Debug, PartialEq, Eq)]
+#[derive(Clone, Copy, PartialEq, Eq)]
 pub struct Pointer {
     pub addr: u64,
     pub prov: Prov,
@@ -47,7 +47,7 @@ impl Pointer {
 }
 
 /// The bytes of an object that an argument names.
-#[derive(Clone, Copy, Debug, PartialEq, Eq)]
+#[derive(Clone, Copy, PartialEq, Eq)]
 pub struct Range {
     pub object: ObjName,
     pub from: u64,

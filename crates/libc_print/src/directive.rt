@@ -7,7 +7,7 @@ ghost use Rattle.libc_print.specs.Seen.{flags_seen, count_seen, length_seen, pie
 /// A number above this counts as this (own).
 pub const MOST: u64 = 1 << 62;
 
-#[derive(Clone, Copy, Debug, PartialEq, Eq)]
+#[derive(Clone, Copy, PartialEq, Eq)]
 pub struct Flags {
     pub minus: bool,
     pub plus: bool,
@@ -25,7 +25,7 @@ impl Flags {
 }
 
 /// A width or a precision as it is written.
-#[derive(Clone, Copy, Debug, PartialEq, Eq)]
+#[derive(Clone, Copy, PartialEq, Eq)]
 pub enum Count {
     Absent,
     Argument,
@@ -33,7 +33,7 @@ pub enum Count {
 }
 
 /// A length modifier; `LongDouble` is `L`.
-#[derive(Clone, Copy, Debug, PartialEq, Eq)]
+#[derive(Clone, Copy, PartialEq, Eq)]
 pub enum Length {
     Absent,
     Char,
@@ -46,7 +46,7 @@ pub enum Length {
     LongDouble,
 }
 
-#[derive(Clone, Copy, Debug, PartialEq, Eq)]
+#[derive(Clone, Copy, PartialEq, Eq)]
 pub struct Directive {
     pub flags: Flags,
     pub width: Count,
@@ -58,7 +58,7 @@ pub struct Directive {
 }
 
 /// Whether a directive is taken (own: what is left out).
-#[derive(Clone, Copy, Debug, PartialEq, Eq)]
+#[derive(Clone, Copy, PartialEq, Eq)]
 pub enum Form {
     Taken,
     LeftOut,

@@ -14,7 +14,7 @@ use ub_base::{Cause, NoMemory};
 const CONVERSION: u64 = 4095;
 
 /// How a number is written.
-#[derive(Clone, Copy, Debug, PartialEq, Eq)]
+#[derive(Clone, Copy, PartialEq, Eq)]
 pub enum Base {
     Octal,
     Decimal,
@@ -98,7 +98,7 @@ pub struct Parts<'a> {
 }
 
 /// How a conversion is padded.
-#[derive(Clone, Copy, Debug, PartialEq, Eq)]
+#[derive(Clone, Copy, PartialEq, Eq)]
 pub struct Field {
     pub width: u64,
     /// Spaces go on the right.
@@ -108,7 +108,7 @@ pub struct Field {
 }
 
 /// A width from the directive or an argument.
-#[derive(Clone, Copy, Debug, PartialEq, Eq)]
+#[derive(Clone, Copy, PartialEq, Eq)]
 pub struct Width {
     pub size: u64,
     /// Spaces go on the right, by a negative width.

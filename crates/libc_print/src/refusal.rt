@@ -4,7 +4,7 @@ use prov_memory::LibAnswer;
 use ub_base::{Cause, Clause, NoMemory};
 
 /// Undefined behaviour, a limit that would be passed or a directive that is left out (own), or want of memory.
-#[derive(Clone, Copy, Debug, PartialEq, Eq)]
+#[derive(Clone, Copy, PartialEq, Eq)]
 pub enum Refusal {
     Raise(Clause),
     Outside(Cause, u64),

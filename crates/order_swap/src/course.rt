@@ -27,7 +27,7 @@ pub struct Followed {
 }
 
 /// Why an order isn't followed further.
-#[derive(Clone, Copy, Debug)]
+#[derive(Clone, Copy)]
 enum Stop {
     Ended(u8),
     Raised(Clause),

@@ -108,7 +108,7 @@ fn stores_needed(root: &Typed, place: Place, second: Place, taken: &Taken) -> bo
 }
 
 /// Two events of a full expression, the earlier one in post-order first.
-#[derive(Clone, Copy, Debug)]
+#[derive(Clone, Copy)]
 pub struct Pair {
     pub first: Place,
     pub second: Place,

@@ -2,7 +2,7 @@
 
 /// Where a declarator stands: in a declaration it has a name, in a type name it has none, and in a parameter it may have
 /// one (6.7.6, 6.7.7).
-#[derive(Clone, Copy, Debug, PartialEq, Eq)]
+#[derive(Clone, Copy, PartialEq, Eq)]
 pub enum Mode {
     Named,
     Abstract,
@@ -10,7 +10,7 @@ pub enum Mode {
 }
 
 /// Which keywords may stand among specifiers: those of a declaration, or only type specifiers and qualifiers (6.7.2.1).
-#[derive(Clone, Copy, Debug, PartialEq, Eq)]
+#[derive(Clone, Copy, PartialEq, Eq)]
 pub enum Place {
     Declaration,
     Qualified,

@@ -6,7 +6,7 @@ use std::alloc::{AllocError, AllocFailed};
 use ub_base::NoMemory;
 
 /// How deep the rules nest is known before.
-#[derive(Clone, Copy, Debug, PartialEq, Eq)]
+#[derive(Clone, Copy, PartialEq, Eq)]
 pub enum Refusal {
     /// The number of the first token with which no translation unit goes on; the count of tokens where the end comes too soon.
     Syntax(u32),

@@ -9,7 +9,7 @@ use std::marker::Model;
 use ub_base::NoMemory;
 
 /// A declaration of an ordinary identifier.
-#[derive(Clone, Copy, Debug)]
+#[derive(Clone, Copy)]
 pub struct Declared {
     /// The number of the token that is the declared name.
     pub at: u32,
@@ -17,7 +17,7 @@ pub struct Declared {
 }
 
 /// A declaration as it stands in scope.
-#[derive(Clone, Copy, Debug)]
+#[derive(Clone, Copy)]
 pub struct Named {
     pub declared: Declared,
     /// The number of the first token that spells the name.

@@ -6,7 +6,7 @@ use std::alloc::Global;
 use ub_base::{Bytes, NoMemory};
 
 /// A token that is missing before another one.
-#[derive(Clone, Copy, Debug, PartialEq, Eq)]
+#[derive(Clone, Copy, PartialEq, Eq)]
 pub enum Missing {
     Semicolon,
     Comma,
@@ -58,7 +58,7 @@ fn with_token(
 const MOST: usize = 1_048_576;
 
 // How far a text is read: the first token with which no text goes on; none where it is read whole, or isn't read at all.
-#[derive(Clone, Copy, Debug, PartialEq, Eq)]
+#[derive(Clone, Copy, PartialEq, Eq)]
 enum Reading {
     Whole,
     UpTo(u32),

@@ -1,7 +1,7 @@
 // Parts of C, and of what compilers add to it, that the profile leaves out.
 
 /// A part of C that is left out, or what compilers add to C11.
-#[derive(Clone, Copy, Debug, PartialEq, Eq)]
+#[derive(Clone, Copy, PartialEq, Eq)]
 pub enum Part {
     FloatingType,
     FloatingConstant,

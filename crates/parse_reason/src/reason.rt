@@ -13,7 +13,7 @@ use std::alloc::Global;
 use ub_base::NoMemory;
 
 /// Why no program goes on with a token. Tokens are named by their numbers.
-#[derive(Clone, Copy, Debug, PartialEq, Eq)]
+#[derive(Clone, Copy, PartialEq, Eq)]
 pub enum Reason {
     /// What this token belongs to is left out.
     LeftOut(Part, u32),

@@ -4,7 +4,7 @@ use crate::Value;
 use ub_base::{Cause, Clause, NoMemory};
 
 /// Why a load or a copy gave nothing: undefined behaviour, or want of memory.
-#[derive(Clone, Copy, Debug, PartialEq, Eq)]
+#[derive(Clone, Copy, PartialEq, Eq)]
 pub enum MemFault {
     Raise(Clause),
     NoMemory,
@@ -33,7 +33,7 @@ impl From<NoMemory> for MemFault {
 }
 
 /// Why an object wasn't created: it has no place, or want of memory.
-#[derive(Clone, Copy, Debug, PartialEq, Eq)]
+#[derive(Clone, Copy, PartialEq, Eq)]
 pub enum CreateFault {
     Unplaced,
     NoMemory,

@@ -8,7 +8,7 @@ ghost use Rattle.prov_memory.specs.Pieces.{plain_cells, piece_cells};
 use c_types::IntKind;
 
 /// A provenance by its number in a memory. Number 0 is the empty provenance of every memory.
-#[derive(Clone, Copy, Debug, PartialEq, Eq)]
+#[derive(Clone, Copy, PartialEq, Eq)]
 pub struct Origin {
     pub number: u32,
 }
@@ -20,7 +20,7 @@ impl Origin {
 
 /// A scalar type by its number in a memory: 0 is none, 1 to 12 are the integer types, and from 13 on come those that the
 /// memory was told of.
-#[derive(Clone, Copy, Debug, PartialEq, Eq)]
+#[derive(Clone, Copy, PartialEq, Eq)]
 pub struct TypeId {
     pub number: u32,
 }
@@ -83,7 +83,7 @@ impl TypeId {
 }
 
 /// How an access sees its bytes (own): as a scalar of a type, as a whole structure or union, or as bytes.
-#[derive(Clone, Copy, Debug, PartialEq, Eq)]
+#[derive(Clone, Copy, PartialEq, Eq)]
 pub enum Via {
     Scalar(TypeId),
     Whole,
@@ -92,7 +92,7 @@ pub enum Via {
 
 /// A byte of an object (own): not written yet, or a number that may be the piece of this index, 0 to 7, of a pointer with this
 /// provenance.
-#[derive(Clone, Copy, Debug, PartialEq, Eq)]
+#[derive(Clone, Copy, PartialEq, Eq)]
 pub enum MemByte {
     Unwritten,
     Written {
@@ -102,7 +102,7 @@ pub enum MemByte {
 }
 
 /// What a cell holds.
-#[derive(Clone, Copy, Debug, PartialEq, Eq)]
+#[derive(Clone, Copy, PartialEq, Eq)]
 pub(crate) enum State {
     Unwritten,
     Plain,
@@ -110,7 +110,7 @@ pub(crate) enum State {
 }
 
 /// A byte with its tag: the scalar type that wrote it, and which byte of that scalar it is.
-#[derive(Clone, Copy, Debug, PartialEq, Eq)]
+#[derive(Clone, Copy, PartialEq, Eq)]
 pub(crate) struct Cell {
     pub number: u8,
     pub state: State,

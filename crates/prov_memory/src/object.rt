@@ -12,7 +12,7 @@ use std::rc::Rc;
 use ub_base::ObjName;
 
 /// An object's life and exposure.
-#[derive(Clone, Copy, Debug, PartialEq, Eq)]
+#[derive(Clone, Copy, PartialEq, Eq)]
 pub struct ObjState {
     pub live: bool,
     pub exposed: bool,

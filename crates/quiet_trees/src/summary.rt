@@ -8,7 +8,7 @@ use c_typed::{Class, Node, Typed, class_of};
 
 /// What is said of the evaluations of a part of a tree: whether there are some, whether some may access memory, whether some write,
 /// whether some are bodies, whether some writes come before the part's value in no order, and whether two may conflict.
-#[derive(Clone, Copy, Debug)]
+#[derive(Clone, Copy)]
 pub struct Summary {
     pub some: bool,
     pub touches: bool,

@@ -9,7 +9,7 @@ use exposure::Prov;
 use prov_memory::Value;
 
 /// A pointer value: an address with its provenance.
-#[derive(Clone, Copy, Debug)]
+#[derive(Clone, Copy)]
 pub struct Pointer {
     pub addr: u64,
     pub prov: Prov,

@@ -23,7 +23,7 @@ ghost use Rattle.ub_base.specs.declared.clause.Kind.TheVariants.{Eff};
 ghost use Rattle.ub_base.specs.declared.names.Item.{Item};
 
 use evaluation_log::{Known, Level, Logged, Rule, Segment, Under, are_harmless};
-use evaluation_search::{Log, Place, Search, all_harmless};
+use evaluation_search::{Log, Place, Search};
 use footprint::Foot;
 use std::alloc::Global;
 use ub_base::{Frame, Item, Kind, NoMemory};

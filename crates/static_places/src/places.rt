@@ -8,7 +8,7 @@ use crate::extents::{literal_size, slot_size};
 use c_typed::{Node, Program, Slot, Typed};
 
 /// What a fixed place lies in: an object that the text names, or the literal of this number.
-#[derive(Clone, Copy, Debug, PartialEq, Eq)]
+#[derive(Clone, Copy, PartialEq, Eq)]
 pub enum FixedBase {
     Slot(Slot),
     Literal(u32),

@@ -12,7 +12,7 @@ use std::alloc::Global;
 use ub_base::{Kind, NoMemory};
 
 /// Where an access stands: its place among the events of the full expression, and the line of its node.
-#[derive(Clone, Copy, Debug)]
+#[derive(Clone, Copy)]
 pub struct Accessed {
     pub place: Place,
     pub line: u32,
@@ -20,7 +20,7 @@ pub struct Accessed {
 
 /// An access of a full expression: whether it writes, the fixed place that it accesses, if it is one, how many bytes, and
 /// the object whose node is directly its place.
-#[derive(Clone, Copy, Debug)]
+#[derive(Clone, Copy)]
 pub struct MemoryAccess {
     pub at: Accessed,
     pub writes: bool,

@@ -8,7 +8,7 @@ use ub_base::NoMemory;
 
 /// What is said of a full expression: its function and its number in it, counted from 0 in the order of the text, the line of
 /// its first token, and the least pair of its accesses of which nothing shows that they never race.
-#[derive(Clone, Copy, Debug)]
+#[derive(Clone, Copy)]
 pub struct Verdict {
     pub function: u32,
     pub expression: u32,

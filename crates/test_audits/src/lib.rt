@@ -1,4 +1,4 @@
-//! Whole calls whose files or sink fail, the picks of runs, and the texts of certificates, command lines and generated programs. No code.
+//! Whole calls whose files or sink fail, the picks of runs, what a progress is told, and the texts of generated programs. No code.
 #![tactic(auto)]
 
 #[cfg(test)]
@@ -6,12 +6,10 @@ mod audits;
 #[cfg(test)]
 mod calls;
 #[cfg(test)]
-mod certificates;
+mod drawn;
 #[cfg(test)]
 mod programs;
 #[cfg(test)]
 mod progress;
 #[cfg(test)]
 mod runs;
-#[cfg(test)]
-mod words;

@@ -2,8 +2,6 @@
 use crate::constraints::answer_to;
 use static_report::static_report;
 use std::alloc::Global;
-use std::process::Abort;
-use std::test::Fail;
 use ub_base::{Bytes, NoMemory};
 
 // Texts with their reports and statuses.

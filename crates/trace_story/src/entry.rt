@@ -9,7 +9,7 @@ use ub_base::{Event, Frames, Item, NoMemory, ObjName};
 
 /// What a pick does to the object: the number of the pick, from 1; its event, with the line of its node, or none and 0 where
 /// it is a control step; and the item.
-#[derive(Clone, Copy, Debug)]
+#[derive(Clone, Copy)]
 pub struct Entry {
     pub pick: u64,
     pub event: Option<Event>,

@@ -10,7 +10,7 @@ use std::cmp::Ordering;
 use ub_base::{Event, Frame, Frames, Item, Kind, NoMemory, ObjName};
 
 /// The object of a story, and its place, where it has one.
-#[derive(Clone, Copy, Debug)]
+#[derive(Clone, Copy)]
 pub struct Sought {
     pub object: ObjName,
     pub row: Option<Row>,

@@ -66,9 +66,9 @@ impl Touched {
         Ok(())
     }
 
-    /// Adds an item of an act of memory, for which there is room.
+    /// Adds an item of an act of memory, for which there is room: fewer than 32 are there.
     #[inline(always)]
-    pub(crate) fn note(&mut self, item: Item)
+    pub fn note(&mut self, item: Item)
         ensures { length self.old < 32 → self.new ≡ self.old ++ item ∷ [] }
     {
         let _ = self.items.push(item);
