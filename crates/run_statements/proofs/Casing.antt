@@ -137,7 +137,7 @@ IsCaseOf j body found k = (s : Switch) × StandsIn body s × AreCases j.links.it
 pub case_there : (j : Jumps) (bs : List (Option (Bor Statement))) (n : ℕ) (b : Bor Statement) (k : ℕ) (found : Vec Found Global) → HasJumps j bs →
     slice_get bs n ≡ Some (Some b) → slice_get j.owners.items k ≡ Some n → slice_get j.cases.items k ≡ Some found → IsCaseOf j b.now found.items k
 case_there j bs n b k found has there own at =
-    let a = owned 0 bs k n b (ap (λ (ks : List ℕ). slice_get ks k) (sym has.owners) ∙ own) there in (
+    let a = owned 0 bs k n n b (omega arith) (ap (λ (ks : List ℕ). slice_get ks k) (sym has.owners) ∙ own) there in (
       a.0,
       a.2,
       cases_at j.links.items 0 k k (switches_of_all bs) (cases_of j) a.0 found.items has.cases a.1 (map_at items_of j.cases.items k found at) (omega arith),

@@ -13,7 +13,12 @@ returns-in_default c = λ bodies has.
 
 pub returns : goal.returns
 returns c = λ bodies has.
-    let new : Jumps = record { links = c.targets_of.new.links; labels = c.push-2.new.self; cases = c.add_cases.new.self.cases; owners = c.add_cases.new.self.owners } in
+    let new : Jumps = record {
+      links = c.targets_of.new.links;
+      labels = c.push-2.new.self;
+      cases = c.add_cases.new.self.cases;
+      owners = c.add_cases.new.self.owners;
+    } in
     add_body c.args.self.now c.add_cases.new.self new bodies c.args.body c.in-Some.body c.deref.result.now c.switches_of.new.found.items
     c.new-switches.result.items c.in-Some.is refl c.in_ok-targets_of.ensures.older c.in_ok-targets_of.ensures.longer c.in_ok-add_cases.ensures.cases
     c.deref.ensures.value c.new-switches.ensures.items c.in_ok-switches_of.ensures
