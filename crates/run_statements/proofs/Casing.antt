@@ -98,13 +98,6 @@ owners_next n k s switches old mid new lt at before is =
     (sym (map_next (λ (t : Bor Switch). n) (take k switches) s) ∙ ap (map (λ t. n)) (sym (take_next switches k s there))
     ∙ ap (λ (j : ℕ). map (λ t. n) (take j switches)) one)
 
-pub owners_first : (n : ℕ) (old : List ℕ) (switches : List (Bor Switch)) → old ≡ old ++ map (λ t. n) (take 0 switches)
-owners_first n old switches = sym (append_nothing old)
-
-pub owners_all : (n k : ℕ) (old new : List ℕ) (switches : List (Bor Switch)) → length switches ≤ k → new ≡ old ++ map (λ t. n) (take k switches) →
-    new ≡ old ++ map (λ t. n) switches
-owners_all n k old new switches le is = is ∙ ap (λ (ss : List (Bor Switch)). old ++ map (λ t. n) ss) (take_all switches k le)
-
 pub so_first : (old : Jumps) (switches : List (Bor Switch)) → So old (take 0 switches) old
 so_first old switches = λ ss h. subst (λ (us : List Switch). HaveCases old.links.items 0 us (cases_of old)) (sym (append_nothing ss)) h
 

@@ -22,7 +22,8 @@ returns c = λ bodies has.
     add_body c.args.self.now c.add_cases.new.self new bodies c.args.body c.in-Some.body c.deref.result.now c.switches_of.new.found.items
     c.new-switches.result.items c.in-Some.is refl c.in_ok-targets_of.ensures.older c.in_ok-targets_of.ensures.longer c.in_ok-add_cases.ensures.cases
     c.deref.ensures.value c.new-switches.ensures.items c.in_ok-switches_of.ensures
-    (c.in_ok-add_cases.ensures.owners ∙ ap (λ (n : ℕ). c.args.self.now.owners.items ++ map (λ s. n) c.deref.result.now) c.len-function.ensures)
+    (c.in_ok-add_cases.ensures.owners
+    ∙ ap (λ (n : ℕ). c.args.self.now.owners.items ++ map (λ s. n) c.deref.result.now) (c.len-function.ensures ∙ c.args.self.now.labels.ok.0))
     (jumps_for_body c.args.self.now new c.add_cases.new.self.links.items c.in_ok-targets_of.field-0 bodies c.args.body c.in-Some.body c.in-Some.is
     c.in_ok-add_cases.ensures.older c.in_ok-add_cases.ensures.longer c.in_ok-targets_of.ensures.older c.in_ok-targets_of.ensures.longer
     (c.in_ok-push-2.ensures.items ∙ ap (λ (v : Vec (Vec Found Global) Global). v.items ++ c.in_ok-targets_of.field-0 ∷ []) c.in_ok-add_cases.ensures.labels)
