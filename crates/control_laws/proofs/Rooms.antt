@@ -33,7 +33,7 @@ use Rattle.run_state.specs.declared.machine.Stage.{Stage}
 use Rattle.run_state.specs.Stands.{IsUpdate, StandsExpression}
 use Rattle.run_machine.specs.Ending.{IsInRooms, IsRoomFree, IsUpdateRoom, stage_part}
 use Rattle.run_machine.specs.Taking.{HasRooms}
-use Rattle.run_facts.specs.Frames.{IsIn}
+use Rattle.run_machine.specs.Beginning.{IsAmong}
 use Rattle.control_laws.proofs.Bodies.{body_first, body_node}
 use Rattle.control_laws.proofs.Laws.{Laws, each_at, part_same, there_some}
 use Rattle.control_laws.proofs.Seen.{OfCode, firsts}
@@ -47,7 +47,7 @@ pub record LaysOut (m : Machine) (firsts : List ℕ) (laid : Laid) : Type 0 wher
 
 pub lays_out : Laws → (world : World) (p : Program) (m : Machine) (o : Open) (f : Local) (hs : List (Local × Place)) (c : OfCode world p m o f hs)
     → HaveExpressions m.code.now.tables (laid_in m.code.now) p.functions m.code.now.functions.items → (n : ℕ) (laid : Laid)
-    → IsIn c.sees.code.expressions n → slice_get m.code.now.expressions.items n ≡ Some laid → LaysOut m (firsts world p m o f hs c) laid
+    → IsAmong c.sees.code.expressions n → slice_get m.code.now.expressions.items n ≡ Some laid → LaysOut m (firsts world p m o f hs c) laid
 lays_out laws world p m o f hs c have n laid within at =
     let range = c.sees.code.expressions in
     let has : HasExpressions c.block m.code.now.tables (laid_in m.code.now) range =

@@ -31,7 +31,6 @@ use Rattle.run_state.specs.declared.machine.Stage.{Stage}
 use Rattle.run_state.specs.Stands.{StandsBegun, StandsDone, StandsExpression}
 use Rattle.run_listing.specs.Cursor.{StandsStraight}
 use Rattle.run_machine.specs.Answering.{CanGoOn}
-use Rattle.run_machine.specs.Ending.{IsResultOf}
 use Rattle.run_machine.specs.Jumps.{HasCases}
 use Rattle.run_machine.specs.Settling.{CanSettle, GoesBehind, IsUsable}
 use Rattle.run_machine.specs.Taking.{StandsOpen}
@@ -43,7 +42,7 @@ use Rattle.frame_laws.specs.Reached.{IsReachedIn}
 use Rattle.frame_laws.proofs.FactsHold.{goes_behind, stays_in_scope}
 use Rattle.run_facts.specs.Frames.{IsOneOf, KeepsBegun, KeepsOpen}
 use Rattle.run_facts.specs.Going.{IsGoing}
-use Rattle.control_laws.specs.Control.{ControlGoesOn, IsAtControl, IsOpenAs, OpenStandsSo, OpensSmall, TestStands}
+use Rattle.control_laws.specs.Control.{ControlGoesOn, IsAtControl, IsOpenAs, OpenStandsSo, OpensSmall}
 use Rattle.control_laws.proofs.Laws.{Laws}
 use Rattle.control_laws.proofs.Rooms.{LaysOut, lays_out}
 use Rattle.control_laws.proofs.Seen.{firsts}
@@ -141,28 +140,26 @@ module _ (laws : Laws) (world : World) (p : Program) (numbers : Numbers) (m : Ma
         (subst (ExprFits (objects laws world p numbers m st n g) (open_blocks st.top)) same (stays_in_scope world st.top st.held e g.ordered begun).names)
 
   -- ---- it can be settled
-  behind : IsResultOf m.memory m.left → (o : Option ℕ) → m.top.function ≡ o
+  behind : (o : Option ℕ) → m.top.function ≡ o
       → GoesBehind o m st e.what (settled world st.top (root_value world st.top e) e.what).todo
-  behind result (Some k) is =
+  behind (Some k) is =
       let f = sym (frame laws world p numbers m st n g).function ∙ is in
       let b = subst (IsBehind world st.top e) f (goes_behind world st.top st.held e g.ordered begun) in
       sym (same_ends world (ready_work (settled world st.top (root_value world st.top e) e.what).todo)) ∙ b (root_value world st.top e)
-  behind result None is =
+  behind None is =
       let f = sym (frame laws world p numbers m st n g).function ∙ is in
       let b = subst (IsBehind world st.top e) f (goes_behind world st.top st.held e g.ordered begun) in
-      (b.0, λ last. can_end laws world p numbers m st n g result)
+      (b.0, λ last. can_end laws world p numbers m st n g)
 
-  cases_of : (o : Option ℕ) (how : Use) → m.top.function ≡ o → TestStands m.code.now o how → HasCases m.code.now m.jumps o how
-  cases_of None how is stands = tt
-  cases_of (Some k) (for_use.Select b) is stands =
-      let labels = labels_of laws world p numbers m st n g (Some k) is refl in
-      record { kept = labels; stands = stands labels.function labels.at }
-  cases_of (Some k) for_use.Unused is stands = tt
-  cases_of (Some k) (for_use.Branch s t) is stands = tt
-  cases_of (Some k) (for_use.Enter s) is stands = tt
-  cases_of (Some k) (for_use.GoRound b) is stands = tt
-  cases_of (Some k) (for_use.GoAgain b) is stands = tt
-  cases_of (Some k) for_use.Result is stands = tt
+  cases_of : (o : Option ℕ) (how : Use) → m.top.function ≡ o → HasCases m.code.now m.jumps o how
+  cases_of None how is = tt
+  cases_of (Some k) (for_use.Select b) is = labels_of laws world p numbers m st n g (Some k) is refl
+  cases_of (Some k) for_use.Unused is = tt
+  cases_of (Some k) (for_use.Branch s t) is = tt
+  cases_of (Some k) (for_use.Enter s) is = tt
+  cases_of (Some k) (for_use.GoRound b) is = tt
+  cases_of (Some k) (for_use.GoAgain b) is = tt
+  cases_of (Some k) for_use.Result is = tt
 
   usable : (s : Stage) (laid : Laid) → m.top.stage ≡ Some s → slice_get m.code.now.expressions.items s.expression ≡ Some laid
       → IsUsable m st.top.scene laid
@@ -177,10 +174,10 @@ module _ (laws : Laws) (world : World) (p : Program) (numbers : Numbers) (m : Ma
             (names_clear m (firsts world p m m.top st.top st.held (code laws world p numbers m st n g)) st.top.scene.blocks laid.root.now names) quiet;
       }
 
-  can_settle : IsAtControl world p m st → CanSettle world m st e
-  can_settle a = record {
-    behind = behind a.result m.top.function refl;
-    chooses = cases_of m.top.function m.top.how refl a.tests;
+  can_settle : CanSettle world m st e
+  can_settle = record {
+    behind = behind m.top.function refl;
+    chooses = cases_of m.top.function m.top.how refl;
     addresses = g.set_up.world.addresses;
     usable = λ s laid stage at. usable s laid stage at;
   }
@@ -243,5 +240,5 @@ control_goes_on laws world p numbers m st n g a pick = record {
         settled_so laws world p numbers m st n g e is s.0 s.1 pick
 
     can : (b : Option Begun) → st.top.begun ≡ b → CanGoOn world m st b
-    can None is = can_step laws world p numbers m st n g is (a.enters is) a.result
-    can (Some e) is = can_settle laws world p numbers m st n g e is a
+    can None is = can_step laws world p numbers m st n g is (a.enters is)
+    can (Some e) is = can_settle laws world p numbers m st n g e is

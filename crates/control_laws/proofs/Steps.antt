@@ -26,7 +26,6 @@ use Rattle.run_state.specs.declared.machine.Open.{Open}
 use Rattle.run_state.specs.Stands.{IsAbove, SeesLocals}
 use Rattle.run_machine.specs.Answering.{CanStep, CanTake, HasObjects, IsDeclared}
 use Rattle.run_machine.specs.Beginning.{CanBegin, next_turn}
-use Rattle.run_machine.specs.Ending.{IsResultOf}
 use Rattle.run_machine.specs.Entering.{AreBelow, Birth, CanEnter, CanEnterFirst, HasBirths, KeepPlaces, TakesAs, birth_in, birth_of}
 use Rattle.run_machine.specs.Jumps.{HasLabels}
 use Rattle.code_view.specs.Blocks.{Made, StandsObject, made_by, made_of, taken_at}
@@ -301,8 +300,8 @@ module _ (laws : Laws) (world : World) (p : Program) (numbers : Numbers) (m : Ma
           subst (λ (z : Open). z.above ≤ m.top.locals) same (sees_under m.top.function q h.0 refl a.locals)
 
   can_enter : (b : ℕ) (ds : List Decl) (rest : Todo) → st.top.begun ≡ None → ready_work st.top.todo ≡ Enter b ds ∷ rest → HasArguments world p st ds
-      → IsResultOf m.memory m.left → CanEnter world m st b ds
-  can_enter b ds rest shut is asks result =
+      → CanEnter world m st b ds
+  can_enter b ds rest shut is asks =
       let it = enters_with_objects world st.top st.held b ds rest (scoped laws world p numbers m st n g) g.ordered shut is in
       let some = in_function (Enter b ds ∷ rest) shut is refl in
       let turn = g.frames.0.turn in
@@ -312,7 +311,6 @@ module _ (laws : Laws) (world : World) (p : Program) (numbers : Numbers) (m : Ma
       let number = (block_of laws world p numbers m st n g b ds it.objects).number in
       record {
         function = some;
-        result = result;
         limit = g.set_up.world.limits.created;
         turn = omega (arith, turn, same, few);
         number = omega (arith, number, blocks);
@@ -323,28 +321,28 @@ module _ (laws : Laws) (world : World) (p : Program) (numbers : Numbers) (m : Ma
         takes = asks.takes;
       }
 
-  enters : (todo : Todo) → st.top.begun ≡ None → ready_work st.top.todo ≡ todo → AsksOfEnter world p st todo → IsResultOf m.memory m.left
+  enters : (todo : Todo) → st.top.begun ≡ None → ready_work st.top.todo ≡ todo → AsksOfEnter world p st todo
       → CanEnterFirst world m st todo
-  enters (Enter b ds ∷ rest) shut is asks result = can_enter b ds rest shut is asks result
-  enters [] shut is asks result = tt
-  enters (Leave b ds ∷ rest) shut is asks result = tt
-  enters (Unwrite d ∷ rest) shut is asks result = tt
-  enters (Begin e what ∷ rest) shut is asks result = tt
-  enters (Nothing_to_do ∷ rest) shut is asks result = tt
-  enters (Go_to k ∷ rest) shut is asks result = tt
-  enters (Go_out ∷ rest) shut is asks result = tt
-  enters (Go_on ∷ rest) shut is asks result = tt
-  enters (Go_back ∷ rest) shut is asks result = tt
-  enters (To_do s ∷ rest) shut is asks result = tt
-  enters (Rest ss ∷ rest) shut is asks result = tt
-  enters (Round test step s ∷ rest) shut is asks result = tt
-  enters (Again e s ∷ rest) shut is asks result = tt
-  enters (Test test step s ∷ rest) shut is asks result = tt
-  enters (Break_here ∷ rest) shut is asks result = tt
+  enters (Enter b ds ∷ rest) shut is asks = can_enter b ds rest shut is asks
+  enters [] shut is asks = tt
+  enters (Leave b ds ∷ rest) shut is asks = tt
+  enters (Unwrite d ∷ rest) shut is asks = tt
+  enters (Begin e what ∷ rest) shut is asks = tt
+  enters (Nothing_to_do ∷ rest) shut is asks = tt
+  enters (Go_to k ∷ rest) shut is asks = tt
+  enters (Go_out ∷ rest) shut is asks = tt
+  enters (Go_on ∷ rest) shut is asks = tt
+  enters (Go_back ∷ rest) shut is asks = tt
+  enters (To_do s ∷ rest) shut is asks = tt
+  enters (Rest ss ∷ rest) shut is asks = tt
+  enters (Round test step s ∷ rest) shut is asks = tt
+  enters (Again e s ∷ rest) shut is asks = tt
+  enters (Test test step s ∷ rest) shut is asks = tt
+  enters (Break_here ∷ rest) shut is asks = tt
 
-  pub can_step : st.top.begun ≡ None → AsksOfEnter world p st (ready_work st.top.todo) → IsResultOf m.memory m.left → CanStep world m st
-  can_step shut asks result = record {
+  pub can_step : st.top.begun ≡ None → AsksOfEnter world p st (ready_work st.top.todo) → CanStep world m st
+  can_step shut asks = record {
     takes = takes (ready_work st.top.todo) shut refl (step_left world st.top st.held g.ordered shut);
-    enters = enters (ready_work st.top.todo) shut refl asks result;
-    ends = λ last. can_end laws world p numbers m st n g result;
+    enters = enters (ready_work st.top.todo) shut refl asks;
+    ends = λ last. can_end laws world p numbers m st n g;
   }

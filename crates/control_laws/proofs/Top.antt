@@ -28,7 +28,7 @@ use Rattle.run_state.specs.declared.machine.Open.{Open}
 use Rattle.run_state.specs.Operands.{IsThere, StandsObjects, is_open}
 use Rattle.run_state.specs.Stands.{IsAbove, StandLocals, StandsFrame}
 use Rattle.run_machine.specs.Beginning.{next_turn}
-use Rattle.run_machine.specs.Ending.{CanEnd, HasRoomBelow, IsFunctionIn, IsResultOf, KeepToRooms}
+use Rattle.run_machine.specs.Ending.{CanEnd, HasRoomBelow, IsFunctionIn, KeepToRooms}
 use Rattle.code_view.specs.Blocks.{HasBlockAt}
 use Rattle.code_view.specs.Known.{AreInOrder}
 use Rattle.code_view.specs.Named.{NamedIsOpen, NamesAreOpen, SlotIsOpen}
@@ -137,8 +137,8 @@ module _ (laws : Laws) (world : World) (p : Program) (numbers : Numbers) (m : Ma
       let there = ap (λ j. slice_get p.functions j) (sym (number_is k is)) ∙ code.there in
       ap (λ (q : Program). is_some (slice_get q.functions k)) g.program ∙ ap is_some there
 
-  pub can_end : IsResultOf m.memory m.left → CanEnd m st
-  can_end result = record { result = result; function = function_in m.top.function refl; rooms = rooms; room = room }
+  pub can_end : CanEnd m st
+  can_end = record { function = function_in m.top.function refl; rooms = rooms; room = room }
 
   -- ---- what its full expression names
   slot_open : (s : Slot) → scopes.IsOpen objects (open_blocks st.top) s

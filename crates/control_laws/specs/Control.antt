@@ -9,19 +9,13 @@ use Rattle.c_model.specs.Runs.{State, canonical_pick}
 use Rattle.c_model.specs.Steps.{Begun, Control, auto_name}
 use Rattle.c_model.specs.Values.{Value}
 use Rattle.c_model.specs.World.{World}
-use Rattle.run_control.specs.declared.work.Use.{Use}
-use Rattle.run_control.specs.declared.work.Use.TheVariants as for_use
 use Rattle.run_statements.specs.declared.numbers.Numbers.{Numbers}
-use Rattle.run_statements.specs.Switches.{StandsIn}
 use Rattle.run_code.specs.declared.nodes.NodeInfo.{NodeInfo}
 use Rattle.run_code.specs.declared.steps.Expression.{Expression as Laid}
-use Rattle.run_code.specs.declared.steps.FunctionCode.{FunctionCode}
-use Rattle.run_code.specs.declared.whole.Code.{Code}
 use Rattle.run_code.specs.Initializers.{NumberInitializers}
 use Rattle.run_state.specs.declared.machine.Machine.{Machine}
 use Rattle.run_state.specs.declared.machine.Stage.{Stage}
 use Rattle.run_machine.specs.Answering.{MayGoOn}
-use Rattle.run_machine.specs.Ending.{IsResultOf}
 use Rattle.run_machine.specs.Passing.{TakesValue}
 use Rattle.code_view.specs.Numbering.{meaning_of}
 use Rattle.run_laws.specs.Open.{IsLawfulCode, IsOpen}
@@ -42,16 +36,8 @@ abbrev pub AsksOfEnter : World → Program → State → Todo → Type 0
 AsksOfEnter world p st (Enter b ds ∷ rest) = HasArguments world p st ds
 AsksOfEnter world p st todo = Unit {0}
 
--- the `switch` whose test this is stands in the body of the function
-abbrev pub TestStands : Code → Option ℕ → Use → Type 0
-TestStands code (Some n) (for_use.Select b) = (c : FunctionCode) → slice_get code.functions.items n ≡ Some (Some c) → StandsIn c.body b.now
-TestStands code function how = Unit {0}
-
 pub record IsAtControl (world : World) (p : Program) (m : Machine) (st : State) : Type 0 where
-  -- what the result of the top frame names was made
-  pub result : IsResultOf m.memory m.left
   pub enters : st.top.begun ≡ None → AsksOfEnter world p st (ready_work st.top.todo)
-  pub tests : TestStands m.code.now m.top.function m.top.how
 
 -- 2. Where the control step is the canonical pick, the machine can take it.
 abbrev pub ControlGoesOn : Type 0

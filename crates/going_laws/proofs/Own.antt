@@ -10,7 +10,7 @@ use Rattle.run_code.specs.declared.whole.Code.{Code}
 use Rattle.run_code.specs.Functions.{AreLaidFrom, IsLaidAt, laid_in}
 use Rattle.run_code.specs.LaidOut.{LaidOutBy}
 use Rattle.run_statements.specs.declared.numbers.Numbers.{Numbers}
-use Rattle.run_facts.specs.Frames.{IsIn}
+use Rattle.run_machine.specs.Beginning.{IsAmong}
 use Rattle.run_facts.specs.SetUp.{IsItsCode}
 
 -- the full expression of this number, with the numbers of its function's objects and the nodes
@@ -34,7 +34,7 @@ laid_at firsts code at (suc k) (t ∷ ts) all lt =
     subst (IsOwnLaid code) (omega (arith)) (laid_at firsts code (suc at) k ts all.1 (omega (arith, lt)))
 
 pub own_laid : (p : Program) (numbers : Numbers) (code : Code) → IsItsCode p numbers code → (n : ℕ) (c : FunctionCode)
-    → slice_get code.functions.items n ≡ Some (Some c) → (number : ℕ) → IsIn c.expressions number → IsOwnLaid code number
+    → slice_get code.functions.items n ≡ Some (Some c) → (number : ℕ) → IsAmong c.expressions number → IsOwnLaid code number
 own_laid p numbers code its n c at number is =
     let found = its.functions.only n (c, at) in
     let has = its.expressions n found.0 found.2 c found.1 found.3 at in

@@ -35,14 +35,14 @@ use Rattle.run_state.specs.declared.machine.Stage.{Stage}
 use Rattle.run_state.specs.declared.watch.Begun.{Begun as Shown}
 use Rattle.run_state.specs.Stands.{IsAbove, Stands, StandFrames, StandsBegun, StandsExpression, StandsFrame}
 use Rattle.run_machine.specs.Answering.{CanGoOn, CanStep, CanTake, IsWithin, MayGoOn}
-use Rattle.run_machine.specs.Beginning.{CanBegin}
+use Rattle.run_machine.specs.Beginning.{CanBegin, IsAmong}
 use Rattle.run_machine.specs.Keeping.{BeginsExpression, EndsTop, KeepsFrames, KeepsStep, begins, ends, first_stage, frame_with, stays}
 use Rattle.run_machine.specs.Picks.{BelowIsShown, top_of}
 use Rattle.code_view.specs.Numbering.{meaning_of}
 use Rattle.frame_laws.specs.Laws.{StepsOrdered}
 use Rattle.frame_laws.specs.Named.{LawfulIsScoped}
 use Rattle.frame_laws.specs.Reached.{StepsReached}
-use Rattle.run_facts.specs.Frames.{IsIn, IsOneOf, KeepFrames, KeepsBegun, KeepsFrame, KeepsOpen, Sees, SeesFunction, function_of}
+use Rattle.run_facts.specs.Frames.{IsOneOf, KeepFrames, KeepsBegun, KeepsFrame, KeepsOpen, Sees, SeesFunction, function_of}
 use Rattle.run_facts.specs.Going.{IsGoing, locals_of}
 use Rattle.run_facts.specs.SetUp.{IsSetUp}
 use Rattle.going_laws.proofs.Controls.{Goes, IsFresh, Returns, Stays as Keeps_frame, control_goes, fresh_behind, returns, stays as keeps_frame}
@@ -117,7 +117,7 @@ sees_with old new o t (Some n) code locals own x = record {
 }
 
 sees_begun : (old new : Machine) (o t : Open) (f : Option ℕ) (s : Stage) → new.code ≡ old.code → length old.locals.items ≤ length new.locals.items
-    → t.stage ≡ Some s → IsIn o.expressions s.expression → Sees old o f → Sees new (frame_with o t) f
+    → t.stage ≡ Some s → IsAmong o.expressions s.expression → Sees old o f → Sees new (frame_with o t) f
 sees_begun old new o t None s code locals stage own x = absurd x
 sees_begun old new o t (Some n) s code locals stage own x = record {
   code = x.code;
@@ -126,7 +126,7 @@ sees_begun old new o t (Some n) s code locals stage own x = record {
   expressions = x.expressions;
   above = x.above;
   places = let p = x.places in omega (arith, p, locals);
-  own = subst (IsOneOf x.code.expressions) (sym stage) (subst (λ r. IsIn r s.expression) x.expressions own);
+  own = subst (IsOneOf x.code.expressions) (sym stage) (subst (λ r. IsAmong r s.expression) x.expressions own);
 }
 
 -- the function of the top frame
@@ -220,16 +220,13 @@ module _ (world : World) (p : Program) (numbers : Numbers) (old new : Machine) (
     abbrev s : Stage
     s = first_stage b.number b.laid
 
-    own_in : IsIn old.top.expressions b.number
-    own_in = record { first = b.own.first; end = b.own.end }
-
     function : (f : ℕ) × SeesFunction old old.top f
     function = top_code old old.top (function_of old.top.function (reverse old.below.items)) going.frames.0.sees
 
     laid_out : IsOwnLaid old.code.now b.number
     laid_out =
         own_laid p numbers old.code.now going.set_up.code function.0 function.1.code function.1.at b.number
-        (subst (λ r. IsIn r b.number) function.1.expressions own_in)
+        (subst (λ r. IsAmong r b.number) function.1.expressions b.own)
 
     -- the state's full expression
     module _ (e : Begun) (begun : after.top.begun ≡ Some e) (x : StandsExpression world (meaning new.top.function) new (length new.below.items) new.top s
@@ -307,7 +304,7 @@ module _ (world : World) (p : Program) (numbers : Numbers) (old new : Machine) (
       begun_goes : KeepFrames world new (new.top ∷ reverse new.below.items) (locals_of after) (suc n)
       begun_goes = with_top b.keeps (record {
         begun = begun_then;
-        sees = sees_begun old new old.top new.top (function_of old.top.function (reverse old.below.items)) s (code_same b.keeps) b.keeps.locals b.stage own_in
+        sees = sees_begun old new old.top new.top (function_of old.top.function (reverse old.below.items)) s (code_same b.keeps) b.keeps.locals b.stage b.own
             going.frames.0.sees;
         turn = let t = b.keeps.turn in let u = going.frames.0.turn in omega (arith, t, u);
         base = let z = going.frames.0.base in let v = b.keeps.values in omega (arith, z, v);

@@ -1,5 +1,5 @@
 -- What holds of each open frame of a machine along the canonical order, beside that it stands for a frame of the definitions (own).
-use Rattle.std.specs.Prelude.{◌≡◌, ◌+◌, ◌≤◌, ◌<◌, ℕ, true, List, [], ◌∷◌, length, Option, Some, None, slice_get}
+use Rattle.std.specs.Prelude.{◌≡◌, ◌+◌, ◌≤◌, ℕ, true, List, [], ◌∷◌, length, Option, Some, None, slice_get}
 use Rattle.c_model.specs.Steps.{Begun, Local, Scene}
 use Rattle.c_model.specs.World.{World}
 use Rattle.seq_order.specs.Marked.{taken_in}
@@ -10,6 +10,7 @@ use Rattle.run_state.specs.declared.machine.Machine.{Machine}
 use Rattle.run_state.specs.declared.machine.Open.{Open}
 use Rattle.run_state.specs.declared.machine.Stage.{Stage}
 use Rattle.run_state.specs.declared.watch.Begun.{Begun as Shown}
+use Rattle.run_machine.specs.Beginning.{IsAmong}
 
 -- 1. The full expression that is open.
 
@@ -25,15 +26,10 @@ KeepsBegun world m height o _ f _ = Unit {0}
 
 -- 2. The function whose objects the frame sees.
 
--- the number is one of a range
-pub record IsIn (range : Range) (number : ℕ) : Type 0 where
-  pub first : range.first ≤ number
-  pub end : number < range.first + range.count
-
 -- the full expression that is open is one of these
 abbrev pub IsOneOf : Range → Option Stage → Type 0
 IsOneOf range None = Unit {0}
-IsOneOf range (Some s) = IsIn range s.expression
+IsOneOf range (Some s) = IsAmong range s.expression
 
 -- Its blocks are those of the function of this number, there is a place for each of its objects, and its full expression is one of that function.
 pub record SeesFunction (m : Machine) (o : Open) (n : ℕ) : Type 0 where

@@ -349,6 +349,7 @@ module _ (trees : TreesAreKept) (begins : StandsAtBegin) (keeps : KeepsAtBegin) 
                 (frames_roomed world there n (length m.below.items) kept_before meaning None (reverse m.below.items) m.work.below
                 (map (λ h. (h.0, Some h.1)) st.held) fits s.frames.2),
           );
+          result = s.result;
           depth = s.depth ∙ sym (depth_same st.top f st.held refl);
         }
 

@@ -98,7 +98,20 @@ use Rattle.run_state.specs.declared.machine.Open.{Open}
 use Rattle.run_state.specs.declared.machine.Stage.{Stage}
 use Rattle.run_state.specs.declared.watch.Begun.{Begun as Shown}
 use Rattle.run_state.specs.Operands.{RoomGives}
-use Rattle.run_state.specs.Stands.{Holds, HoldsAll, StandFrames, Stands, StandsBegun, StandsDone, StandsExpression, StandsFrame, StandsValues, frames_of, result_seen}
+use Rattle.run_state.specs.Stands.{
+  Holds,
+  HoldsAll,
+  IsResultOf,
+  StandFrames,
+  Stands,
+  StandsBegun,
+  StandsDone,
+  StandsExpression,
+  StandsFrame,
+  StandsValues,
+  frames_of,
+  result_seen,
+}
 use Rattle.run_events.specs.Acts.{script_in}
 use Rattle.run_events.specs.Nodes.{IsActOf}
 use Rattle.run_events.specs.Performs.{ChangesOnly, HoldsUpdate, IsDone, gives_value, kept_room}
@@ -364,6 +377,7 @@ module _ (trees : TreesAreKept) (keeps_at : KeepsAtEvent) (gives : RoomGives) (b
     };
     tables = tables_on old end there act_done.kept t.constants t.stood.stands.tables;
     frames = frames;
+    result = subst (IsResultOf done.memory) (sym t.stood.result) tt;
     depth = t.stood.stands.depth ∙ sym (depth_same st.top then_frame st.held refl);
   }
 

@@ -295,6 +295,7 @@ module _ (trees : TreesAreKept) (starts : StandsAtStart) (world : World) (meanin
       memory = t.stood.stands.memory;
       tables = record { places = t.stood.stands.tables.places; vias = t.stood.stands.tables.vias; fillings = t.stood.stands.tables.fillings };
       frames = frames_then;
+      result = t.stood.stands.result;
       depth = deeper old.depth (depth_of st.top st.held) t.stood.stands.depth;
     }
       where

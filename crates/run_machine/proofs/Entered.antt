@@ -76,6 +76,7 @@ use Rattle.run_machine.specs.Answering.{HasTaken, as_before}
 use Rattle.run_machine.specs.Entering.{Birth, CanBear, CanEnter, HasBirths, IsNew, birth_in, birth_of, born_by, born_first, new_name, reached_with, turned}
 use Rattle.run_machine.proofs.Births.{CanAll}
 use Rattle.run_machine.proofs.Growing.{frame_grown, frames_grown, tables_grown, with_objects_of}
+use Rattle.run_machine.proofs.Lives.{result_stays}
 use Rattle.run_machine.proofs.Still.{depth_same, frame_aside, frames_aside, tables_aside}
 use Rattle.run_machine.proofs.Unwriting.{block_number, capped}
 
@@ -332,12 +333,13 @@ entered_stands world meaning m new before st b number t turn rest trace c ds s c
       frames = (
         frame_aside world mg grown inner (length os) (at_turn m.top t) m.work.now m.left (inside st.top b turn rest) None
             (frame_inside world mg grown (length os) m.top before m.work.now m.left st.top b t turn rest is closed control (c, at, locals)
-            (frame_grown world there new (m.top.locals + c.first) keeps types low mg (length os) m.top before m.left st.top None can.result has.behind
+            (frame_grown world there new (m.top.locals + c.first) keeps types low mg (length os) m.top before m.left st.top None s.result has.behind
             s.frames.0)),
         above_inside m.top st.top b t turn rest os fs can.function s.frames.1,
         frames_aside world meaning grown inner None os m.work.below fs
             (frames_grown world there new m.top.locals keeps types lower meaning os m.work.below st.held can.below s.frames.2),
       );
+      result = result_stays m.memory new.memory m.left keeps s.result;
       depth = s.depth ∙ sym (depth_same st.top (inside st.top b turn rest) st.held refl);
     }
 

@@ -86,7 +86,7 @@ use Rattle.run_state.specs.declared.machine.Machine.{Machine}
 use Rattle.run_state.specs.Stands.{HoldsAll, Stands, StandsTables}
 use Rattle.run_events.specs.Performs.{store_in}
 use Rattle.run_machine.specs.Answering.{Answers, AnswersStep, HasTaken, as_before, newest_items}
-use Rattle.run_machine.specs.Ending.{IsResultOf, KeepToRooms}
+use Rattle.run_machine.specs.Ending.{KeepToRooms}
 use Rattle.run_machine.specs.Entering.{
   AreNew,
   BearsAll,
@@ -119,7 +119,6 @@ use Rattle.run_machine.proofs.Passed.{
   pass_none,
   passed_stands,
   passes,
-  result_stays,
   taking_at,
   taking_count,
 }
@@ -360,7 +359,6 @@ module _ (world : World) (meaning : Option ℕ → Meaning) (m new : Machine) (b
     new_stands =
         passed_stands world meaning mid new
         (record { top = inside f n turn rest; held = st.held; store = store_of mid.memory m.streams; trace = trace }) trace mid_stands refl h.closed
-        (subst (λ (q : Machine). IsResultOf mid.memory q.left) (sym d.rest) (result_stays m.memory mid.memory m.left d.kept k.can.result))
         (subst (λ (q : Machine). KeepToRooms q.code.now (reverse q.below.items) st.held) (sym d.rest) k.can.rooms) passed.rest passed.kept rows
         (λ j lt. passed.others j (λ i below is. omega (arith, lt, is)))
 

@@ -87,6 +87,7 @@ use Rattle.run_state.specs.Stands.{
   AreEach,
   Holds,
   HoldsAll,
+  IsResultOf,
   IsVia,
   StandFrames,
   StandLocals,
@@ -98,7 +99,6 @@ use Rattle.run_state.specs.Stands.{
   StandsValues,
   result_seen,
 }
-use Rattle.run_machine.specs.Ending.{IsResultOf}
 use Rattle.run_machine.specs.Entering.{AreBelow, KeepPlaces}
 
 -- ---- bytes stand for what they stood for

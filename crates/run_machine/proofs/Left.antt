@@ -84,7 +84,6 @@ use Rattle.run_state.specs.declared.machine.Stage.{Stage}
 use Rattle.run_state.specs.Stands.{IsAbove, SeesLocals, StandLocals, Stands, StandsBegun, StandsControl, StandsFrame, frames_of}
 use Rattle.run_machine.specs.Answering.{Answers, AnswersStep, ComesTo, HasObjects, HasTaken, as_before}
 use Rattle.run_machine.specs.Ended.{AnswersEnd}
-use Rattle.run_machine.specs.Ending.{IsResultOf}
 use Rattle.run_machine.specs.Leaving.{GoesStill, HaveDied, LeavesBlock, buried_first, deaths, name_at, name_in}
 use Rattle.run_machine.specs.Moving.{GoesOn}
 use Rattle.run_machine.proofs.Leaving.{nothing_more}
@@ -228,6 +227,7 @@ closed_stands world meaning m os is spare before ws st b bs rest trace keeps blo
       listed = live.listed;
       memory = live.memory;
       tables = tables_aside (with_lives there os) n live.tables;
+      result = live.result;
       frames = (
         frame_without world (meaning m.top.function) n (length (reverse m.below.items)) m.top before ws m.left st.top b bs rest blocks closed control fs.0,
         above_without m.top st.top bs rest (reverse m.below.items) (map (λ h. (h.0, Some h.1)) st.held) function fs.1,
@@ -344,10 +344,6 @@ ends_so : (world : World) (t : Todo) → is_nothing t ≡ true → ends_with wor
 ends_so world [] e = refl
 ends_so world (w ∷ ws) e = absurd (cc)
 
-result_kept : (old new : Kept) (left : Option Kept_value) → Keeps old new → IsResultOf old left → IsResultOf new left
-result_kept old new None keeps is = tt
-result_kept old new (Some v) keeps is = values_stay old new v keeps is
-
 over_so : (m : Machine) (os : List Held) (is spare : List Item) (b : Bor Block) (c : BlockCode) (n : Machine) (r : Result (Option ℕ) Halt) →
     slice_get m.code.now.tables.blocks.items (min (m.top.blocks + b.now.number) (2 ^ 32 - 1)) ≡ Some c →
     HaveDied m c.first c.objects.count (record m { memory = with_objects m.memory os; items = is; spare = spare }) →
@@ -368,12 +364,7 @@ over_so m os is spare b c n (Ok status) block died ends world meaning st over h 
     l.ran (ap (λ (x : Bool). if x then End else Stay) (ends_so world (ready_work rest) over))))
     (ends world meaning (state_left world st l.js t l.bs rest) (entry_of world f Control l.js ∷ st.trace) (l.stands m.work.now refl)
     (ap (λ (d : ℕ). limit_passed world.limits d t) (depth_same f (without f l.bs rest) st.held refl) ∙ l.limits (depth_of f st.held) ∙ h.within)
-    h.closed (record {
-      result = result_kept m.memory (with_objects m.memory os) m.left died.kept can.result;
-      function = can.function;
-      rooms = can.rooms;
-      room = can.room;
-    }) l.items)
+    h.closed (record { function = can.function; rooms = can.rooms; room = can.room }) l.items)
 
 left_whole : (m mid : Machine) (b : Bor Block) → LeavesBlock m b.now.number mid →
     mid ≡ record m { memory = with_objects m.memory mid.memory.objects; items = mid.items; spare = mid.spare }
@@ -484,4 +475,4 @@ pub ends_over : (m n : Machine) (below : List (List Work)) (ws : List Work) (r :
 ends_over m n below ws (Err e) under ready ends = ends
 ends_over m n below ws (Ok status) under ready ends = λ world meaning st trace s within closed can items.
     ends world meaning st trace (over_stands world meaning m below ws st under (ready (meaning m.top.function)) closed s) within closed
-    (record { result = can.result; function = can.function; rooms = can.rooms; room = can.room }) items
+    (record { function = can.function; rooms = can.rooms; room = can.room }) items

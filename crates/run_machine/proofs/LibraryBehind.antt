@@ -77,6 +77,7 @@ use Rattle.run_state.specs.Operands.{RoomGives}
 use Rattle.run_state.specs.Stands.{
   Holds,
   HoldsAll,
+  IsResultOf,
   IsUpdate,
   StandFrames,
   Stands,
@@ -369,6 +370,7 @@ module _ (trees : TreesAreKept) (keeps_at : KeepsAtEvent) (gives : RoomGives) (b
     };
     tables = tables_aside quiet moved (tables_on old end there did.kept t.constants t.stood.stands.tables);
     frames = frames_aside world meaning quiet moved old.left (there ∷ reverse old.below.items) (old.work.now ∷ old.work.below) (frames_of then_state) frames;
+    result = subst (IsResultOf done.memory) (sym t.stood.result) tt;
     depth = t.stood.stands.depth ∙ sym (depth_same st.top then_frame st.held refl);
   }
 

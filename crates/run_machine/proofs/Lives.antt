@@ -39,6 +39,7 @@ use Rattle.run_state.specs.Stands.{
   AreEach,
   Holds,
   HoldsAll,
+  IsResultOf,
   IsVia,
   StandFrames,
   StandLocals,
@@ -96,6 +97,11 @@ bytes_alike k os keeps [] (f ∷ fs) a = absurd a
 bytes_alike k os keeps (c ∷ cs) [] a = absurd a
 bytes_alike k os keeps (c ∷ cs) (f ∷ fs) a =
     ((filled_alike k os f (map filled_by c.now) a.0.0, fillings_stay k (with_objects k os) f keeps a.0.1), bytes_alike k os keeps cs fs a.1)
+
+-- ---- the result of a frame is one of every memory that keeps it
+pub result_stays : (old new : Kept) (left : Option Kept_value) → Keeps old new → IsResultOf old left → IsResultOf new left
+result_stays old new None keeps is = tt
+result_stays old new (Some h) keeps is = values_stay old new h keeps is
 
 -- ---- the machine with other objects
 abbrev pub with_lives : (m : Machine) → List Held → Machine
@@ -209,6 +215,7 @@ module _ (world : World) (m : Machine) (os : List Held) (keeps : Keeps m.memory 
       rows = s.memory.rows;
     };
     tables = tables_live s.tables;
+    result = result_stays m.memory (with_objects m.memory os) m.left keeps s.result;
     frames = frames_live meaning m.left (m.top ∷ reverse m.below.items) (m.work.now ∷ m.work.below) (frames_of st) s.frames;
     depth = s.depth;
   }

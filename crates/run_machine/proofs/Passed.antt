@@ -35,14 +35,15 @@ use Rattle.run_state.specs.declared.machine.Machine.{Machine}
 use Rattle.run_state.specs.declared.machine.Open.{Open}
 use Rattle.run_state.specs.declared.machine.Stage.{Stage}
 use Rattle.run_state.specs.Operands.{AreAddresses}
-use Rattle.run_state.specs.Stands.{Holds, HoldsAll, Stands, StandsBegun, result_seen}
+use Rattle.run_state.specs.Stands.{Holds, HoldsAll, IsResultOf, Stands, StandsBegun, result_seen}
 use Rattle.run_events.specs.Acts.{stored_by}
 use Rattle.run_events.specs.Performs.{store_in}
 use Rattle.run_events.proofs.Stays.{value_stays}
-use Rattle.run_machine.specs.Ending.{IsResultOf, KeepToRooms}
+use Rattle.run_machine.specs.Ending.{KeepToRooms}
 use Rattle.run_machine.specs.Entering.{TakesAs}
 use Rattle.run_machine.specs.Passing.{PutsAs, argument_script, first_of, place_of, script_of, with_arguments}
 use Rattle.run_machine.proofs.Creating.{none_bind, none_put}
+use Rattle.run_machine.proofs.Lives.{result_stays}
 use Rattle.run_machine.proofs.Standing.{frames_under, locals_on, tables_on}
 
 -- ---- scripts one after the other
@@ -155,10 +156,6 @@ argument_there [] j lt = absurd (omega (arith, lt))
 argument_there (v ∷ vs) zero lt = (v, refl)
 argument_there (v ∷ vs) (suc j) lt = argument_there vs j (omega (arith, lt))
 
-pub result_stays : (old new : Kept) (left : Option Kept_value) → Keeps old new → IsResultOf old left → IsResultOf new left
-result_stays old new None keeps is = tt
-result_stays old new (Some h) keeps is = values_stay old new h keeps is
-
 -- ---- the objects that take arguments
 slice_take : {A : Type 0} (n k : ℕ) (xs : List A) → k < n → slice_get (take n xs) k ≡ slice_get xs k
 slice_take zero k xs lt = absurd (omega (arith, lt))
@@ -191,11 +188,11 @@ result_on old new None None keeps is = refl
 
 -- its top frame has no full expression open, and has handed on its arguments
 pub passed_stands : (world : World) (meaning : Option ℕ → Meaning) (m n : Machine) (st : State) (trace : List Entry) → Stands world meaning m st →
-    st.top.arguments ≡ [] → st.top.begun ≡ None → IsResultOf m.memory m.left → KeepToRooms m.code.now (reverse m.below.items) st.held →
+    st.top.arguments ≡ [] → st.top.begun ≡ None → KeepToRooms m.code.now (reverse m.below.items) st.held →
     n ≡ record m { memory = n.memory; values = n.values; items = n.items; spare = n.spare } → Keeps m.memory n.memory →
     RowsStay n.memory.rows world.rows → ((j : ℕ) → j < m.top.base → slice_get n.values.items j ≡ slice_get m.values.items j) →
     Stands world meaning n (record { top = st.top; held = st.held; store = store_in n; trace = trace })
-passed_stands world meaning m n st trace s none closed result to is keeps rows rooms =
+passed_stands world meaning m n st trace s none closed to is keeps rows rooms =
     let k = record m { memory = n.memory; values = n.values; items = n.items; spare = n.spare } in
     let mg = meaning m.top.function in
     let frame = s.frames.0 in
@@ -221,7 +218,7 @@ passed_stands world meaning m n st trace s none closed result to is keeps rows r
           function = frame.function;
           arguments = subst (λ (vs : List Value). HoldsAll n.memory n.values.items m.top.base vs) (sym none) tt;
           locals = locals_on world m k m.top keeps m.top st.top.scene st.top.scene.blocks frame.locals;
-          result = frame.result ∙ result_on m.memory n.memory m.top.function m.left keeps result;
+          result = frame.result ∙ result_on m.memory n.memory m.top.function m.left keeps s.result;
           control = frame.control;
           begun = begun_closed world mg m k (length os) m.top m.top.stage st.top.scene st.top.begun None closed frame.begun;
         },
@@ -229,5 +226,6 @@ passed_stands world meaning m n st trace s none closed result to is keeps rows r
         frames_under world m k m.top keeps m.top.base (length m.below.items) rooms (λ j b ne e. e) (λ j other ne e. e) meaning m.top st.top os m.work.below st.held
             high (omega arith) s.frames.1 to s.frames.2,
       );
+      result = result_stays m.memory n.memory m.left keeps s.result;
       depth = s.depth;
     })

@@ -304,6 +304,7 @@ module _ (law : StandsAtEnd) (world : World) (meaning : Option ℕ → Meaning) 
           listed = s.listed;
           memory = s.memory;
           tables = record { places = s.tables.places; vias = s.tables.vias; fillings = s.tables.fillings };
+          result = tt;
           frames = (
             frame_aside world (meaning onto.function) stay there (length rs) onto ws None g None
                 (frame_ended law world m n z onto m.top.node v others (length rs) strays holds (meaning onto.function) (length rs) ws f onto.stage f.begun
@@ -383,7 +384,7 @@ goes_back law m new g closes = λ world meaning st trace s within_so closed can 
     let whole : new ≡ gone_back m mid z onto ws wss = noted.1 ∙ ap (λ (w : Stacked). record start { work = w; strayed = z.strayed }) closed_so.3 in
     let turned : reverse m.below.items ≡ onto ∷ rs = ap reverse g.below ∙ reverse-append mid.below.items (onto ∷ []) in
     let high : length mid.below.items ≡ length rs = sym (length-reverse mid.below.items) in
-    let seen = left_as m.memory world m.program.now st.top m.top.function m.left g.value s.program frame.function frame.result can.result can.function
+    let seen = left_as m.memory world m.program.now st.top m.top.function m.left g.value s.program frame.function frame.result s.result can.function
     g.leaves in
     subst (λ (k : Machine). ComesTo world meaning None k (limited world.limits (back world st.held v st.store trace))) (sym whole)
     (back_comes law world meaning m mid z st onto ws wss v trace g.others
@@ -408,7 +409,7 @@ run_ends world meaning m new status wss (h ∷ hs) v s trace frames is output it
 pub run_answers : (m new : Machine) (status : ℕ) → EndsRun m new status → AnswersEnd m new (Ok (Some status))
 run_answers m new status g = λ world meaning st trace s within_so closed can items.
     let frame = s.frames.0 in
-    let seen = left_as m.memory world m.program.now st.top m.top.function m.left g.value s.program frame.function frame.result can.result can.function
+    let seen = left_as m.memory world m.program.now st.top m.top.function m.left g.value s.program frame.function frame.result s.result can.function
     g.leaves in
     run_ends world meaning m new status m.work.below st.held (result_of world st.top) st.store trace
     (subst (λ (os : List Open). StandFrames world meaning m None (reverse os) m.work.below (map (λ h. (h.0, Some h.1)) st.held)) g.none s.frames.2)

@@ -50,6 +50,7 @@ use Rattle.c_model.specs.Runs.{
 use Rattle.c_model.specs.Steps.{Begun, Control, Local, MayPick, Scene, does, ends_with, is_result, move, next, result_of, root_value, settled}
 use Rattle.c_model.specs.Values.{Value, integer_of, truth}
 use Rattle.c_model.specs.World.{World}
+use Rattle.run_acts.specs.Kept.{IsOf}
 use Rattle.run_acts.specs.Views.{value_in}
 use Rattle.run_control.specs.declared.statement.Switch.{Switch}
 use Rattle.run_control.specs.declared.work.Use.{Use}
@@ -64,10 +65,10 @@ use Rattle.run_state.specs.declared.machine.Machine.{Machine}
 use Rattle.run_state.specs.declared.machine.Open.{Open}
 use Rattle.run_state.specs.declared.machine.Stage.{Stage}
 use Rattle.run_state.specs.Operands.{QuietGives, RoomGives, operand_in}
-use Rattle.run_state.specs.Stands.{StandLocals, Stands, StandsControl, result_seen}
+use Rattle.run_state.specs.Stands.{IsResultOf, StandLocals, Stands, StandsControl, result_seen}
 use Rattle.run_machine.specs.Answering.{Answers, AnswersControl, CanGoOn, ComesTo, IsWithin, MayGoOn}
 use Rattle.run_machine.specs.Ended.{AnswersEnd}
-use Rattle.run_machine.specs.Ending.{CanEnd, IsResultOf}
+use Rattle.run_machine.specs.Ending.{CanEnd}
 use Rattle.run_machine.specs.Leaving.{GoesStill}
 use Rattle.run_machine.specs.Moving.{GoesOn}
 use Rattle.run_machine.specs.Jumps.{HasCases}
@@ -152,16 +153,16 @@ result_left world meaning k n (for_use.GoRound s) h left result is = is
 result_left world meaning k n (for_use.GoAgain s) h left result is = is
 result_left world meaning k n for_use.Result h left result is = refl
 
--- of a value that has no use
-unused_left : (meaning : Meaning) (how : Use) (h : Kept_value) (left : Option Kept_value) → use_of meaning how ≡ Unused → left_by how h left ≡ left
-unused_left meaning for_use.Unused h left is = refl
-unused_left meaning (for_use.Branch s t) h left is = refl
-unused_left meaning (for_use.Enter s) h left is = refl
-unused_left meaning (for_use.Select s) h left is = refl
-unused_left meaning (for_use.GoRound s) h left is = refl
-unused_left meaning (for_use.GoAgain s) h left is = refl
-unused_left meaning for_use.Result h left is = absurd (cc)
+result_made : (k : Kept) (how : Use) (h : Kept_value) (left : Option Kept_value) → IsOf k h → IsResultOf k left → IsResultOf k (left_by how h left)
+result_made k for_use.Unused h left made is = is
+result_made k (for_use.Branch s t) h left made is = is
+result_made k (for_use.Enter s) h left made is = is
+result_made k (for_use.Select s) h left made is = is
+result_made k (for_use.GoRound s) h left made is = is
+result_made k (for_use.GoAgain s) h left made is = is
+result_made k for_use.Result h left made is = made
 
+-- of a value that has no use
 unused_work : (b : Bool) (z : ℤ) (rest : Todo) → work_after b z Unused rest ≡ rest
 unused_work true z rest = refl
 unused_work false z rest = refl
@@ -191,9 +192,9 @@ locals_closed world m o f (b ∷ bs) l = (l.0, locals_closed world m o f bs l.1)
 closed_stands : (world : World) (meaning : Option ℕ → Meaning) (m : Machine) (ws : List Work) (left : Option Kept_value) (st : State) (v : Value)
     (what : todo.Use)
     (trace : List Entry) → StandsControl (meaning m.top.function) ws (settled world st.top v what) →
-    (settled world st.top v what).result ≡ result_seen m.memory m.top.function left → Stands world meaning m st →
+    (settled world st.top v what).result ≡ result_seen m.memory m.top.function left → IsResultOf m.memory left → Stands world meaning m st →
     Stands world meaning (settled_in m ws left) (record { top = settled world st.top v what; held = st.held; store = st.store; trace = trace })
-closed_stands world meaning m ws left st v what trace control result s =
+closed_stands world meaning m ws left st v what trace control result made s =
     let n = settled_in m ws left in
     let o = record m.top { stage = None } in
     let f = settled world st.top v what in
@@ -220,6 +221,7 @@ closed_stands world meaning m ws left st v what trace control result s =
             (record { path = refl; home = refl; blocks = refl }) s.frames.1,
         frames_aside world meaning m n None (reverse m.below.items) m.work.below (map (λ h. (h.0, Some h.1)) st.held) s.frames.2,
       );
+      result = made;
       depth = s.depth ∙ sym (depth_same st.top f st.held refl);
     }
 
@@ -233,6 +235,7 @@ pub record Settles (world : World) (meaning : Option ℕ → Meaning) (m : Machi
   pub can : CanSettle world m st e
   pub value : Kept_value
   pub gives : operand_in m stage.value ≡ Some value
+  pub made : IsOf m.memory value
   pub seen : value_in m.memory value ≡ root_value world st.top e
   pub how : use_of (meaning m.top.function) m.top.how ≡ e.what
   pub todo : todo_of (meaning m.top.function) m.work.now ≡ st.top.todo
@@ -253,6 +256,7 @@ settles quiet room world meaning m stage st is s may items =
       can = can;
       value = gives.0;
       gives = gives.1;
+      made = gives.2;
       seen = gives.3;
       how = found.2.what;
       todo = frame.control.behind (some_open st.top.begun e found.1);
@@ -296,7 +300,8 @@ module _ (world : World) (meaning : Option ℕ → Meaning) (m : Machine) (stage
       left ≡ left_by m.top.how x.value m.left → Stands world meaning (settled_in m ws left) (settled_state world st x.e x.opened)
   settled_stands ws left ready by =
       closed_stands world meaning m ws left st v x.e.what (trace_after world st x.e x.opened)
-      (record { ready = ready; behind = λ b. absurd (true≢false (sym b)) }) (used_result left by) s
+      (record { ready = ready; behind = λ b. absurd (true≢false (sym b)) }) (used_result left by)
+      (subst (IsResultOf m.memory) (sym by) (result_made m.memory m.top.how x.value m.left x.made s.result)) s
 
   abbrev behind : Todo
   behind = (settled world st.top v x.e.what).todo
@@ -341,7 +346,6 @@ module _ (world : World) (meaning : Option ℕ → Meaning) (m : Machine) (stage
       ComesTo world meaning status m3 (step world st Control)
   ended_so m3 ws left status limits own now by items ends =
       let after_it = settled_state world st x.e x.opened in
-      let kept : m.left ≡ left = sym (by ∙ unused_left mg m.top.how x.value m.left (x.how ∙ own.1)) in
       let gives : result_of world (settled_top world st x.e x.opened) ≡ result_of world st.top =
       ap (λ (u : todo.Use). result_of world (settled world st.top v u)) own.1 in
       let can = own.2 in
@@ -349,12 +353,7 @@ module _ (world : World) (meaning : Option ℕ → Meaning) (m : Machine) (stage
       (ap (λ (w : Value). limited world.limits (back world st.held w st.store (trace_after world st x.e x.opened))) gives
       ∙ sym (settles_ends world st x.e x.opened own.0))
       (ends world meaning after_it (trace_after world st x.e x.opened) (settled_stands ws left (ap ready_work now) by)
-      (depth_after world st x.e x.opened limits) refl (record {
-        result = subst (λ (l : Option Kept_value). IsResultOf m.memory l) kept can.result;
-        function = can.function;
-        rooms = can.rooms;
-        room = can.room;
-      }) (sym items))
+      (depth_after world st x.e x.opened limits) refl (record { function = can.function; rooms = can.rooms; room = can.room }) (sym items))
 
 -- ---- by the calls that it consists of: the value is used, and the frame goes on or ends
 abbrev StillGoes : Machine → Machine → Result (Option ℕ) Halt → Type 0
@@ -433,7 +432,7 @@ case_todo : (world : World) (meaning : Option ℕ → Meaning) (m m2 : Machine) 
     (use_of (meaning n) (for_use.Select b)) (todo_of (meaning n) m.work.now)
 case_todo world meaning m m2 stage st b what behind h None is goes how c s selects gives = absurd (let e = goes.0 in cc)
 case_todo world meaning m m2 stage st b what behind h (Some n) is goes how c s selects gives =
-    selected_todo world meaning m.program.now (closed_in m) m2 n b stage.value h m.memory s.code c selects gives
+    selected_todo world meaning m.program.now (closed_in m) m2 n b stage.value h m.memory s.code c is selects gives
 
 case_after : (world : World) (meaning : Option ℕ → Meaning) (m m2 : Machine) (stage : Stage) (st : State) (b : Bor Switch) → m.top.how ≡ for_use.Select b →
     HasSelected (closed_in m) b.now.number stage.value m2 → Stands world meaning m st → (x : Settles world meaning m stage st) →

@@ -158,6 +158,7 @@ module _ (world : World) (meaning : Option ℕ → Meaning) (old past : Machine)
       listed = stood.stands.listed;
       memory = stood.stands.memory;
       tables = tables_aside old (there_then n) stood.stands.tables;
+      result = stood.stands.result;
       frames = frames_then n is;
       depth = stood.stands.depth ∙ sym (none_more (depth_of st.top st.held));
     }

@@ -198,14 +198,13 @@ before_stands world meaning m below now st same s =
     subst (λ (bs : List (List Kept_work)). Stands world meaning (with_work m bs m.work.now) st) (sym same) s
 
 ends_as : (m : Machine) (below : List (List Kept_work)) (now : List Kept_work) (st : State) → CanEnd m st → CanEnd (with_work m below now) st
-ends_as m below now st c = record { result = c.result; function = c.function; rooms = c.rooms; room = c.room }
+ends_as m below now st c = record { function = c.function; rooms = c.rooms; room = c.room }
 
 enters_as : (world : World) (m : Machine) (below : List (List Kept_work)) (now : List Kept_work) (st : State) (t : Todo) →
     CanEnterFirst world m st t → CanEnterFirst world (with_work m below now) st t
 enters_as world m below now st [] c = tt
 enters_as world m below now st (Enter b ds ∷ rest) c = record {
   function = c.function;
-  result = c.result;
   limit = c.limit;
   turn = c.turn;
   number = c.number;
@@ -222,7 +221,6 @@ enters_cleared : (world : World) (m : Machine) (is : List Item) (st : State) (t 
 enters_cleared world m is st [] c = tt
 enters_cleared world m is st (Enter b ds ∷ rest) c = record {
   function = c.function;
-  result = c.result;
   limit = c.limit;
   turn = c.turn;
   number = c.number;
@@ -289,7 +287,7 @@ cleared_stands world meaning m n is st same s =
     subst (λ (k : Machine). Stands world meaning (record k { items = is }) st) (sym same) (items_stand world meaning m is m.spare st s)
 
 ends_cleared : (m : Machine) (is : List Item) (st : State) → CanEnd m st → CanEnd (record m { items = is }) st
-ends_cleared m is st c = record { result = c.result; function = c.function; rooms = c.rooms; room = c.room }
+ends_cleared m is st c = record { function = c.function; rooms = c.rooms; room = c.room }
 
 behind_cleared : (n : Option ℕ) (m : Machine) (is : List Item) (st : State) (what : Model_use) (t : Todo) → GoesBehind n m st what t →
     GoesBehind n (record m { items = is }) st what t

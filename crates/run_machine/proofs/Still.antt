@@ -220,6 +220,7 @@ left_stands world meaning m ws items spare st todo trace control s =
       frames = frames_left world meaning n m.left m.top (reverse m.below.items) m.work.now ws m.work.below st.top todo
           (map (λ h. (h.0, Some h.1)) st.held) control
           (frames_aside world meaning m n m.left (m.top ∷ reverse m.below.items) (m.work.now ∷ m.work.below) (frames_of st) s.frames);
+      result = s.result;
       depth = s.depth ∙ sym (depth_same st.top (record st.top { todo = todo }) st.held refl);
     }
 

@@ -44,7 +44,6 @@ use Rattle.c_model.specs.Values.{Int}
 use Rattle.seq_order.specs.declared.done.Marks.{Marks}
 use Rattle.seq_order.specs.Marked.{done_in}
 use Rattle.run_acts.specs.Calls.{left_of}
-use Rattle.run_acts.specs.Kept.{IsOf}
 use Rattle.run_acts.specs.Views.{value_in}
 use Rattle.run_control.specs.View.{is_nothing}
 use Rattle.run_code.specs.declared.steps.Act.TheVariants as act
@@ -187,18 +186,13 @@ abbrev pub HasRoomBelow : Code → (count node : ℕ) → List Open → List (Lo
 HasRoomBelow code count node (o ∷ os) (h ∷ hs) = HasRoomIn code count (o.base + node) node o.stage h.0.begun
 HasRoomBelow code count node _ _ = Unit {0}
 
-abbrev pub IsResultOf : Kept → Option Kept_value → Type 0
-IsResultOf k None = Unit {0}
-IsResultOf k (Some v) = IsOf k v
-
 abbrev pub IsFunctionIn : Program → Option ℕ → Type 0
 IsFunctionIn p None = Unit {0}
 IsFunctionIn p (Some n) = is_some (slice_get p.functions n) ≡ true
 
--- what the result of the top frame names was made in the memory; its function is one of the program; the frames below keep their values in their rooms,
--- and the one that waits for the top frame has a room for what it leaves
+-- the function of the top frame is one of the program; the frames below keep their values in their rooms, and the one that waits for the top frame has a room
+-- for what it leaves
 pub record CanEnd (m : Machine) (st : State) : Type 0 where
-  pub result : IsResultOf m.memory m.left
   pub function : IsFunctionIn m.program.now m.top.function
   pub rooms : KeepToRooms m.code.now (reverse m.below.items) st.held
   pub room : HasRoomBelow m.code.now (length m.values.items) m.top.node (reverse m.below.items) st.held

@@ -61,7 +61,7 @@ use Rattle.run_state.specs.declared.halt.Halt.{Halt}
 use Rattle.run_state.specs.declared.halt.Halt.TheVariants as halt
 use Rattle.run_state.specs.declared.machine.Machine.{Machine}
 use Rattle.run_state.specs.declared.machine.Open.{Open}
-use Rattle.run_machine.specs.Ending.{IsResultOf, KeepToRooms}
+use Rattle.run_machine.specs.Ending.{KeepToRooms}
 use Rattle.run_machine.specs.Passing.{PassesAll, RowsAreLawful, TakesValue, with_arguments}
 
 -- 1. What the code does.
@@ -229,7 +229,6 @@ pub record HasBirths (code : Code) (o : Open) (bs : List (ℕ × ℕ)) (c : Bloc
 -- argument is one that its object takes.
 pub record CanEnter (world : World) (m : Machine) (st : State) (b : ℕ) (ds : List Decl) : Type 0 where
   pub function : is_some m.top.function ≡ true
-  pub result : IsResultOf m.memory m.left
   pub limit : world.limits.created ≡ 2 ^ 26
   pub turn : st.top.scene.turn + 1 < 2 ^ 64
   pub number : m.top.blocks + b < 2 ^ 32

@@ -2,12 +2,10 @@
 use Rattle.std.specs.Prelude.{◌≡◌, ℕ, List, Option, Some, None, slice_get}
 use Rattle.std.specs.Borrow.{Bor}
 use Rattle.run_control.specs.declared.statement.Statement.{Statement}
-use Rattle.run_control.specs.declared.statement.Switch.{Switch}
 use Rattle.run_control.specs.declared.work.Use.{Use}
 use Rattle.run_control.specs.declared.work.Use.TheVariants as for_use
 use Rattle.run_statements.specs.declared.jumps.Jumps.{Jumps}
 use Rattle.run_statements.specs.Jumping.{HasJumps}
-use Rattle.run_statements.specs.Switches.{StandsIn}
 use Rattle.run_code.specs.declared.steps.FunctionCode.{FunctionCode}
 use Rattle.run_code.specs.declared.whole.Code.{Code}
 
@@ -25,11 +23,7 @@ abbrev pub HasLabels : Code → Jumps → Option ℕ → Type 0
 HasLabels code jumps None = ⊥
 HasLabels code jumps (Some n) = HasLabelsOf code jumps n
 
--- The test of a `switch`: so are the cases, and the `switch` stands in that body. The value of an isolated initializer is no test.
-pub record HasCasesOf (code : Code) (jumps : Jumps) (n : ℕ) (b : Switch) : Type 0 where
-  pub kept : HasLabelsOf code jumps n
-  pub stands : StandsIn kept.function.body b
-
+-- the test of a `switch`: so are its cases; the value of an isolated initializer is no test
 abbrev pub HasCases : Code → Jumps → Option ℕ → Use → Type 0
-HasCases code jumps (Some n) (for_use.Select b) = HasCasesOf code jumps n b.now
+HasCases code jumps (Some n) (for_use.Select b) = HasLabelsOf code jumps n
 HasCases code jumps function how = Unit {0}

@@ -14,13 +14,11 @@ use Rattle.c_typed.specs.Tree.{is_quiet}
 use Rattle.program_view.specs.Trees.{expr_of}
 use Rattle.run_acts.specs.Views.{value_in}
 use Rattle.run_control.specs.declared.statement.Statement.{Statement}
-use Rattle.run_control.specs.declared.statement.Switch.{Switch}
 use Rattle.run_control.specs.declared.work.Use.{Use}
 use Rattle.run_control.specs.declared.work.Use.TheVariants as for_use
 use Rattle.run_control.specs.Targets.{AllEqual, bodies}
 use Rattle.run_control.specs.View.{Meaning, after, is_nothing, todo_of}
 use Rattle.run_statements.specs.Jumping.{HasJumps}
-use Rattle.run_statements.specs.Switches.{StandsIn}
 use Rattle.run_code.specs.declared.steps.Expression.{Expression}
 use Rattle.run_code.specs.declared.steps.Operand.{Operand}
 use Rattle.run_code.specs.Resolved.{resolved}
@@ -45,13 +43,13 @@ pub record HasUsed (old : Machine) (how : Use) (o : Operand) (new : Machine) : T
   pub now : (h : Kept_value) → operand_in old o ≡ Some h → (k : Kept) (m : Meaning)
       → todo_of m new.work.now ≡ after m (truth (value_in k h)) (integer_of (value_in k h)) how (todo_of m old.work.now)
 
--- The `switch` of this number goes where the definitions go by the value of the operand (6.8.4.2p5), wherever it stands in the body of a function, for each
--- meaning in which each `switch` number in that body stands for the body that stands there. Nothing else changes.
+-- The `switch` of this number stands in the body of the top frame's function, and goes where the definitions go by the value of the operand (6.8.4.2p5), for
+-- each meaning in which each `switch` number in that body stands for the body that stands there. Nothing else changes.
 pub record HasSelected (old : Machine) (n : ℕ) (o : Operand) (new : Machine) : Type 0 where
   pub rest : new ≡ record old { work = new.work }
   pub below : new.work.below ≡ old.work.below
-  pub now : (h : Kept_value) → operand_in old o ≡ Some h → (k : Kept) (bs : List (Option (Bor Statement))) (function : ℕ) (body : Bor Statement) (s : Switch)
-      → HasJumps old.jumps bs → slice_get bs function ≡ Some (Some body) → StandsIn body.now s → s.number ≡ n → (m : Meaning) → AllEqual (bodies m body.now)
+  pub now : (h : Kept_value) → operand_in old o ≡ Some h → (k : Kept) (bs : List (Option (Bor Statement))) (function : ℕ) (body : Bor Statement)
+      → HasJumps old.jumps bs → old.top.function ≡ Some function → slice_get bs function ≡ Some (Some body) → (m : Meaning) → AllEqual (bodies m body.now)
       → todo_of m new.work.now ≡ selected (integer_of (value_in k h)) (m.body n) (Break_here ∷ todo_of m old.work.now)
 
 -- 2. What is asked of a machine, and of the state that it stands for: so it is in each state of a run.
@@ -69,8 +67,8 @@ pub record IsUsable (m : Machine) (f : Scene) (laid : Expression) : Type 0 where
   pub value : laid.value ≡ resolved firsts laid.root.now 0
   pub named : is_quiet (tree_of (expr_of laid.root.now)) ≡ true → IsNamed (record m { items = [] }) firsts f.blocks (expr_of laid.root.now)
 
--- The full expression that is open in the top frame can be settled. Where it is the test of a `switch`, the cases are those of the function's body. Rows
--- begin at addresses.
+-- The full expression that is open in the top frame can be settled. Where it is the test of a `switch`, the cases that are kept are those of the function's
+-- body. Rows begin at addresses.
 pub record CanSettle (world : World) (m : Machine) (st : State) (e : Begun) : Type 0 where
   pub behind : GoesBehind m.top.function m st e.what (settled world st.top (root_value world st.top e) e.what).todo
   pub chooses : HasCases m.code.now m.jumps m.top.function m.top.how

@@ -423,14 +423,17 @@ fn keep_result(machine: &mut Machine, how: Use, operand: Operand) -> Result<(), 
     Ok(())
 }
 
-// The case that the value of a `switch` statement's test names comes next.
+// The case that the value of the test of a `switch` statement of the function names comes next.
 fn select(machine: &mut Machine, switch: u32, operand: Operand) -> Result<(), NoMemory>
     ensures below { OnOk result (machine.new.work.below ≡ machine.old.work.below) }
     ensures now { OnOk result ((target : Option Place) × ((m : Meaning) → todo_of m machine.new.work.now ≡ moved_in (work_at m
         machine.old.jumps.links.items target) (Break_here ∷ todo_of m machine.old.work.now))) }
     ensures selects { OnOk result (HasSelected machine.old switch operand machine.new) }
 {
+    let Some(function) = machine.top.function else {
+        return Err(NoMemory);
+    };
     let value = machine.integer(operand);
-    let target = machine.jumps.case(switch, value)?;
+    let target = machine.jumps.case(function, switch, value)?;
     machine.work.select(&machine.jumps.links, target)
 }

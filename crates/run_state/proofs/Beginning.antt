@@ -223,6 +223,7 @@ begins old first p args input m nothing high parts =
               tables = tables_stand first p m parts.placed parts.since parts.program parts.vias parts.fillings code.stores code.constants;
               frames = frames_stand world meaning m st b parts.left parts.below parts.work.4 refl refl refl
                   (first_stands world meaning p m vs c b refl zero parts.top held parts.work.3 (code.body p.main c parts.work.1));
+              result = subst (IsResultOf m.memory) (sym parts.left) tt;
               depth = parts.depth;
             },
           ),

@@ -202,6 +202,11 @@ result_seen m function (Some v) = Some (value_in m v)
 result_seen m (Some n) None = None
 result_seen m None None = Some Nothing
 
+-- what the result of a frame names was made in the memory
+abbrev pub IsResultOf : Kept → Option Kept_value → Type 0
+IsResultOf k None = Unit {0}
+IsResultOf k (Some v) = IsOf k v
+
 -- The frame at this height from the first one on, with what is left to do in it, its result, and the body that waits in it.
 pub record StandsFrame (world : World) (meaning : Meaning) (m : Machine) (height : ℕ) (o : Open) (ws : List Work) (left : Option Kept_value)
     (f : Local) (waiting : Option Place) : Type 0 where
@@ -253,4 +258,5 @@ pub record Stands (world : World) (meaning : Option ℕ → Meaning) (m : Machin
   pub memory : StandsMemory world m.memory m.streams st.store
   pub tables : StandsTables m
   pub frames : StandFrames world meaning m m.left (m.top ∷ reverse m.below.items) (m.work.now ∷ m.work.below) (frames_of st)
+  pub result : IsResultOf m.memory m.left
   pub depth : m.depth ≡ depth_of st.top st.held

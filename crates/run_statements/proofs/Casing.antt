@@ -15,10 +15,11 @@ use Rattle.run_control.specs.Targets.{AllEqual, InRange, bodies, seen}
 use Rattle.run_control.specs.View.{Meaning, stmt_of}
 use Rattle.run_control.proofs.Adding.{seen_older}
 use Rattle.run_statements.specs.declared.jumps.Jumps.{Jumps}
-use Rattle.run_statements.specs.Jumping.{AreCases, HasJumps, HaveCases, HaveLabels, IsCase, cases_of, labels_of}
+use Rattle.run_statements.specs.Jumping.{AreCases, HasJumps, HaveCases, HaveLabels, IsCase, cases_of, labels_of, owners_from}
 use Rattle.run_statements.specs.Switches.{StandsIn, Switches, switches_in, switches_of_all}
 use Rattle.run_statements.proofs.Gathering.{append_nothing, got, now_of, take_all}
-use Rattle.run_statements.proofs.Jumping.{map_at, map_next, range_more, some_same}
+use Rattle.run_statements.proofs.Jumping.{labels_count, map_at, map_next, range_more, some_same}
+use Rattle.run_statements.proofs.Owners.{owned, owners_body, owners_none, same_each}
 use Rattle.run_statements.proofs.Standing.{AllStand, Stands, stand_in}
 
 -- ---- further links
@@ -50,7 +51,11 @@ length_mapped : {A B : Type 0} (g : A → B) (xs : List A) → length (map g xs)
 length_mapped g [] = refl
 length_mapped g (x ∷ xs) = ap suc (length_mapped g xs)
 
-take_next : {A : Type 0} (xs : List A) (n : ℕ) (x : A) → slice_get xs n ≡ Some x → take (suc n) xs ≡ take n xs ++ x ∷ []
+map_each : {A : Type 0} (xs : List A) → map (λ x. x) xs ≡ xs
+map_each [] = refl
+map_each (x ∷ xs) = ap (λ ys. x ∷ ys) (map_each xs)
+
+pub take_next : {A : Type 0} (xs : List A) (n : ℕ) (x : A) → slice_get xs n ≡ Some x → take (suc n) xs ≡ take n xs ++ x ∷ []
 take_next [] n x at = absurd (cc)
 take_next (y ∷ xs) zero x at = ap (λ z. z ∷ []) (some_same y x at)
 take_next (y ∷ xs) (suc n) x at = ap (λ ys. y ∷ ys) (take_next xs n x at)
@@ -81,6 +86,18 @@ so_next old mid new switches n s found lt at number older longer cases finds ran
     (subst (λ (fs : List (List Found)). HaveCases new.links.items 0 ((ts ++ map now_of (take n switches)) ++ s.now ∷ []) fs)
     (sym (ap (map items_of) cases ∙ map_next items_of mid.cases.items found)) next)
 
+-- the functions of the `switch` statements so far
+pub owners_next : (n k : ℕ) (s : Bor Switch) (switches : List (Bor Switch)) (old mid new : List ℕ) → k < length switches → s ≡ get_or switches k s →
+    mid ≡ old ++ map (λ t. n) (take k switches) → new ≡ mid ++ n ∷ [] → new ≡ old ++ map (λ t. n) (take (k + 1) switches)
+owners_next n k s switches old mid new lt at before is =
+    let there : slice_get switches k ≡ Some s = got switches k s lt at in
+    let one : suc k ≡ k + 1 = omega arith in
+    is ∙ ap (λ (ks : List ℕ). ks ++ n ∷ []) before
+    ∙ (let along : (old ++ map (λ t. n) (take k switches)) ++ n ∷ [] ≡ old ++ (map (λ t. n) (take k switches) ++ n ∷ []) = simp append_assoc in along)
+    ∙ ap (λ (ks : List ℕ). old ++ ks)
+    (sym (map_next (λ (t : Bor Switch). n) (take k switches) s) ∙ ap (map (λ t. n)) (sym (take_next switches k s there))
+    ∙ ap (λ (j : ℕ). map (λ t. n) (take j switches)) one)
+
 pub so_first : (old : Jumps) (switches : List (Bor Switch)) → So old (take 0 switches) old
 so_first old switches = λ ss h. subst (λ (us : List Switch). HaveCases old.links.items 0 us (cases_of old)) (sym (append_nothing ss)) h
 
@@ -96,38 +113,6 @@ all_later (Some d ∷ bs) b =
     ∙ (let along : switches_in d.now ++ (switches_of_all bs ++ switches_of_all (b ∷ []))
     ≡ (switches_in d.now ++ switches_of_all bs) ++ switches_of_all (b ∷ []) = simp append_assoc in along)
 
--- where a `switch` stands in the body of one of them, it is among all
-later_at : (xs ys : List Switch) (k : ℕ) (s : Switch) → slice_get ys k ≡ Some s → (n : ℕ) × (slice_get (xs ++ ys) n ≡ Some s)
-later_at [] ys k s at = (k, at)
-later_at (x ∷ xs) ys k s at = let r = later_at xs ys k s at in (suc r.0, r.1)
-
-first_at : (xs ys : List Switch) (k : ℕ) (s : Switch) → slice_get xs k ≡ Some s → slice_get (xs ++ ys) k ≡ Some s
-first_at [] ys k s at = absurd (cc)
-first_at (x ∷ xs) ys zero s at = at
-first_at (x ∷ xs) ys (suc k) s at = first_at xs ys k s at
-
-among : (bs : List (Option (Bor Statement))) (n : ℕ) (b : Bor Statement) (k : ℕ) (s : Switch) → slice_get bs n ≡ Some (Some b) →
-    slice_get (switches_in b.now) k ≡ Some s → (j : ℕ) × (slice_get (switches_of_all bs) j ≡ Some s)
-among [] n b k s there at = absurd (cc)
-among (None ∷ bs) zero b k s there at = absurd (cc)
-among (None ∷ bs) (suc n) b k s there at = among bs n b k s there at
-among (Some d ∷ bs) zero b k s there at =
-    let same : d ≡ b = cc in
-    (k, first_at (switches_in d.now) (switches_of_all bs) k s (subst (λ (c : Bor Statement). slice_get (switches_in c.now) k ≡ Some s) (sym same) at))
-among (Some d ∷ bs) (suc n) b k s there at =
-    let r = among bs n b k s there at in
-    later_at (switches_in d.now) (switches_of_all bs) r.0 s r.1
-
--- its number is its place among them
-number_at : (links : List Link) (n k : ℕ) (ss : List Switch) (fs : List (List Found)) (s : Switch) → HaveCases links n ss fs → slice_get ss k ≡ Some s →
-    s.number ≡ n + k
-number_at links n k [] fs s h at = absurd (cc)
-number_at links n k (t ∷ ss) [] s h at = absurd h
-number_at links n zero (t ∷ ss) (f ∷ fs) s h at =
-    (let same : t ≡ s = cc in ap (λ (u : Switch). u.number) (sym same)) ∙ h.0.number ∙ (let e : n ≡ n + zero = omega arith in e)
-number_at links n (suc k) (t ∷ ss) (f ∷ fs) s h at =
-    number_at links (suc n) k ss fs s h.1 at ∙ (let e : suc n + k ≡ n + suc k = omega arith in e)
-
 -- ---- a case is looked for
 cases_at : (links : List Link) (n k j : ℕ) (ss : List Switch) (fs : List (List Found)) (s : Switch) (f : List Found) → HaveCases links n ss fs →
     slice_get ss k ≡ Some s → slice_get fs k ≡ Some f → j ≡ n + k → AreCases links f j s
@@ -138,15 +123,18 @@ cases_at links n zero j (t ∷ ss) (g ∷ fs) s f h there is at =
     (subst (λ (u : Switch). AreCases links f n u) (some_same t s there) (subst (λ (u : List Found). AreCases links u n t) (some_same g f is) h.0))
 cases_at links n (suc k) j (t ∷ ss) (g ∷ fs) s f h there is at = cases_at links (suc n) k j ss fs s f h.1 there is (omega (arith, at))
 
-pub case_there : (j : Jumps) (bs : List (Option (Bor Statement))) (n : ℕ) (b : Bor Statement) (s : Switch) (k : ℕ) (found : Vec Found Global) → HasJumps j bs →
-    slice_get bs n ≡ Some (Some b) → StandsIn b.now s → s.number ≡ k → slice_get j.cases.items k ≡ Some found →
-    AreCases j.links.items found.items k s
-case_there j bs n b s k found has there stands is at =
-    let a = among bs n b stands.0 s there stands.1 in
-    let number : s.number ≡ 0 + a.0 = number_at j.links.items 0 a.0 (switches_of_all bs) (cases_of j) s has.cases a.1 in
-    let place : a.0 ≡ k = omega (arith, number, is) in
-    cases_at j.links.items 0 k k (switches_of_all bs) (cases_of j) s found.items has.cases
-    (subst (λ (i : ℕ). slice_get (switches_of_all bs) i ≡ Some s) place a.1) (map_at items_of j.cases.items k found at) (omega arith)
+-- of a `switch` that stands in the body of this function
+abbrev pub IsCaseOf : Jumps → Statement → List Found → ℕ → Type 0
+IsCaseOf j body found k = (s : Switch) × StandsIn body s × AreCases j.links.items found k s
+
+pub case_there : (j : Jumps) (bs : List (Option (Bor Statement))) (n : ℕ) (b : Bor Statement) (k : ℕ) (found : Vec Found Global) → HasJumps j bs →
+    slice_get bs n ≡ Some (Some b) → slice_get j.owners.items k ≡ Some n → slice_get j.cases.items k ≡ Some found → IsCaseOf j b.now found.items k
+case_there j bs n b k found has there own at =
+    let a = owned 0 bs k n n b (omega arith) (ap (λ (ks : List ℕ). slice_get ks k) (sym has.owners) ∙ own) there in (
+      a.0,
+      a.2,
+      cases_at j.links.items 0 k k (switches_of_all bs) (cases_of j) a.0 found.items has.cases a.1 (map_at items_of j.cases.items k found at) (omega arith),
+    )
 
 -- what was looked for by the code
 abbrev Looks : List Found → Option Place → Target → Type 0
@@ -186,23 +174,26 @@ case_else links found n body s z first target is are stands looks after = number
 
 -- ---- a function is added
 pub add_none : (old new : Jumps) (bs : List (Option (Bor Statement))) (b : Option (Bor Statement)) → b ≡ None → new.links ≡ old.links →
-    new.cases ≡ old.cases → (HaveLabels old.links.items bs (labels_of old) → HaveLabels new.links.items (bs ++ b ∷ []) (labels_of new)) → HasJumps old bs →
+    new.cases ≡ old.cases → new.owners ≡ old.owners →
+    (HaveLabels old.links.items bs (labels_of old) → HaveLabels new.links.items (bs ++ b ∷ []) (labels_of new)) → HasJumps old bs →
     HasJumps new (bs ++ b ∷ [])
-add_none old new bs b none links cases labels has = record {
+add_none old new bs b none links cases owners labels has = record {
   labels = labels has.labels;
   cases = subst (λ (ss : Switches). HaveCases new.links.items 0 ss (cases_of new))
       (sym (all_later bs b ∙ ap (λ (o : Option (Bor Statement)). switches_of_all bs ++ switches_of_all (o ∷ [])) none ∙ append_nothing (switches_of_all bs)))
       (subst (λ (ls : Vec Link Global). HaveCases ls.items 0 (switches_of_all bs) (cases_of new)) (sym links)
       (subst (λ (fs : Vec (Vec Found Global) Global). HaveCases old.links.items 0 (switches_of_all bs) (map items_of fs.items)) (sym cases) has.cases));
+  owners = ap (λ (v : Vec ℕ Global). v.items) owners ∙ has.owners ∙ sym (owners_none bs b none);
 }
 
 pub add_body : (old mid new : Jumps) (bs : List (Option (Bor Statement))) (b : Option (Bor Statement)) (d : Bor Statement)
     (more gathered first : List (Bor Switch)) →
     b ≡ Some d → new.cases ≡ mid.cases → Older mid.links.items new.links.items → length mid.links.items ≤ length new.links.items → So old more mid →
     more ≡ gathered → first ≡ [] → map now_of gathered ≡ map now_of first ++ switches_in d.now →
+    new.owners.items ≡ old.owners.items ++ map (λ s. length old.labels.items) more →
     (HaveLabels old.links.items bs (labels_of old) → HaveLabels new.links.items (bs ++ b ∷ []) (labels_of new)) → HasJumps old bs →
     HasJumps new (bs ++ b ∷ [])
-add_body old mid new bs b d more gathered first is cases older longer so same empty gathers labels has =
+add_body old mid new bs b d more gathered first is cases older longer so same empty gathers owners labels has =
     let own : map now_of more ≡ switches_in d.now =
     ap (map now_of) same ∙ gathers ∙ ap (λ (ss : List (Bor Switch)). map now_of ss ++ switches_in d.now) empty in
     let all : switches_of_all (bs ++ b ∷ []) ≡ switches_of_all bs ++ map now_of more =
@@ -214,4 +205,12 @@ add_body old mid new bs b d more gathered first is cases older longer so same em
           (subst (λ (fs : Vec (Vec Found Global) Global). HaveCases new.links.items 0 (switches_of_all bs ++ map now_of more) (map items_of fs.items))
           (sym cases) (cases_more mid.links.items new.links.items 0 (switches_of_all bs ++ map now_of more) (cases_of mid) older longer
           (so (switches_of_all bs) has.cases)));
+      owners =
+          let many : length old.labels.items ≡ length bs =
+          sym (length_mapped items_of old.labels.items) ∙ sym (labels_count old.links.items bs (labels_of old) has.labels) in
+          owners ∙ ap (λ (ks : List ℕ). ks ++ map (λ s. length old.labels.items) more) has.owners
+          ∙ ap (λ (n : ℕ). owners_from 0 bs ++ map (λ s. n) more) many
+          ∙ ap (λ (ks : List ℕ). owners_from 0 bs ++ ks)
+          (same_each now_of (λ s. s) (length bs) more (switches_in d.now) (own ∙ sym (map_each (switches_in d.now))))
+          ∙ sym (owners_body bs b d is);
     }

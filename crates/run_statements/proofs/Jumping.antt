@@ -56,6 +56,13 @@ jumps_more old new found bs b older longer labels are has =
     (sym (ap (map (λ (v : Vec Found Global). v.items)) labels ∙ map_next (λ (v : Vec Found Global). v.items) old.labels.items found))
     (have_next new.links.items bs (labels_of old) b found.items are (have_more old.links.items new.links.items bs (labels_of old) older longer has))
 
+-- there are as many lists of labels as functions
+pub labels_count : (links : List Link) (bs : List (Option (Bor Statement))) (fs : List (List Found)) → HaveLabels links bs fs → length bs ≡ length fs
+labels_count links [] [] h = refl
+labels_count links [] (f ∷ fs) h = absurd h
+labels_count links (b ∷ bs) [] h = absurd h
+labels_count links (b ∷ bs) (f ∷ fs) h = ap suc (labels_count links bs fs h.1)
+
 -- ---- a label is looked for
 abbrev or_this : {A : Type 0} → A → Option A → A
 or_this z None = z

@@ -5,4 +5,5 @@ pub mod Ordered
 pub mod Jumping
 pub mod Gathering
 pub mod Standing
+pub mod Owners
 pub mod Casing

@@ -1,5 +1,5 @@
 -- Where the jumps of a program go: what is found among the labels of a function, and among the cases of a `switch`.
-use Rattle.std.specs.Prelude.{◌≡◌, ℕ, suc, ℤ, true, false, List, [], ◌∷◌, length, map, Option, Some, None}
+use Rattle.std.specs.Prelude.{◌≡◌, ℕ, suc, ℤ, true, false, List, [], ◌∷◌, ◌++◌, length, map, Option, Some, None}
 use Rattle.std.specs.Borrow.{Bor}
 use Rattle.c_model.specs.Control.{to_label, to_case, to_default, find, first_of}
 use Rattle.run_control.specs.declared.links.Link.{Link}
@@ -12,7 +12,7 @@ use Rattle.run_control.specs.Search.{Finds}
 use Rattle.run_control.specs.Targets.{AllEqual, InRange, bodies}
 use Rattle.run_control.specs.View.{Meaning, stmt_of}
 use Rattle.run_statements.specs.declared.jumps.Jumps.{Jumps}
-use Rattle.run_statements.specs.Switches.{switches_of_all}
+use Rattle.run_statements.specs.Switches.{switches_in, switches_of_all}
 
 -- these labels were found in the body, and the links round them are there
 pub record AreLabelsOf (links : List Link) (found : List Found) (body : Statement) : Type 0 where
@@ -48,11 +48,18 @@ HaveCases links n _ _ = ⊥
 abbrev pub cases_of : Jumps → List (List Found)
 cases_of j = map (λ v. v.items) j.cases.items
 
+-- for each `switch` in the bodies of these functions, in turn, the number of its function, where the first of them has this number (own)
+abbrev pub owners_from : ℕ → List (Option (Bor Statement)) → List ℕ
+owners_from n [] = []
+owners_from n (None ∷ bs) = owners_from (suc n) bs
+owners_from n (Some b ∷ bs) = map (λ s. n) (switches_in b.now) ++ owners_from (suc n) bs
+
 -- the functions in turn have these labels, with their bodies where they are defined, and the `switch` statements in the bodies, in turn by their numbers,
--- these cases
+-- these cases and these functions
 pub record HasJumps (j : Jumps) (bs : List (Option (Bor Statement))) : Type 0 where
   pub labels : HaveLabels j.links.items bs (labels_of j)
   pub cases : HaveCases j.links.items 0 (switches_of_all bs) (cases_of j)
+  pub owners : j.owners.items ≡ owners_from 0 bs
 
 -- the place of this label in the body is the one that the definitions find, where each `switch` number stands for the body that stands there
 abbrev pub IsFound : List Link → Statement → (label : ℕ) → Place → Type 0

@@ -1,24 +1,25 @@
 // Where jumps go: the labels of functions, and the cases of `switch` statements.
 
-ghost use Rattle.std.specs.Prelude.{◌≡◌, ℕ, ◌≤◌, [], ◌∷◌, ◌++◌, List, length, map, Option, Some, slice_get, IfOk, OnOk};
+ghost use Rattle.std.specs.Prelude.{◌≡◌, ◌≢◌, ℕ, ◌≤◌, true, false, [], ◌∷◌, ◌++◌, List, length, map, Option, Some, slice_get, IfOk, OnOk};
 ghost use Rattle.std.specs.Borrow.{Bor};
 ghost use Rattle.run_control.specs.declared.statement.Statement.{Statement as StatementOf};
 ghost use Rattle.run_control.specs.declared.statement.Switch.{Switch as SwitchOf};
 ghost use Rattle.run_control.specs.Search.{Older};
 ghost use Rattle.run_statements.specs.Jumping.{HasJumps, HaveCases, IsCase, IsFound, cases_of};
-ghost use Rattle.run_statements.specs.Switches.{StandsIn};
 
 use crate::switches_of;
 use run_control::{Found, Link, Place, Statement, Switch, Target, find, targets_of};
 use std::alloc::Global;
 use ub_base::NoMemory;
 
-/// The work round targets; the labels of each function, and the cases of each `switch`, by their numbers.
+/// The work round targets; the labels of each function, and the cases of each `switch`, by their numbers, with the number of the function in whose body
+/// it stands.
 #[derive(Drop)]
 pub struct Jumps<'p> {
     pub links: Vec<Link<'p>>,
     pub labels: Vec<Vec<Found<'p>>>,
     pub cases: Vec<Vec<Found<'p>>>,
+    pub owners: Vec<usize>,
 }
 
 impl<'p> Jumps<'p> {
@@ -30,6 +31,7 @@ impl<'p> Jumps<'p> {
             links: Vec::new(alloc),
             labels: Vec::new(alloc),
             cases: Vec::new(alloc),
+            owners: Vec::new(alloc),
         }
     }
 
@@ -44,18 +46,26 @@ impl<'p> Jumps<'p> {
         };
         let mut switches = Vec::new(alloc);
         switches_of(body, &mut switches)?;
-        self.add_cases(alloc, &switches)?;
+        let function = self.labels.len();
+        self.add_cases(alloc, function, &switches)?;
         self.labels
             .push(targets_of(alloc, &mut self.links, body, true)?)?;
         Ok(())
     }
 
-    fn add_cases(&mut self, alloc: Global, switches: &[&'p Switch]) -> Result<(), NoMemory>
+    // The next `switch` statements, which stand in the body of this function.
+    fn add_cases(
+        &mut self,
+        alloc: Global,
+        function: usize,
+        switches: &[&'p Switch],
+    ) -> Result<(), NoMemory>
         ensures labels { OnOk result (self.new.labels ≡ self.old.labels) }
         ensures older { OnOk result (Older self.old.links.items self.new.links.items) }
         ensures longer { OnOk result (length self.old.links.items ≤ length self.new.links.items) }
         ensures cases { OnOk result ((ss : List SwitchOf) → HaveCases self.old.links.items 0 ss (cases_of self.old)
             → HaveCases self.new.links.items 0 (ss ++ map (λ s. s.now) switches.now) (cases_of self.new)) }
+        ensures owners { OnOk result (self.new.owners.items ≡ self.old.owners.items ++ map (λ s. function) switches.now) }
     {
         for switch in switches {
             if switch.number as usize != self.cases.len() {
@@ -63,6 +73,7 @@ impl<'p> Jumps<'p> {
             }
             let cases = targets_of(alloc, &mut self.links, switch.body.get(), false)?;
             self.cases.push(cases)?;
+            self.owners.push(function)?;
         }
         Ok(())
     }
@@ -81,18 +92,37 @@ impl<'p> Jumps<'p> {
         }
     }
 
-    /// Where the `switch` of this number goes by the value of its test, if there is a case for it (6.8.4.2p5).
-    pub fn case(&self, switch: u32, value: i128) -> Result<Option<Place<'p>>, NoMemory>
-        ensures { (bodies : List (Option (Bor StatementOf))) (function : ℕ) (body : Bor StatementOf) (s : SwitchOf) → HasJumps self.now bodies
-            → slice_get bodies function ≡ Some (Some body) → StandsIn body.now s → s.number ≡ switch
-            → IfOk result (IsCase self.now.links.items body.now switch value) }
+    /// Where the `switch` of this number in the function's body goes by the value of its test, if there is a case for it (6.8.4.2p5). None of another
+    /// function is asked for.
+    pub fn case(
+        &self,
+        function: u32,
+        switch: u32,
+        value: i128,
+    ) -> Result<Option<Place<'p>>, NoMemory>
+        ensures { (bodies : List (Option (Bor StatementOf))) (body : Bor StatementOf) → HasJumps self.now bodies
+            → slice_get bodies function ≡ Some (Some body) → IfOk result (IsCase self.now.links.items body.now switch value) }
     {
+        if !self.is_of(function, switch) {
+            return Err(NoMemory);
+        }
         let Some(cases) = self.cases.get(switch as usize) else {
             return Err(NoMemory);
         };
         match find(cases, Target::Case(value)) {
             Some(place) => Ok(Some(place)),
             None => Ok(find(cases, Target::Default)),
+        }
+    }
+
+    // Whether the `switch` of this number stands in the body of this function.
+    fn is_of(&self, function: u32, switch: u32) -> bool
+        ensures own { result ≡ true → slice_get self.now.owners.items switch ≡ Some function }
+        ensures other { result ≡ false → slice_get self.now.owners.items switch ≢ Some function }
+    {
+        match self.owners.get(switch as usize) {
+            Some(owner) => *owner == function as usize,
+            None => false,
         }
     }
 }
