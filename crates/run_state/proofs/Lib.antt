@@ -4,3 +4,4 @@ mod Beginning
 mod Given
 mod Operands
 mod Rooms
+mod Unstarted

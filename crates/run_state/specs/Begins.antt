@@ -9,18 +9,20 @@ use Rattle.c_typed.specs.declared.program.Constant.{Constant}
 use Rattle.c_typed.specs.declared.tree.Access.{Access}
 use Rattle.c_typed.specs.declared.tree.Access.TheVariants as access
 use Rattle.mem_spec.specs.Agreement.{number_of_kind, read_as_int}
+use Rattle.mem_spec.specs.Streams.{silent}
 use Rattle.prov_memory.specs.declared.cell.Via.{Via}
 use Rattle.prov_memory.specs.declared.cell.Via.TheVariants as vias
 use Rattle.prov_memory.specs.declared.value.Value.{Value as Kept_value}
 use Rattle.prov_memory.specs.Cells.{type_numbered}
-use Rattle.prov_memory.specs.Keeps.{RowsStay}
+use Rattle.prov_memory.specs.Keeps.{Keeps, RowsStay}
 use Rattle.prov_memory.specs.Memory.{Kept, store_of}
 use Rattle.c_model.specs.Program.{Standing}
 use Rattle.c_model.specs.Values.{Value}
 use Rattle.c_model.specs.World.{World, Limits}
 use Rattle.c_model.specs.Runs.{State, Running, start, created_after, too_many, limit_passed}
-use Rattle.program_view.specs.View.{main_values}
+use Rattle.program_view.specs.View.{main_values, standing_of}
 use Rattle.run_acts.specs.Kept.{IsOf}
+use Rattle.run_acts.specs.Outcomes.{HasNoPlace}
 use Rattle.run_acts.specs.Standing.{Stand, program_name}
 use Rattle.run_acts.specs.Viewed.{IsGiven}
 use Rattle.run_acts.specs.declared.initial.Places.{Places}
@@ -28,6 +30,7 @@ use Rattle.run_acts.specs.declared.initial.Started.{Started}
 use Rattle.run_acts.specs.declared.storage.Filling.{Filling}
 use Rattle.run_acts.specs.Contents.{CanHoldAll}
 use Rattle.run_control.specs.declared.statement.Statement.{Statement}
+use Rattle.run_control.specs.declared.work.Use.TheVariants as for_use
 use Rattle.run_control.specs.declared.work.Work.TheVariants as work
 use Rattle.run_control.specs.Stacked.{Stacked}
 use Rattle.run_control.specs.View.{Meaning}
@@ -88,13 +91,53 @@ abbrev pub IsGivenIn : Kept → Program → (count : ℕ) → List Kept_value �
 IsGivenIn m p count values =
     (s : Started) × (values ≡ s.count ∷ s.vector ∷ []) × IsOf m s.count × IsOf m s.vector × IsGiven m p count s
 
--- the frame of `main`
+-- the frame of `main` before its first step: the rooms and the objects begin with it, and no full expression is open (own)
 pub record IsFirst (p : Program) (o : Open) : Type 0 where
   pub number : o.frame.0 ≡ 0
   pub turn : o.turn ≡ 0
   pub stage : o.stage ≡ None
+  pub how : o.how ≡ for_use.Unused
   pub base : o.base ≡ 0
+  pub rooms : o.rooms ≡ 0
+  pub locals : o.locals ≡ 0
   pub function : o.function ≡ Some p.main
+  pub node : o.node ≡ 0
+
+-- the blocks, the objects and the full expressions that it sees are those of the code of `main` (own)
+pub record SeesMain (p : Program) (code : Code) (o : Open) : Type 0 where
+  pub main : FunctionCode
+  pub at : slice_get code.functions.items p.main ≡ Some (Some main)
+  pub above : o.above ≡ main.objects
+  pub blocks : o.blocks ≡ main.blocks
+  pub expressions : o.expressions ≡ main.expressions
+
+-- A machine before its first pick: just the frame of `main` is open, with places for its objects; no full expression has begun, and nothing was touched (own).
+pub record IsUnstarted (p : Program) (m : Machine) : Type 0 where
+  pub program : m.program.now ≡ p
+  pub top : IsFirst p m.top
+  pub sees : SeesMain p m.code.now m.top
+  pub places : m.top.above ≤ length m.locals.items
+  pub below : m.below.items ≡ []
+  pub entered : m.entered ≡ 0
+  pub depth : m.depth ≡ 1
+  pub begun : m.begun.items ≡ []
+  pub strayed : m.strayed.items ≡ []
+  pub left : m.left ≡ None
+  pub items : m.items ≡ []
+  pub spare : m.spare ≡ []
+
+-- What the objects count which stand before the first pick was created, nothing of the input was taken, and nothing was written (5.1.2p1, 7.21.3p7).
+pub record CountsAsDefined (p : Program) (arguments : List (List ℕ)) (input : List ℕ) (m : Machine) : Type 0 where
+  pub created : m.memory.created ≡ created_after 0 (map (λ o. o.decl) (standing_of p arguments))
+  pub streams : m.streams ≡ record { input = input; position = 0; output = silent }
+
+-- Of the objects that stand before the first pick the first ones were created in this memory, and the next one has no place there (own).
+abbrev pub SomeHasNoPlace : Kept → Program → (strings : List (List ℕ)) → Type 0
+SomeHasNoPlace m p strings = (after : Kept) × Keeps m after × HasNoPlace m after p strings
+
+-- the objects that stand before the first pick count so many bytes at most (own)
+abbrev pub CountWithin : Program → (strings : List (List ℕ)) → ℕ → Type 0
+CountWithin p strings n = (os : List Standing) → Stand p strings os → created_after 0 (map (λ o. o.decl) os) ≤ n
 
 -- the body of `main` is to be done
 abbrev pub StartsMain : Code → Program → Stacked → Type 0

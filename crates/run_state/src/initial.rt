@@ -1,5 +1,5 @@
 // A run before its first pick.
-ghost use Rattle.std.specs.Prelude.{◌≡◌, [], ◌∷◌, ◌+◌, ◌<◌, ◌^◌, None, Some, length, map, slice_get, string_bytes, IfOk, OnOk};
+ghost use Rattle.std.specs.Prelude.{◌≡◌, ◌⊎◌, [], ◌∷◌, ◌+◌, ◌<◌, ◌^◌, None, Some, Err, length, map, slice_get, string_bytes, IfErr, IfOk, OnOk};
 ghost use Rattle.addr_map.specs.Sound.{Above};
 ghost use Rattle.c_typed.specs.Lawful.{IsLawful};
 ghost use Rattle.mem_spec.specs.Streams.{Io, silent};
@@ -8,9 +8,12 @@ ghost use Rattle.prov_memory.specs.Made.{AreNamed};
 ghost use Rattle.prov_memory.specs.Memory.{empty, store_of};
 ghost use Rattle.prov_memory.specs.Sound.{IsSound};
 ghost use Rattle.prov_memory.specs.Tags.{AreTagged};
+ghost use Rattle.run_acts.specs.Outcomes.{IsNew};
 ghost use Rattle.run_acts.specs.Standing.{StartStands, program_name};
 ghost use Rattle.run_acts.specs.Starting.{ArePlaced};
 ghost use Rattle.run_state.specs.Begins.{AreBytesWhere, BeginsAsDefined, HoldsGiven, IsBodyOf, IsFirst, IsGivenIn, IsNamed, IsNamedVia, KeepsLabels, StartsMain};
+ghost use Rattle.run_state.specs.Begins.{CountsAsDefined, CountWithin, IsUnstarted, SeesMain, SomeHasNoPlace};
+ghost use Rattle.run_state.specs.declared.halt.Halt.TheVariants as halt;
 ghost use Rattle.run_state.specs.Stands.{AreEach};
 
 use crate::halt::Halt;
@@ -109,6 +112,7 @@ fn first_frame<'c>(
     code: &'c Code<'_>,
 ) -> Result<First<'c>, NoMemory>
     ensures top { IfOk result (λ first. IsFirst program.now first.top) }
+    ensures sees { IfOk result (λ first. SeesMain program.now code.now first.top) }
     ensures work { IfOk result (λ first. StartsMain code.now program.now first.work) }
     ensures labels { IfOk result (λ first. KeepsLabels code.now first.jumps) }
 {
@@ -163,6 +167,11 @@ fn placed_objects(
         → StartStands memory first.memory program.now (program_name ∷ map string_bytes args.now)) }
     ensures given { IfOk result (λ first. IsSound memory → IsLawful program.now
         → IsGivenIn first.memory program.now (length args.now + 1) first.values.items) }
+    ensures faults { IfErr result (λ h. (h ≡ halt.NoMemory) ⊎ (h ≡ halt.Unplaced)) }
+    ensures unplaced { result ≡ Err halt.Unplaced → IsSound memory → IsLawful program.now → Above 16777216 memory.rows → length args.now + 1 < 2 ^ 32
+        → SomeHasNoPlace memory program.now (program_name ∷ map string_bytes args.now) }
+    ensures room { result ≡ Err halt.Unplaced → IsSound memory → IsLawful program.now → IsNew memory → Above 16777216 memory.rows
+        → length args.now + 1 < 2 ^ 32 → CountWithin program.now (program_name ∷ map string_bytes args.now) (2 ^ 40) → ⊥ }
 {
     let mut memory = memory;
     let started = start(alloc, program, args, &mut memory)?;
@@ -186,7 +195,10 @@ struct TouchedItems {
     act: Touched,
 }
 
-fn no_items(alloc: Global) -> Result<TouchedItems, NoMemory> {
+fn no_items(alloc: Global) -> Result<TouchedItems, NoMemory>
+    ensures pick { IfOk result (λ items. items.pick ≡ []) }
+    ensures act { IfOk result (λ items. items.act ≡ []) }
+{
     let pick = Touched::new(alloc)?;
     let act = Touched::new(alloc)?;
     Ok(TouchedItems { pick, act })
@@ -204,12 +216,24 @@ pub fn prepare<'p, 'c>(
 ) -> Result<Machine<'p, 'c>, Halt>
     ensures stands { IfOk result (λ machine. IsLawful program.now → length args.now + 1 < 2 ^ 32 → memory ≡ empty memory.rows memory.mode
         → Above 16777216 memory.rows → BeginsAsDefined program.now (map string_bytes args.now) input machine) }
+    // The created bytes are what the objects count that stand before the first pick, and nothing was read or written.
+    ensures counts { IfOk result (λ machine. IsLawful program.now → length args.now + 1 < 2 ^ 32 → memory ≡ empty memory.rows memory.mode
+        → CountsAsDefined program.now (map string_bytes args.now) input machine) }
     // The first rooms hold what `main` is given (5.1.2.2.1p2).
     ensures given { IfOk result (λ machine. IsLawful program.now → memory ≡ empty memory.rows memory.mode
         → HoldsGiven program.now (map string_bytes args.now) machine) }
     // Of each function that has code the labels of its body are kept (6.8.6.1).
     ensures labels { IfOk result (λ machine. KeepsLabels machine.code.now machine.jumps) }
     ensures code { IfOk result (λ machine. machine.code ≡ code.entry) }
+    // Just the frame of `main` is open, with places for its objects, and sees the blocks and the full expressions of its code.
+    ensures first { IfOk result (λ machine. IsUnstarted program.now machine) }
+    // There is no machine for want of memory, or where one of the objects that stand before the first pick has no place.
+    ensures faults { IfErr result (λ h. (h ≡ halt.NoMemory) ⊎ (h ≡ halt.Unplaced)) }
+    ensures unplaced { result ≡ Err halt.Unplaced → IsLawful program.now → length args.now + 1 < 2 ^ 32 → memory ≡ empty memory.rows memory.mode
+        → Above 16777216 memory.rows → SomeHasNoPlace memory program.now (program_name ∷ map string_bytes args.now) }
+    // A new memory that places its objects has room for them, where they count 2^40 bytes at most.
+    ensures room { result ≡ Err halt.Unplaced → IsLawful program.now → length args.now + 1 < 2 ^ 32 → memory ≡ empty memory.rows memory.mode
+        → IsNew memory → Above 16777216 memory.rows → CountWithin program.now (program_name ∷ map string_bytes args.now) (2 ^ 40) → ⊥ }
 {
     let mut first = placed_objects(alloc, program, args, memory)?;
     let vias = vias_of(alloc, code, &mut first.memory)?;
@@ -246,10 +270,15 @@ fn assembled<'p, 'c>(
     ensures below { result.below.items ≡ [] }
     ensures top { result.top ≡ frame.entry.top }
     ensures work { result.work ≡ frame.entry.work }
+    ensures entered { result.entered ≡ 0 }
     ensures depth { result.depth ≡ 1 }
+    ensures begun { result.begun.items ≡ [] }
+    ensures strayed { result.strayed.items ≡ [] }
     ensures values { result.values ≡ first.values }
     ensures jumps { result.jumps ≡ frame.entry.jumps }
     ensures left { result.left ≡ None }
+    ensures items { result.items ≡ items.pick }
+    ensures spare { result.spare ≡ items.act }
 {
     let Placed {
         memory,

@@ -7,3 +7,12 @@ pub returns-clause-work : goal.returns-clause-work
 returns-clause-work c =
     main_starts c.args.code.now c.args.program.now c.in_ok-main.main.now _ c.start.new.self c.in_ok-main.ensures refl
     (c.in_ok-start.ensures.below ∙ ap (λ (s : Stacked). s.now ∷ s.below) c.new-work.ensures) c.in_ok-start.ensures.now
+
+pub returns-clause-sees : goal.returns-clause-sees
+returns-clause-sees c = record {
+  main = c.in_ok-main.main.now;
+  at = c.in_ok-main.ensures;
+  above = refl;
+  blocks = refl;
+  expressions = refl;
+}

@@ -1,4 +1,4 @@
-use Rattle.std.proofs.Common.{ap, ◌∙◌, map, subst, sym, string_bytes, length, ◌+◌}
+use Rattle.std.proofs.Common.{ap, ◌∙◌, map, subst, sym, string_bytes, length, ◌+◌, ◌≤◌}
 use Rattle.std.specs.Borrow.{Bor}
 use Rattle.std.proofs.lemmas.List.{length-map}
 use Rattle.c_typed.specs.declared.program.Program.{Program}
@@ -9,8 +9,10 @@ use Rattle.prov_memory.specs.Tags.{AreTagged}
 use Rattle.prov_memory.proofs.SoundLemmas.{empty_sound}
 use Rattle.run_code.specs.declared.whole.Code.{Code}
 use Rattle.run_state.specs.declared.machine.Machine.{Machine}
+use Rattle.run_state.specs.declared.machine.Open.{Open}
 use Rattle.run_state.proofs.Beginning.{assembled_parts, parts_after, begins}
 use Rattle.run_state.proofs.Given.{holds_given, labels_same}
+use Rattle.run_state.proofs.Unstarted.{counted, unstarted}
 use Rattle.run_state.proofs.initial.prepare.Goals as goal
 
 pub returns-clause-stands : goal.returns-clause-stands
@@ -30,6 +32,25 @@ returns-clause-stands c = λ lawful few nothing high.
     (c.vias_of.ensures.store (before.tagged (subst (λ (k : Kept). AreTagged k) (sym nothing) tt))) c.in_ok-vias.ensures.vias
     (c.in_ok-fillings.ensures (since.sound (before.sound sound)).named) c.in_ok-frame.ensures.top c.in_ok-frame.ensures.work in
     begins old first.memory c.args.program.now words c.args.input c.grow_locals.new.self nothing high
+    (parts_after old first.memory c.args.program.now words c.args.input c.assembled-machine.result c.grow_locals.new.self c.grow_locals.ensures.rest parts)
+
+pub returns-clause-counts : goal.returns-clause-counts
+returns-clause-counts c = λ lawful few nothing.
+    let old = c.args.memory in
+    let first = c.in_ok-first.first in
+    let words = map string_bytes c.args.args.now in
+    let made = c.assembled-machine.ensures in
+    let sound = subst (λ (k : Kept). IsSound k) (sym nothing) (empty_sound old.rows old.mode) in
+    let before = c.in_ok-first.ensures.kept sound lawful in
+    let since = c.vias_of.ensures.kept in
+    let parts = assembled_parts old first.memory c.args.program.now words c.args.input c.assembled-machine.result first.places c.vias_of.new.memory
+    c.args.code.now c.in_ok-vias.vias.items c.in_ok-fillings.fillings.items c.in_ok-frame.frame.top c.in_ok-frame.frame.work
+    (ap (λ (b : Bor Program). b.now) made.program) made.places made.memory (ap (λ (b : Bor Code). b.now) made.code) (ap (λ v. v.items) made.vias)
+    (ap (λ v. v.items) made.fillings) made.top made.work (made.streams ∙ c.new-streams.ensures) made.below made.depth made.left
+    (c.in_ok-first.ensures.stands sound lawful few) (c.in_ok-first.ensures.placed sound lawful) before since
+    (c.vias_of.ensures.store (before.tagged (subst (λ (k : Kept). AreTagged k) (sym nothing) tt))) c.in_ok-vias.ensures.vias
+    (c.in_ok-fillings.ensures (since.sound (before.sound sound)).named) c.in_ok-frame.ensures.top c.in_ok-frame.ensures.work in
+    counted old first.memory c.args.program.now words c.args.input c.grow_locals.new.self nothing
     (parts_after old first.memory c.args.program.now words c.args.input c.assembled-machine.result c.grow_locals.new.self c.grow_locals.ensures.rest parts)
 
 pub returns-clause-given : goal.returns-clause-given
@@ -56,3 +77,13 @@ returns-clause-labels c =
 
 pub returns-clause-code : goal.returns-clause-code
 returns-clause-code c = ap (λ (n : Machine). n.code) c.grow_locals.ensures.rest ∙ c.assembled-machine.ensures.code
+
+pub returns-clause-first : goal.returns-clause-first
+returns-clause-first c =
+    let made = c.assembled-machine.ensures in
+    let m = c.grow_locals.new.self in
+    unstarted c.args.program.now c.args.code.now c.in_ok-frame.frame.top c.assembled-machine.result m c.grow_locals.ensures.rest
+    (subst (λ (o : Open). o.above ≤ length m.locals.items) (sym made.top) c.in_ok-grow_locals.ensures.count)
+    (ap (λ (b : Bor Program). b.now) made.program) (ap (λ (b : Bor Code). b.now) made.code) made.top c.in_ok-frame.ensures.top c.in_ok-frame.ensures.sees
+    made.below made.entered made.depth made.begun made.strayed made.left (made.items ∙ c.in_ok-items.ensures.pick)
+    (made.spare ∙ c.in_ok-items.ensures.act)
