@@ -123,7 +123,7 @@ fn value_act(machine: &mut Machine, act: &Act, event: Event) -> Result<Outcome, 
     }
 }
 
-// The value at a place. Most loads are of integers, whose value is put into the room without a copy of what other values have.
+// The value at a place. Most loads are of integers, whose value is put into the room without a copy of what other values have, and of pointers.
 #[inline(never)]
 fn loaded(
     machine: &mut Machine,
@@ -137,6 +137,7 @@ fn loaded(
 {
     match *access {
         Access::Integer(kind) => loaded_integer(machine, kind, ty, place, event),
+        Access::Pointer => loaded_pointer(machine, ty, place, event),
         _ => loaded_value(machine, access, ty, place, event),
     }
 }
@@ -179,6 +180,26 @@ fn integer_at(
     let t = &mut machine.items;
     let number = machine.memory.load_int(kind, place.addr, place.prov, t)?;
     machine.keep(event.node, Value::Int(number));
+    Ok(Outcome::Done)
+}
+
+// A pointer to an object.
+#[inline(never)]
+fn loaded_pointer(
+    machine: &mut Machine,
+    ty: &Ty,
+    place: &Operand,
+    event: Event,
+) -> Result<Outcome, Fault>
+    ensures exact { CanAct machine.old → AreGiven machine.old event (acts.Load accesses.Pointer ty.entry place.now) → Does machine.old machine.new event (acts.Load accesses.Pointer ty.entry place.now) result }
+    ensures changes { ChangesOnly machine.old machine.new event.node (acts.Load accesses.Pointer ty.entry place.now) }
+{
+    let place = machine.pointer(*place);
+    let t = &mut machine.items;
+    let value = machine
+        .memory
+        .load_ptr(ty, event, 8, place.addr, place.prov, t)?;
+    machine.keep(event.node, value);
     Ok(Outcome::Done)
 }
 
