@@ -248,23 +248,6 @@ impl Memory {
         }
     }
 
-    // The number of a range where a load of the type falls.
-    #[inline(always)]
-    fn read_number(&self, found: Accessed, ty: &Ty, len: u64, is_bool: bool) -> Result<u64, Clause>
-        requires short { len ≤ 8 }
-        requires reached { IsReached self.now.objects found len }
-        ensures { (h : Held) → slice_get self.now.objects found.object ≡ Some h → result ≡ number_read (type_of ty.now) is_bool (option_map form_of h.declared) found.from (bytes_in self.now h found.from len) }
-    {
-        let Some(object) = self.objects.get(found.object) else {
-            return Err(Clause::Indeterminate);
-        };
-        if self.suits_load(object, ty, found.from, len) {
-            number_checked(is_bool, number_at(object.cells(), found.from, len))
-        } else {
-            Err(Clause::EffectiveType)
-        }
-    }
-
     /// Loads a pointer to an object: the value of its eight pieces, or else what an integer cast of its bytes gives.
     #[inline(always)]
     pub fn load_ptr(
@@ -288,9 +271,10 @@ impl Memory {
     {
         t.clear();
         let found = self.access(8, align, addr, prov, t)?;
-        let number = self.read_number(found, ty, 8, false)?;
+        let seen = self.pointer_seen(found);
+        let (number, pointer) = seen;
+        let number = self.suited(found, ty, 8, false, number)?;
         note_read(found, 8, t);
-        let pointer = self.pointer_of(found);
         let target = self.resolved(pointer, who, number, t)?;
         self.settle(found.settles);
         Ok(Value::Ptr {
@@ -299,16 +283,65 @@ impl Memory {
         })
     }
 
-    // The number of what the eight bytes where a load falls were made from, where they are the pieces of one pointer value, from 0 on.
+    // The number of the eight bytes where a load falls, if all are written, and that of what they were made from, where they are the pieces of one
+    // pointer value, from 0 on.
     #[inline(always)]
-    fn pointer_of(&self, found: Accessed) -> Option<Origin>
+    fn pointer_seen(&self, found: Accessed) -> (Option<u64>, Option<Origin>)
         requires { IsReached self.now.objects found 8 }
-        ensures { (h : Held) → slice_get self.now.objects found.object ≡ Some h → named_in self.now.origins result ≡ acts.pointer_in (bytes_in self.now h found.from 8) }
+        ensures number { (h : Held) → slice_get self.now.objects found.object ≡ Some h → result.0 ≡ number_if (bytes_in self.now h found.from 8) }
+        ensures pointer { (h : Held) → slice_get self.now.objects found.object ≡ Some h → named_in self.now.origins result.1 ≡ acts.pointer_in (bytes_in self.now h found.from 8) }
     {
         match self.objects.get(found.object) {
-            None => None,
-            Some(object) => self.pointer_in(object, found.from),
+            None => (None, None),
+            Some(object) => self.pointer_read(object, found.from),
         }
+    }
+
+    // The same of eight bytes of an object. Most are the pieces of one pointer value.
+    #[inline(always)]
+    fn pointer_read(&self, object: &Object, from: u64) -> (Option<u64>, Option<Origin>)
+        requires { from + 8 ≤ 2 ^ 47 }
+        ensures number { result.0 ≡ number_if (bytes_in self.now object.now from 8) }
+        ensures pointer { named_in self.now.origins result.1 ≡ acts.pointer_in (bytes_in self.now object.now from 8) }
+    {
+        let origin = object.cell(from).origin;
+        match self.pieces_number(object.cells(), origin, from) {
+            Some(number) => (Some(number), Some(origin)),
+            None => self.pointer_or_number(object, from),
+        }
+    }
+
+    // The same of any eight bytes. Not inlined, since few are others.
+    #[inline(never)]
+    fn pointer_or_number(&self, object: &Object, from: u64) -> (Option<u64>, Option<Origin>)
+        requires { from + 8 ≤ 2 ^ 47 }
+        ensures number { result.0 ≡ number_if (bytes_in self.now object.now from 8) }
+        ensures pointer { named_in self.now.origins result.1 ≡ acts.pointer_in (bytes_in self.now object.now from 8) }
+    {
+        let number = number_at(object.cells(), from, 8);
+        (number, self.pointer_in(object, from))
+    }
+
+    // The number of eight bytes that are the pieces, from 0 on, of one pointer value with the provenance of this number; none where they aren't.
+    #[inline(always)]
+    fn pieces_number(&self, cells: &[Cell], origin: Origin, from: u64) -> Option<u64>
+        requires { from + 8 ≤ 2 ^ 47 }
+        ensures number { IfSome result (λ number. Some number ≡ number_if (range_in self.now cells.now from 8)) }
+        ensures pieces { IfSome result (λ number. acts.are_pieces (prov_numbered self.now.origins origin.number) 0 (range_in self.now cells.now from 8) ≡ true) }
+    {
+        let mut number: u64 = 0;
+        for step in 0..8u64 {
+            let index = 8 - (step + 1);
+            let cell = cell_at(cells, from + index);
+            if !self.is_piece(cell, origin, index) {
+                return None;
+            }
+            let Some(byte) = cell.value() else {
+                return None;
+            };
+            number = number * 256 + u64::from(byte);
+        }
+        Some(number)
     }
 
     fn pointer_in(&self, object: &Object, from: u64) -> Option<Origin>
