@@ -1,5 +1,5 @@
 -- Eight bytes that are the pieces of one pointer value, read from the last one on.
-use Rattle.std.proofs.Common.{◌≡◌, ℕ, suc, ◌+◌, ◌-◌, ◌<◌, Bool, true, false, ◌&&◌, refl, sym, ap, ◌∙◌, subst, arith, List, Some}
+use Rattle.std.proofs.Common.{◌≡◌, ℕ, suc, ◌+◌, ◌-◌, ◌<◌, Bool, true, false, ◌&&◌, refl, sym, ap, ◌∙◌, subst, arith, Some}
 use Rattle.exposure.specs.declared.prov.Prov.{Prov}
 use Rattle.mem_spec.specs.Acts.{is_piece, are_pieces, pointer_in}
 use Rattle.mem_spec.specs.Store.{TaggedByte, range_from}

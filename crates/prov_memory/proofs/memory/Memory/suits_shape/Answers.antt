@@ -1,6 +1,6 @@
 use Rattle.std.proofs.Common.{ℕ, ◌∙◌, ap}
 use Rattle.std.specs.Prelude.{slice_get}
-use Rattle.c_types.specs.Types.{CType, type_of}
+use Rattle.c_types.specs.Types.{CType}
 use Rattle.c_types.specs.Shapes.{form_of}
 use Rattle.mem_spec.specs.Agreement.{suits_form}
 use Rattle.prov_memory.proofs.AgreementLemmas.{kind_type, other_type, no_type}
