@@ -71,6 +71,8 @@ impl Touched {
     pub fn note(&mut self, item: Item)
         ensures { length self.old < 32 → self.new ≡ self.old ++ item ∷ [] }
     {
-        let _ = self.items.push(item);
+        if self.items.len() < ROOM {
+            self.items.push_reserved(item);
+        }
     }
 }

@@ -32,10 +32,10 @@ use Rattle.std.proofs.Common.{
 use Rattle.std.specs.Prelude.{◌==◌, ◌/◌, ◌%◌, ◌↔◌, IsTrue, nat_lt, nat_le, slice_get, option_map}
 use Rattle.std.proofs.lemmas.Bool.Decides.{nat_tests}
 use Rattle.c_types.specs.declared.kind.IntKind.{IntKind}
-use Rattle.c_types.specs.Types.{CType, type_of, int, Agrees, is_character}
+use Rattle.c_types.specs.Types.{CType, type_of, int, pointer, Agrees, is_character}
 use Rattle.c_types.specs.Shapes.{Form, leaf, repeat, parts, Forms, LeafAgrees, SomeAgrees, Suits}
 use Rattle.c_types.specs.Shapes as shapes
-use Rattle.c_types.specs.Same.{agrees}
+use Rattle.c_types.specs.Same.{agrees, matches}
 use Rattle.c_types.proofs.SameTests.{agrees_tells}
 use Rattle.mem_spec.specs.Agreement.{leaf_agrees, some_agrees, suits_form}
 use Rattle.c_types.specs.declared.ty.Ty.{Ty}
@@ -187,3 +187,10 @@ no_type m n ty e at is = absurd (none_some (ap (option_map type_of) at ∙ sym (
   where
     none_some : None ≡ Some ty → ⊥
     none_some q = cc
+
+-- pointers with one qualifier agree where what they point to matches
+pub pointers_agree : (c d : Bool) (a b : CType) → c ≡ d → matches true a b ≡ true → agrees (pointer c a) (pointer d b) ≡ true
+pointers_agree true true a b e h = rw h refl
+pointers_agree false false a b e h = rw h refl
+pointers_agree true false a b e h = absurd (cc)
+pointers_agree false true a b e h = absurd (cc)

@@ -24,3 +24,4 @@ pub mod PartLemmas
 pub mod KeepLemmas
 pub mod BirthLemmas
 pub mod RoomLemmas
+pub mod ReadLemmas

@@ -1,5 +1,5 @@
 -- Pieces of pointers by the numbers of their provenances.
-use Rattle.std.proofs.Common.{◌≡◌, ℕ, Bool, true, false, cond, refl, sym, ap, ◌∙◌, List, Option, Some, None}
+use Rattle.std.proofs.Common.{◌≡◌, ℕ, Bool, true, false, cond, refl, ap, ◌∙◌, List, Option, Some, None}
 use Rattle.std.specs.Bool.{then_some}
 use Rattle.exposure.specs.declared.prov.Prov.{Prov}
 use Rattle.mem_spec.specs.Acts.{are_pieces, same_prov, origin_in, pointer_if, pointer_in}

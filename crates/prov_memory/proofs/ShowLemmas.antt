@@ -6,6 +6,7 @@ use Rattle.std.proofs.Common.{
   suc,
   ◌+◌,
   ◌*◌,
+  ◌-◌,
   ◌<◌,
   ◌≤◌,
   Bool,
@@ -108,6 +109,16 @@ pub origins_none_next : (f : ℕ → TaggedByte) (from n : ℕ) → origins_of (
     origins_of (range_from f from (n + 1)) ≡ []
 origins_none_next f from n before here =
     origins_next f from n ∙ ap (λ (xs : List ObjName). xs ++ origins_in (f (from + n)).byte) before ∙ here
+
+-- .. one byte before
+pub origins_none_before : (f : ℕ → TaggedByte) (from n step at : ℕ) → step < n → at ≡ from + (n - (step + 1))
+    → origins_of (range_from f (from + (n - step)) step) ≡ [] → origins_in (f at).byte ≡ []
+    → origins_of (range_from f (from + (n - (step + 1))) (step + 1)) ≡ []
+origins_none_before f from n step at lt place before here =
+    let next : from + (n - step) ≡ suc at = omega arith in
+    let rest : origins_of (range_from f (suc at) step) ≡ [] = subst (λ (k : ℕ). origins_of (range_from f k step) ≡ []) next before in
+    let count : step + 1 ≡ suc step = omega arith in
+    rw (← place, count, here) rest
 
 candidates_few : (p : Prov) → length (candidates p) ≤ 2
 candidates_few Empty = omega arith

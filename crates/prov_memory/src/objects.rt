@@ -19,7 +19,7 @@ use ub_base::{NoMemory, ObjName};
 pub(crate) struct Objects {
     list: Vec<Object>,
     indices: HashMap<ObjName, usize>,
-    recent: [usize; 128],
+    recent: [usize; 384],
 }
 
 impl Model for Objects {
@@ -39,24 +39,33 @@ impl Model for Objects {
     ghost invariant = { λ o. IsIndexed (hash.get object_eq o.indices) o.list.items };
 }
 
-/// Where a name is looked for first.
+/// Where a name is looked for first: automatic objects, those of the heap and all others each have places of their own, so that the many of
+/// one kind don't hide the few of another.
 #[inline(always)]
 fn slot_of(name: ObjName) -> usize
+    ensures { result < 384 }
+{
+    match name {
+        ObjName::Static(k) => 256 + place_of(k),
+        ObjName::Lit(k) => 256 + place_of(k.wrapping_add(64)),
+        ObjName::Argv => 383,
+        ObjName::Arg(k) => 256 + place_of(k.wrapping_add(96)),
+        ObjName::Auto { frame, turn, decl } => place_of(mixed(frame.0, turn, decl)),
+        ObjName::Heap { frame, turn, node } => 128 + place_of(mixed(frame.0, turn, node)),
+    }
+}
+
+#[inline(always)]
+fn mixed(frame: u32, turn: u64, number: u32) -> u32 {
+    number
+        .wrapping_add((turn & 0xff) as u32)
+        .wrapping_add(frame.wrapping_mul(7))
+}
+
+#[inline(always)]
+fn place_of(mixed: u32) -> usize
     ensures { result < 128 }
 {
-    let mixed = match name {
-        ObjName::Static(k) => k,
-        ObjName::Lit(k) => k.wrapping_add(5),
-        ObjName::Argv => 11,
-        ObjName::Arg(k) => k.wrapping_add(13),
-        ObjName::Auto { frame, turn, decl } => decl
-            .wrapping_add((turn & 0xff) as u32)
-            .wrapping_add(frame.0.wrapping_mul(7)),
-        ObjName::Heap { frame, turn, node } => node
-            .wrapping_add((turn & 0xff) as u32)
-            .wrapping_add(frame.0.wrapping_mul(7))
-            .wrapping_add(17),
-    };
     (mixed % 128) as usize
 }
 
@@ -68,7 +77,7 @@ impl Objects {
         Objects {
             list: Vec::new(alloc),
             indices: HashMap::new(alloc),
-            recent: [0; 128],
+            recent: [0; 384],
         }
     }
 

@@ -1,7 +1,7 @@
 // The acts of events.
 ghost use Rattle.std.specs.Prelude.{◌≡◌, ◌≢◌, ◌+◌, ◌<◌, ℕ, true, false, not, List, length, slice_get, None, Some, IfOk};
 ghost use Rattle.addr_map.specs.declared.map.Row.{Row};
-ghost use Rattle.c_model.specs.Nodes.{bool_value};
+ghost use Rattle.c_model.specs.Nodes.{bool_value, in_order};
 ghost use Rattle.c_model.specs.Values as model;
 ghost use Rattle.prov_memory.specs.Made.{IsMade};
 ghost use Rattle.prov_memory.specs.Keeps.{Keeps};
@@ -11,6 +11,7 @@ ghost use Rattle.run_acts.specs.Kept.{IsOf};
 ghost use Rattle.run_acts.specs.Views.{value_in, pointer_at};
 ghost use Rattle.run_code.specs.Named.{IsNamed};
 ghost use Rattle.c_typed.specs.declared.tree.Access.TheVariants as accesses;
+ghost use Rattle.c_typed.specs.declared.tree.Conversion.TheVariants as conversions;
 ghost use Rattle.run_acts.specs.Loads.{integer_act};
 ghost use Rattle.run_code.specs.declared.steps.Act.{Act as ActOf};
 ghost use Rattle.run_code.specs.declared.steps.Act.TheVariants as acts;
@@ -122,7 +123,7 @@ fn value_act(machine: &mut Machine, act: &Act, event: Event) -> Result<Outcome, 
     }
 }
 
-// The value at a place. Most loads are of integers, whose value is put into the room without a copy of what other values have.
+// The value at a place. Most loads are of integers, whose value is put into the room without a copy of what other values have, and of pointers.
 #[inline(never)]
 fn loaded(
     machine: &mut Machine,
@@ -136,6 +137,7 @@ fn loaded(
 {
     match *access {
         Access::Integer(kind) => loaded_integer(machine, kind, ty, place, event),
+        Access::Pointer => loaded_pointer(machine, ty, place, event),
         _ => loaded_value(machine, access, ty, place, event),
     }
 }
@@ -178,6 +180,26 @@ fn integer_at(
     let t = &mut machine.items;
     let number = machine.memory.load_int(kind, place.addr, place.prov, t)?;
     machine.keep(event.node, Value::Int(number));
+    Ok(Outcome::Done)
+}
+
+// A pointer to an object.
+#[inline(never)]
+fn loaded_pointer(
+    machine: &mut Machine,
+    ty: &Ty,
+    place: &Operand,
+    event: Event,
+) -> Result<Outcome, Fault>
+    ensures exact { CanAct machine.old → AreGiven machine.old event (acts.Load accesses.Pointer ty.entry place.now) → Does machine.old machine.new event (acts.Load accesses.Pointer ty.entry place.now) result }
+    ensures changes { ChangesOnly machine.old machine.new event.node (acts.Load accesses.Pointer ty.entry place.now) }
+{
+    let place = machine.pointer(*place);
+    let t = &mut machine.items;
+    let value = machine
+        .memory
+        .load_ptr(ty, event, 8, place.addr, place.prov, t)?;
+    machine.keep(event.node, value);
     Ok(Outcome::Done)
 }
 
@@ -228,8 +250,41 @@ fn arithmetic(
     Ok(Outcome::Done)
 }
 
-#[inline(never)]
+// The value of a conversion (6.3). Most are between integers, whose value is put into the room without a copy of what other values have.
+#[inline(always)]
 fn converted(
+    machine: &mut Machine,
+    conversion: Conversion,
+    operand: &Operand,
+    event: Event,
+) -> Result<Outcome, Fault>
+    ensures exact { CanAct machine.old → AreGiven machine.old event (acts.Convert conversion operand.now) → Does machine.old machine.new event (acts.Convert conversion operand.now) result }
+    ensures changes { ChangesOnly machine.old machine.new event.node (acts.Convert conversion operand.now) }
+{
+    match conversion {
+        Conversion::Integer(kind) => converted_integer(machine, kind, operand, event),
+        _ => converted_value(machine, conversion, operand, event),
+    }
+}
+
+#[inline(never)]
+fn converted_integer(
+    machine: &mut Machine,
+    kind: IntKind,
+    operand: &Operand,
+    event: Event,
+) -> Result<Outcome, Fault>
+    ensures exact { CanAct machine.old → AreGiven machine.old event (acts.Convert (conversions.Integer kind) operand.now) → Does machine.old machine.new event (acts.Convert (conversions.Integer kind) operand.now) result }
+    ensures changes { ChangesOnly machine.old machine.new event.node (acts.Convert (conversions.Integer kind) operand.now) }
+{
+    let operand = machine.integer(*operand);
+    let number = c_arith::convert(kind, operand);
+    machine.keep(event.node, Value::Int(number));
+    Ok(Outcome::Done)
+}
+
+#[inline(never)]
+fn converted_value(
     machine: &mut Machine,
     conversion: Conversion,
     operand: &Operand,
@@ -346,7 +401,8 @@ fn distance_between(
     Ok(Outcome::Done)
 }
 
-#[inline(never)]
+// The value of a relational operator (6.5.8), on two pointers or two integers.
+#[inline(always)]
 fn relation(
     machine: &mut Machine,
     op: RelOp,
@@ -358,12 +414,61 @@ fn relation(
     ensures exact { CanAct machine.old → AreGiven machine.old event (acts.Related op pointers left.now right.now) → Does machine.old machine.new event (acts.Related op pointers left.now right.now) result }
     ensures changes { ChangesOnly machine.old machine.new event.node (acts.Related op pointers left.now right.now) }
 {
-    let left = machine.value(*left)?;
-    let right = machine.value(*right)?;
+    if pointers {
+        pointer_relation(machine, op, left, right, event)
+    } else {
+        integer_relation(machine, op, left, right, event)
+    }
+}
+
+#[inline(never)]
+fn pointer_relation(
+    machine: &mut Machine,
+    op: RelOp,
+    left: &Operand,
+    right: &Operand,
+    event: Event,
+) -> Result<Outcome, Fault>
+    ensures exact { CanAct machine.old → AreGiven machine.old event (acts.Related op true left.now right.now) → Does machine.old machine.new event (acts.Related op true left.now right.now) result }
+    ensures changes { ChangesOnly machine.old machine.new event.node (acts.Related op true left.now right.now) }
+{
+    let left = machine.pointer(*left);
+    let right = machine.pointer(*right);
+    let first = left.value();
+    let second = right.value();
     let t = &mut machine.items;
-    let value = related(&mut machine.memory, op, pointers, &left, &right, t)?;
+    let value = related(&mut machine.memory, op, true, &first, &second, t)?;
     machine.keep(event.node, value);
     Ok(Outcome::Done)
+}
+
+#[inline(never)]
+fn integer_relation(
+    machine: &mut Machine,
+    op: RelOp,
+    left: &Operand,
+    right: &Operand,
+    event: Event,
+) -> Result<Outcome, Fault>
+    ensures exact { CanAct machine.old → AreGiven machine.old event (acts.Related op false left.now right.now) → Does machine.old machine.new event (acts.Related op false left.now right.now) result }
+    ensures changes { ChangesOnly machine.old machine.new event.node (acts.Related op false left.now right.now) }
+{
+    let left = machine.integer(*left);
+    let right = machine.integer(*right);
+    let value = number(is_in_order(op, left, right));
+    machine.keep(event.node, value);
+    Ok(Outcome::Done)
+}
+
+fn is_in_order(op: RelOp, left: i128, right: i128) -> bool
+    ensures { result ≡ in_order op left right }
+{
+    match op {
+        RelOp::Less => left < right,
+        RelOp::Greater => right < left,
+        RelOp::LessEq => left <= right,
+        RelOp::GreaterEq => right <= left,
+    }
 }
 
 #[inline(never)]

@@ -203,7 +203,8 @@ impl<'p, 'c> Machine<'p, 'c> {
         }
     }
 
-    // Gives a room of the open full expression its value.
+    // Gives a room of the open full expression its value. Inlined, so that of an integer no more is written than it has.
+    #[inline(always)]
     pub fn keep(&mut self, room: u32, value: Value)
         ensures rest { self.new ≡ record self.old { values = self.new.values } }
         ensures room { self.old.top.base + room < length self.old.values.items → slice_get self.new.values.items (self.old.top.base + room) ≡ Some value }
@@ -214,6 +215,7 @@ impl<'p, 'c> Machine<'p, 'c> {
         self.put(at, value);
     }
 
+    #[inline(always)]
     pub fn put(&mut self, at: usize, value: Value)
         ensures rest { self.new ≡ record self.old { values = self.new.values } }
         ensures room { at < length self.old.values.items → slice_get self.new.values.items at ≡ Some value }

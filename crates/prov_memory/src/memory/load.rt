@@ -2,8 +2,8 @@
 ghost use Rattle.std.specs.Prelude.{◌≡◌, ℕ, ◌+◌, ◌<◌, ◌≤◌, ◌^◌, ◌&&◌, ◌==◌, ◌++◌, ◌∷◌, [], List, Some, Ok, Err, true, false, length, map, slice_get, option_map, IfOk, IfErr, IfSome, OnOk, OnErr};
 ghost use Rattle.ub_base.specs.Names.{same_event, same_object};
 ghost use Rattle.ub_base.specs.declared.names.Item.TheVariants.{Alive, Expose, Read};
-ghost use Rattle.c_types.specs.Types.{type_of};
-ghost use Rattle.c_types.specs.Same.{agrees};
+ghost use Rattle.c_types.specs.Types.{type_of, qualified_of, pointer};
+ghost use Rattle.c_types.specs.Same.{agrees, matches};
 ghost use Rattle.c_types.specs.Shapes.{form_of};
 ghost use Rattle.mem_spec.specs.Agreement as agreement;
 ghost use Rattle.mem_spec.specs.Agreement.{leaf_agrees, suits_form};
@@ -27,32 +27,21 @@ use super::access::Accessed;
 use super::*;
 use crate::cell::{State, cell_at, value_of};
 use crate::{MemFault, Value};
-use c_types::{IntKind, agrees};
+use c_types::{IntKind, Qual, agrees};
 use ub_base::Clause;
 
 impl Memory {
-    // Exposes what the pieces of pointers in the range were made from.
+    // Exposes what the pieces of pointers in the range were made from. Where it is plain, none of its bytes is one.
     #[inline(always)]
-    fn show_pieces(&mut self, at: usize, from: u64, len: u64, t: &mut Touched)
+    fn show_pieces(&mut self, at: usize, from: u64, len: u64, plain: bool, t: &mut Touched)
         requires short { len ≤ 8 }
         requires range { from + len ≤ 2 ^ 47 }
+        requires plain { plain ≡ true → (h : Held) → slice_get self.old.objects at ≡ Some h → origins_of (bytes_in self.old h from len) ≡ [] }
         ensures shown { (h : Held) → slice_get self.old.objects at ≡ Some h → self.new ≡ record self.old { objects = uncovered_each (origins_of (bytes_in self.old h from len)) self.old.objects } }
         ensures items { (h : Held) → slice_get self.old.objects at ≡ Some h → length t.old + 16 < 32 → t.new ≡ t.old ++ map Expose (origins_of (bytes_in self.old h from len)) }
     {
-        if self.has_piece(at, from, len) {
+        if !plain {
             self.show_all_pieces(at, from, len, t);
-        }
-    }
-
-    // Whether a byte of the range is a piece of a pointer.
-    #[inline(always)]
-    fn has_piece(&self, at: usize, from: u64, len: u64) -> bool
-        requires { from + len ≤ 2 ^ 47 }
-        ensures { result ≡ false → (h : Held) → slice_get self.now.objects at ≡ Some h → origins_of (bytes_in self.now h from len) ≡ [] }
-    {
-        match self.objects.get(at) {
-            None => false,
-            Some(object) => any_piece(object.cells(), from, len),
         }
     }
 
@@ -212,25 +201,48 @@ impl Memory {
         ensures sound { IsSound self.old → IsSound self.new }
         ensures kept { Keeps self.old self.new }
     {
-        let number = self.read_number(found, ty, len, is_bool)?;
+        let seen = self.seen(found, len);
+        let (number, plain) = seen;
+        let number = self.suited(found, ty, len, is_bool, number)?;
         note_read(found, len, t);
-        self.show_pieces(found.object, found.from, len, t);
+        self.show_pieces(found.object, found.from, len, plain, t);
         self.settle(found.settles);
         Ok(number)
     }
 
-    // The number of a range where a load of the type falls.
+    // The number of the bytes where a load falls, if all are written, and whether they are plain: none of them is a piece of a pointer.
     #[inline(always)]
-    fn read_number(&self, found: Accessed, ty: &Ty, len: u64, is_bool: bool) -> Result<u64, Clause>
+    fn seen(&self, found: Accessed, len: u64) -> (Option<u64>, bool)
         requires short { len ≤ 8 }
         requires reached { IsReached self.now.objects found len }
+        ensures number { (h : Held) → slice_get self.now.objects found.object ≡ Some h → result.0 ≡ number_if (bytes_in self.now h found.from len) }
+        ensures plain { result.1 ≡ true → (h : Held) → slice_get self.now.objects found.object ≡ Some h → origins_of (bytes_in self.now h found.from len) ≡ [] }
+    {
+        match self.objects.get(found.object) {
+            None => (None, false),
+            Some(object) => seen_at(object.cells(), found.from, len),
+        }
+    }
+
+    // That number, where a load of the type suits the bytes.
+    #[inline(always)]
+    fn suited(
+        &self,
+        found: Accessed,
+        ty: &Ty,
+        len: u64,
+        is_bool: bool,
+        number: Option<u64>,
+    ) -> Result<u64, Clause>
+        requires reached { IsReached self.now.objects found len }
+        requires number { (h : Held) → slice_get self.now.objects found.object ≡ Some h → number ≡ number_if (bytes_in self.now h found.from len) }
         ensures { (h : Held) → slice_get self.now.objects found.object ≡ Some h → result ≡ number_read (type_of ty.now) is_bool (option_map form_of h.declared) found.from (bytes_in self.now h found.from len) }
     {
         let Some(object) = self.objects.get(found.object) else {
             return Err(Clause::Indeterminate);
         };
         if self.suits_load(object, ty, found.from, len) {
-            number_checked(is_bool, number_at(object.cells(), found.from, len))
+            number_checked(is_bool, number)
         } else {
             Err(Clause::EffectiveType)
         }
@@ -259,9 +271,10 @@ impl Memory {
     {
         t.clear();
         let found = self.access(8, align, addr, prov, t)?;
-        let number = self.read_number(found, ty, 8, false)?;
+        let seen = self.pointer_seen(found);
+        let (number, pointer) = seen;
+        let number = self.suited(found, ty, 8, false, number)?;
         note_read(found, 8, t);
-        let pointer = self.pointer_of(found);
         let target = self.resolved(pointer, who, number, t)?;
         self.settle(found.settles);
         Ok(Value::Ptr {
@@ -270,16 +283,65 @@ impl Memory {
         })
     }
 
-    // The number of what the eight bytes where a load falls were made from, where they are the pieces of one pointer value, from 0 on.
+    // The number of the eight bytes where a load falls, if all are written, and that of what they were made from, where they are the pieces of one
+    // pointer value, from 0 on.
     #[inline(always)]
-    fn pointer_of(&self, found: Accessed) -> Option<Origin>
+    fn pointer_seen(&self, found: Accessed) -> (Option<u64>, Option<Origin>)
         requires { IsReached self.now.objects found 8 }
-        ensures { (h : Held) → slice_get self.now.objects found.object ≡ Some h → named_in self.now.origins result ≡ acts.pointer_in (bytes_in self.now h found.from 8) }
+        ensures number { (h : Held) → slice_get self.now.objects found.object ≡ Some h → result.0 ≡ number_if (bytes_in self.now h found.from 8) }
+        ensures pointer { (h : Held) → slice_get self.now.objects found.object ≡ Some h → named_in self.now.origins result.1 ≡ acts.pointer_in (bytes_in self.now h found.from 8) }
     {
         match self.objects.get(found.object) {
-            None => None,
-            Some(object) => self.pointer_in(object, found.from),
+            None => (None, None),
+            Some(object) => self.pointer_read(object, found.from),
         }
+    }
+
+    // The same of eight bytes of an object. Most are the pieces of one pointer value.
+    #[inline(always)]
+    fn pointer_read(&self, object: &Object, from: u64) -> (Option<u64>, Option<Origin>)
+        requires { from + 8 ≤ 2 ^ 47 }
+        ensures number { result.0 ≡ number_if (bytes_in self.now object.now from 8) }
+        ensures pointer { named_in self.now.origins result.1 ≡ acts.pointer_in (bytes_in self.now object.now from 8) }
+    {
+        let origin = object.cell(from).origin;
+        match self.pieces_number(object.cells(), origin, from) {
+            Some(number) => (Some(number), Some(origin)),
+            None => self.pointer_or_number(object, from),
+        }
+    }
+
+    // The same of any eight bytes. Not inlined, since few are others.
+    #[inline(never)]
+    fn pointer_or_number(&self, object: &Object, from: u64) -> (Option<u64>, Option<Origin>)
+        requires { from + 8 ≤ 2 ^ 47 }
+        ensures number { result.0 ≡ number_if (bytes_in self.now object.now from 8) }
+        ensures pointer { named_in self.now.origins result.1 ≡ acts.pointer_in (bytes_in self.now object.now from 8) }
+    {
+        let number = number_at(object.cells(), from, 8);
+        (number, self.pointer_in(object, from))
+    }
+
+    // The number of eight bytes that are the pieces, from 0 on, of one pointer value with the provenance of this number; none where they aren't.
+    #[inline(always)]
+    fn pieces_number(&self, cells: &[Cell], origin: Origin, from: u64) -> Option<u64>
+        requires { from + 8 ≤ 2 ^ 47 }
+        ensures number { IfSome result (λ number. Some number ≡ number_if (range_in self.now cells.now from 8)) }
+        ensures pieces { IfSome result (λ number. acts.are_pieces (prov_numbered self.now.origins origin.number) 0 (range_in self.now cells.now from 8) ≡ true) }
+    {
+        let mut number: u64 = 0;
+        for step in 0..8u64 {
+            let index = 8 - (step + 1);
+            let cell = cell_at(cells, from + index);
+            if !self.is_piece(cell, origin, index) {
+                return None;
+            }
+            let Some(byte) = cell.value() else {
+                return None;
+            };
+            number = number * 256 + u64::from(byte);
+        }
+        Some(number)
     }
 
     fn pointer_in(&self, object: &Object, from: u64) -> Option<Origin>
@@ -509,18 +571,33 @@ pub(super) fn number_at(cells: &[Cell], from: u64, len: u64) -> Option<u64>
     Some(number)
 }
 
-/// Whether a byte of the range is a piece of a pointer.
+/// The little-endian number of a range of at most eight bytes, where all are written, and whether none of them is a piece of a pointer.
 #[inline(always)]
-fn any_piece(cells: &[Cell], from: u64, len: u64) -> bool
-    requires { from + len ≤ 2 ^ 47 }
-    ensures { result ≡ false → (m : Kept) → origins_of (range_in m cells.now from len) ≡ [] }
+fn seen_at(cells: &[Cell], from: u64, len: u64) -> (Option<u64>, bool)
+    requires range { from + len ≤ 2 ^ 47 }
+    requires short { len ≤ 8 }
+    ensures number { (m : Kept) → result.0 ≡ number_if (range_in m cells.now from len) }
+    ensures plain { result.1 ≡ true → (m : Kept) → origins_of (range_in m cells.now from len) ≡ [] }
 {
-    for offset in 0..len {
-        if is_pointer_piece(cell_at(cells, from + offset)) {
-            return true;
-        }
+    let mut number: u64 = 0;
+    let mut plain = true;
+    for step in 0..len {
+        let cell = cell_at(cells, from + (len - (step + 1)));
+        let Some(byte) = cell.value() else {
+            return (None, false);
+        };
+        let still = stays_plain(plain, cell);
+        plain = still;
+        number = number * 256 + u64::from(byte);
     }
-    false
+    (Some(number), plain)
+}
+
+#[inline(always)]
+fn stays_plain(plain: bool, cell: Cell) -> bool
+    ensures { result ≡ true → (plain ≡ true) × ((ps : List Prov) → origins_in (byte_in ps cell) ≡ []) }
+{
+    plain && !is_pointer_piece(cell)
 }
 
 #[inline(always)]
@@ -534,9 +611,9 @@ fn is_pointer_piece(cell: Cell) -> bool
     }
 }
 
-/// Whether a load of the type suits an object of this shape.
+/// Whether an access of the type suits an object of this shape.
 #[inline(always)]
-fn fits_shape(shape: &Shape, ty: &Ty, from: u64) -> bool
+pub(super) fn fits_shape(shape: &Shape, ty: &Ty, from: u64) -> bool
     ensures { result ≡ suits_form (type_of ty.now) (form_of shape.now) from }
 {
     if is_of_kind(shape, ty, from) {
@@ -545,7 +622,7 @@ fn fits_shape(shape: &Shape, ty: &Ty, from: u64) -> bool
     shape.suits(ty, from)
 }
 
-/// Whether the scalar that begins there is of that very integer type, as most are: the object, or one of its elements.
+/// Whether the scalar that begins there is of that very type, an integer type or a pointer to one, as most are: the object, or one of its elements.
 #[inline(always)]
 fn is_of_kind(shape: &Shape, ty: &Ty, from: u64) -> bool
     ensures { result ≡ true → suits_form (type_of ty.now) (form_of shape.now) from ≡ true }
@@ -576,6 +653,32 @@ fn is_same_kind(ty: &Ty, leaf: &Ty) -> bool
     match ty {
         Ty::Int(kind) => match leaf {
             Ty::Int(other) => kind == other,
+            _ => false,
+        },
+        Ty::Pointer(target) => match leaf {
+            Ty::Pointer(other) => are_alike(target.get(), other.get()),
+            _ => false,
+        },
+        _ => false,
+    }
+}
+
+/// Whether both are the same integer type with the same qualifier, so that pointers to them are compatible (6.7.6.1p2).
+#[inline(always)]
+#[tactic(auto, using(crate::proofs::AgreementLemmas::pointers_agree))]
+fn are_alike(target: &Qual, other: &Qual) -> bool
+    ensures { result ≡ true → agrees (pointer (qualified_of target.now).constant (qualified_of target.now).ty) (pointer (qualified_of other.now).constant (qualified_of other.now).ty) ≡ true }
+{
+    target.constant == other.constant && are_of_kind(&target.ty, &other.ty)
+}
+
+#[inline(always)]
+fn are_of_kind(ty: &Ty, other: &Ty) -> bool
+    ensures { result ≡ true → matches true (type_of ty.now) (type_of other.now) ≡ true }
+{
+    match ty {
+        Ty::Int(kind) => match other {
+            Ty::Int(found) => kind == found,
             _ => false,
         },
         _ => false,

@@ -20,6 +20,7 @@ ghost use Rattle.mem_spec.specs.Bytes.{low_bits, number_bytes, pointer_bytes};
 ghost use Rattle.prov_memory.specs.Stores.{Sees, IsShort, IsTypeOf, tagged_all, checked_store, writable};
 
 use super::access::Accessed;
+use super::load::fits_shape;
 use super::*;
 use crate::cell::{low_bits, number_cells, pointer_cells};
 use crate::{Block, MemFault, Via};
@@ -162,11 +163,11 @@ impl Memory {
     {
         if let Some(kind) = id.kind() {
             let ty = types::int_type(kind);
-            return shape.suits(&ty, from);
+            return fits_shape(shape, &ty, from);
         }
         match self.type_at(id.number.saturating_sub(types::FIRST) as usize) {
             None => true,
-            Some(ty) => shape.suits(ty, from),
+            Some(ty) => fits_shape(shape, ty, from),
         }
     }
 

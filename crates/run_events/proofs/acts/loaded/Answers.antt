@@ -15,3 +15,15 @@ returns-in-Integer-clause-changes c =
     let m = c.args.machine.now in
     subst (λ (a : Access). ChangesOnly m c.loaded_integer.new.machine c.args.event.node (act.Load a c.args.ty c.args.place.now)) (sym c.in-Integer.is)
     c.loaded_integer.ensures.changes
+
+pub returns-in-Pointer-clause-exact : goal.returns-in-Pointer-clause-exact
+returns-in-Pointer-clause-exact c = λ can given.
+    let m = c.args.machine.now in
+    subst (λ (a : Access). Does m c.loaded_pointer.new.machine c.args.event (act.Load a c.args.ty c.args.place.now) c.loaded_pointer.result)
+    (sym c.in-Pointer.is) (c.loaded_pointer.ensures.exact can given)
+
+pub returns-in-Pointer-clause-changes : goal.returns-in-Pointer-clause-changes
+returns-in-Pointer-clause-changes c =
+    let m = c.args.machine.now in
+    subst (λ (a : Access). ChangesOnly m c.loaded_pointer.new.machine c.args.event.node (act.Load a c.args.ty c.args.place.now)) (sym c.in-Pointer.is)
+    c.loaded_pointer.ensures.changes

@@ -28,23 +28,23 @@ pub returns-in_err-target-clause-raises : goal.returns-in_err-target-clause-rais
 returns-in_err-target-clause-raises c =
     let p = err_from_is_err_and c.from_residual-in_err-target.result c.from_residual-in_err-target.ensures.1 in
     rw (p.1, p.2) (unresolved c.in_err-target.field-0.0 c.args.self.now c.access.new.self c.in_ok-found.found (type_of c.args.ty.now) c.args.who c.args.align
-    c.args.addr c.args.prov (named_in c.access.new.self.origins c.pointer_of-pointer.result) c.in_ok-number.number c.access.ensures.same
-    c.in_ok-found.ensures.exact c.in_ok-found.ensures.found c.in_ok-number.ensures c.pointer_of-pointer.ensures c.in_err-target.ensures.raises)
+    c.args.addr c.args.prov (named_in c.access.new.self.origins c.pointer_seen-seen.result.1) c.in_ok-number.number c.access.ensures.same
+    c.in_ok-found.ensures.exact c.in_ok-found.ensures.found c.in_ok-number.ensures c.pointer_seen-seen.ensures.pointer c.in_err-target.ensures.raises)
 
 pub returns-clause-exact : goal.returns-clause-exact
 returns-clause-exact c =
     pointer_exact c.args.self.now c.access.new.self c.resolved.new.self c.settle.new.self c.in_ok-found.found (type_of c.args.ty.now) c.args.who c.args.align
-    c.args.addr c.args.prov c.in_ok-target.target (named_in c.access.new.self.origins c.pointer_of-pointer.result) c.in_ok-number.number c.access.new.t
+    c.args.addr c.args.prov c.in_ok-target.target (named_in c.access.new.self.origins c.pointer_seen-seen.result.1) c.in_ok-number.number c.access.new.t
     c.note_read.new.t c.resolved.new.t
     c.access.ensures.same c.in_ok-found.ensures.exact c.in_ok-found.ensures.found c.in_ok-found.ensures.settles
-    (c.in_ok-found.ensures.items c.clear.ensures) c.in_ok-number.ensures c.note_read.ensures c.pointer_of-pointer.ensures c.in_ok-target.ensures.exact
+    (c.in_ok-found.ensures.items c.clear.ensures) c.in_ok-number.ensures c.note_read.ensures c.pointer_seen-seen.ensures.pointer c.in_ok-target.ensures.exact
     c.in_ok-target.ensures.items c.resolved.ensures.more c.settle.ensures.rest c.settle.ensures.store
 
 pub returns-clause-value : goal.returns-clause-value
 returns-clause-value c =
     pointer_value c.args.self.now c.access.new.self c.resolved.new.self c.settle.new.self c.in_ok-found.found
-    (named_in c.access.new.self.origins c.pointer_of-pointer.result)
-    c.in_ok-target.target c.access.ensures.same c.in_ok-found.ensures.found c.pointer_of-pointer.ensures c.in_ok-target.ensures.value c.settle.ensures.rest
+    (named_in c.access.new.self.origins c.pointer_seen-seen.result.1)
+    c.in_ok-target.target c.access.ensures.same c.in_ok-found.ensures.found c.pointer_seen-seen.ensures.pointer c.in_ok-target.ensures.value c.settle.ensures.rest
     c.settle.ensures.cells
 
 pub returns-clause-made : goal.returns-clause-made
