@@ -1,5 +1,5 @@
 -- A frame that enters the block of its function's body has the arguments that are asked of it.
-use Rattle.std.proofs.Common.{◌≡◌, ℕ, suc, true, [], ◌∷◌, List, length, refl, subst, ◌∙◌}
+use Rattle.std.proofs.Common.{◌≡◌, ℕ, suc, true, [], ◌∷◌, List, refl, subst, ◌∙◌}
 use Rattle.ub_base.specs.declared.names.ObjName.{ObjName}
 use Rattle.addr_map.specs.declared.map.Row.{Row}
 use Rattle.addr_map.specs.Rows.{row_of}
