@@ -113,6 +113,7 @@ module _ (trees : TreesAreKept) (passed : PassedIsDone) (world : World) (meaning
     tables = record { places = o.stands.tables.places; vias = o.stands.tables.vias; fillings = o.stands.tables.fillings };
     frames = frames;
     depth = o.stands.depth;
+    result = o.stands.result;
   }
 
   stands_open : StandsOpen world meaning (moved_on old end there) st e
