@@ -1,0 +1,6 @@
+mod Steps
+mod Listed
+mod Along
+mod Control
+mod Enters
+mod Begins
