@@ -1,23 +1,21 @@
 -- The start of a run.
-use Rattle.std.proofs.Common.{◌≡◌, ◌×◌, ◌+◌, ◌<◌, ◌^◌, ◌≤◌, ℕ, arith, true, refl, sym, ap, subst, List, [], length, None, Some, Option}
+use Rattle.std.proofs.Common.{◌≡◌, ◌≤◌, ℕ, arith, true, refl, sym, ap, subst, List, [], length, map, None}
 use Rattle.std.specs.Prelude.{is_some}
-use Rattle.ub_base.specs.declared.clause.Cause.{Cause}
+use Rattle.std.specs.List.{All}
 use Rattle.ub_base.specs.Frames.{Path, Row as Started_frame}
-use Rattle.addr_map.specs.declared.map.Row.{Row}
 use Rattle.c_typed.specs.declared.program.Program.{Program}
 use Rattle.mem_spec.specs.Script.{Act, Done, Ended, Outside, Raised, Unplaced, run}
-use Rattle.c_model.specs.Runs.{Over, Running, State, limited, main_frame, nothing_stands, stand, start, started_run, within}
+use Rattle.c_model.specs.Runs.{Running, State, limited, created_after, main_frame, nothing_stands, stand, start, started_run, too_many}
 use Rattle.c_model.specs.Values.{Value}
-use Rattle.c_model.specs.World.{World, profile_limits}
-use Rattle.program_view.specs.View.{main_values, world_of}
+use Rattle.c_model.specs.World.{World}
+use Rattle.program_view.specs.View.{main_values}
 use Rattle.frame_numbers.specs.Numbers.{number_in}
 use Rattle.run_statements.specs.declared.numbers.Numbers.{Numbers}
 use Rattle.run_state.specs.declared.machine.Machine.{Machine}
 use Rattle.value_facts.specs.Held.{AreBytes, KeepsSmall}
-use Rattle.value_facts.specs.Sources.{StartsPlaced}
-use Rattle.value_facts.specs.Trees.{HasByteConstants, LawfulWorldsKeepSmall, MainIsPlaced}
+use Rattle.value_facts.specs.Sources.{IsPlaced, StartsPlaced}
 use Rattle.value_facts.specs.Unresulted.{StartsUnresulted}
-use Rattle.argument_laws.specs.Arguments.{StartsWithArguments}
+use Rattle.argument_laws.specs.Arguments.{RunsLawful, StartsWithArguments}
 use Rattle.pick_facts.specs.Held.{StartHoldsNone}
 use Rattle.run_facts.specs.Going.{IsGoing}
 use Rattle.canonical_laws.specs.Begins.{BeginsAlong, GoingIsAlong}
@@ -39,41 +37,54 @@ started_first world Unplaced vs st q = absurd (cc (q))
 
 start_first : (world : World) (input : List ℕ) (vs : List Value) (st : State) → start world input vs ≡ Running st → IsFirstState st
 start_first world input vs st q =
-    started_first world (run world.rows (stand world world.program.standing) (nothing_stands input)) vs st (through_running _ _ st q)
+    started_first world (run world.rows (stand world world.program.standing) (nothing_stands input)) vs st
+    (through_running (too_many world.limits (created_after 0 (map (λ o. o.decl) world.program.standing)))
+    (started_run world (run world.rows (stand world world.program.standing) (nothing_stands input)) vs) st q)
 
 -- the laws of starts
 pub record Starting : Type 0 where
-  pub worlds : LawfulWorldsKeepSmall
-  pub main : MainIsPlaced
   pub placed : StartsPlaced
   pub unresulted : StartsUnresulted
   pub arguments : StartsWithArguments
   pub held : StartHoldsNone
 
+module _ (laws : Starting) (world : World) (p : Program) (numbers : Numbers) (strings : List (List ℕ)) (input : List ℕ) (m : Machine) (st : State)
+    (small : KeepsSmall world) (placed : All (IsPlaced world) (main_values p world strings)) (bytes : AreBytes input)
+    (starts : start world input (main_values p world strings) ≡ Running st) (going : IsGoing world p numbers m st 0) where
+  first : IsFirstState st
+  first = start_first world input (main_values p world strings) st starts
+
+  none_held : length st.held ≡ 0
+  none_held = laws.held world input (main_values p world strings) st starts
+
+  few_held : length st.held ≤ 0
+  few_held = omega (arith, none_held)
+
+  lawful : RunsLawful world p
+  lawful = record {
+    lawful = going.set_up.whole.lawful;
+    main_block = going.set_up.whole.main;
+    functions = going.set_up.world.program.functions;
+    main = going.set_up.world.program.main;
+    agree = going.set_up.world.program.agree;
+    library = going.set_up.world.program.library;
+  }
+
+  begins : m.left ≡ None → BeginsAlong world p numbers m st
+  begins left = record {
+    along = record {
+      going = going;
+      small = small;
+      placed = laws.placed world input (main_values p world strings) st small bytes placed starts;
+      unresulted = laws.unresulted world input (main_values p world strings) st starts;
+      arguments = laws.arguments world p input strings st lawful starts;
+      idle = λ own. left;
+      held = few_held;
+    };
+    trace = first.trace;
+    listed = λ frames. subst (λ (z : Path). is_some (number_in frames z) ≡ true) (sym first.path) refl;
+  }
+
 pub going_along : Starting → GoingIsAlong
-going_along laws p numbers strings input m rows number st starts going left bytes input_bytes few =
-    let world = world_of p strings rows number profile_limits in
-    let set = going.set_up in
-    let small : KeepsSmall world = laws.worlds p strings rows number profile_limits set.whole.lawful bytes set.world.ends (omega arith) in
-    let first = start_first world input (main_values p world strings) st starts in
-    let none = laws.held world input (main_values p world strings) st starts in record {
-      along = record {
-        going = going;
-        small = small;
-        placed = laws.placed world input (main_values p world strings) st small input_bytes (laws.main p world strings set.world.ends few) starts;
-        unresulted = laws.unresulted world input (main_values p world strings) st starts;
-        arguments = laws.arguments world p input strings st
-            (record {
-              lawful = set.whole.lawful;
-              main_block = set.whole.main;
-              functions = set.world.program.functions;
-              main = set.world.program.main;
-              agree = set.world.program.agree;
-              library = set.world.program.library;
-            }) starts;
-        idle = λ own. left;
-        held = omega (arith, none);
-      };
-      trace = first.trace;
-      listed = λ frames. subst (λ (z : Path). is_some (number_in frames z) ≡ true) (sym first.path) refl;
-    }
+going_along laws world p numbers strings input m st small placed bytes starts going left =
+    begins laws world p numbers strings input m st small placed bytes starts going left

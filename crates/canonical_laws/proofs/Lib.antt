@@ -2,5 +2,4 @@ mod Steps
 mod Listed
 mod Along
 mod Control
-mod Enters
 mod Begins

@@ -7,10 +7,10 @@ ghost use Rattle.canonical_laws.specs.Begins.{GoingIsAlong};
 ghost use Rattle.canonical_laws.specs.Comes.{AlongComes};
 
 use argument_laws::law_arguments;
-use control_laws::law_control;
+use control_laws::{law_control, law_entered_arguments};
 use pick_facts::{law_event_asked, law_held, law_idle};
 use pick_laws::law_pick;
-use value_facts::{law_lawful_small, law_placed_values, law_unresulted};
+use value_facts::{law_placed_values, law_unresulted};
 
 /// What run_machine promises of a canonical pick comes, of each machine along a run, to the outcome of the definitions' step: the run goes on and the machine
 /// is along it again, its newest entry told by the pick's event and items; or it ends with its status and what was written, raises the clause, or passes the
@@ -23,17 +23,17 @@ pub fn law_along()
     law_held();
     law_idle();
     law_control();
+    law_entered_arguments();
     law_placed_values();
     law_unresulted();
     law_arguments();
 }
 
-/// A machine that is going at the start of a run is along it, where the constants of the program, the arguments of `main` and the input are bytes; nothing was
-/// done, and its frame is listed.
+/// A machine that is going at the start of a run is along it, where the world keeps values small, what `main` is called with is placed, and the input is bytes;
+/// nothing was done, and its frame is listed.
 pub fn law_begins()
     ensures { GoingIsAlong }
 {
-    law_lawful_small();
     law_placed_values();
     law_unresulted();
     law_arguments();

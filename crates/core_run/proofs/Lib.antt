@@ -1,3 +1,4 @@
 mod Counts
 mod Telling
+mod Told
 mod Canonical

@@ -1,6 +1,5 @@
 use Rattle.canonical_laws.proofs.Along.{along_comes}
 use Rattle.canonical_laws.proofs.Control.{control_may}
-use Rattle.canonical_laws.proofs.Enters.{enters_asked}
 use Rattle.canonical_laws.proofs.law_along.Goals as goal
 
 pub returns : goal.returns
@@ -11,7 +10,7 @@ returns c =
       libraries = c.law_pick.ensures.libraries;
       initializers = c.law_pick.ensures.initializers;
       calls = c.law_pick.ensures.calls;
-      may = control_may c.law_control.ensures (enters_asked c.law_arguments.ensures.count c.law_arguments.ensures.taken);
+      may = control_may c.law_control.ensures c.law_entered_arguments.ensures;
       asked = c.law_event_asked.ensures;
       held = c.law_held.ensures.keeps;
       step_idle = c.law_idle.ensures.steps;

@@ -4,8 +4,6 @@ use Rattle.canonical_laws.proofs.law_begins.Goals as goal
 pub returns : goal.returns
 returns c =
     going_along (record {
-      worlds = c.law_lawful_small.ensures.worlds;
-      main = c.law_lawful_small.ensures.main;
       placed = c.law_placed_values.ensures.starts;
       unresulted = c.law_unresulted.ensures.starts;
       arguments = c.law_arguments.ensures.starts;
