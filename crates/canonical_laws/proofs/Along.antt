@@ -133,9 +133,9 @@ module _ (laws : Laws) (world : World) (p : Program) (numbers : Numbers) (old ne
         c.0,
         c.1,
         record {
-          tells = tells_control g.0 c.0.trace g.1 c.2;
+          tells = tells_control g.0 c.0.trace g.1.0 c.2;
           along = along_at new c.0 Control c.1 c.3 (laws.step_idle world p numbers old new st n a.going a.unresulted a.idle x.keeps);
-          listed = goes_listed world (meaning_of p numbers old.code.now) old st c.0 a.going.stands g.2;
+          listed = goes_listed world (meaning_of p numbers old.code.now) old st c.0 a.going.stands g.1.1;
         },
       )
   by_control (Ok (pick.Step (Some status))) x is of c =

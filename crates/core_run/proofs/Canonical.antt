@@ -378,10 +378,12 @@ module _ (comes : AlongComes) (p : Program) (strings : List (List ℕ)) (input :
       let c = comes w p numbers old new d.st n (Err (halt.Raised event line clause)) d.along x (rows_of_both old new earlier frames rows number s) few in (
         d.first,
         d.starts,
-        c.0,
-        d.st.trace,
-        subst (λ (k : ℕ). canonical_after w k d.first ≡ Raises clause (c.0 ∷ d.st.trace)) (sym (plus_one n)) (one_more w n d.first d.st d.runs ∙ c.1),
-        d.told,
+        (
+          c.0,
+          d.st.trace,
+          subst (λ (k : ℕ). canonical_after w k d.first ≡ Raises clause (c.0 ∷ d.st.trace)) (sym (plus_one n)) (one_more w n d.first d.st d.runs ∙ c.1),
+          d.told,
+        ),
       ))
   ends_by (halt.Over cause number) ran x is =
       subst (λ (z : Ran). GoesOnAt p strings input numbers before heard new n frames (old.memory.rows ∷ earlier) (End z)) (sym is)
@@ -389,7 +391,7 @@ module _ (comes : AlongComes) (p : Program) (strings : List (List ℕ)) (input :
       let w = world_in p strings rows count in
       let d = at rows count (suits_same new.memory.rows (old.memory.rows ∷ earlier) frames rows count s) in
       let c = comes w p numbers old new d.st n (Err (halt.Over cause number)) d.along x (rows_of_both old new earlier frames rows count s) few in
-      (d.first, d.starts, one_more w n d.first d.st d.runs ∙ c, d.st, d.runs, d.told))
+      (d.first, d.starts, (one_more w n d.first d.st d.runs ∙ c, (d.st, d.runs, d.told))))
   ends_by halt.Unplaced ran x is = absurd is
   ends_by halt.NoMemory ran x is = absurd is
 
@@ -399,7 +401,7 @@ pub ends_here : (p : Program) (strings : List (List ℕ)) (input : List ℕ) (nu
     → EndsIn p strings input numbers before heard m.streams.output frames (m.memory.rows ∷ earlier) (OutOfSteps n)
 ends_here p strings input numbers before heard m n frames earlier at rows number s =
     let d = at rows number s in
-    (d.first, d.starts, d.st, d.runs, ap (λ (s : Store). s.output) d.along.going.stands.memory.store, d.told)
+    (d.first, d.starts, (d.st, d.runs, ap (λ (s : Store). s.output) d.along.going.stands.memory.store, d.told))
 
 -- ---- the next pick of a run
 pub goes_behind : (p : Program) (strings : List (List ℕ)) (input : List ℕ) (numbers : Numbers) (before heard : Option Heard) (m : Machine) (n : ℕ)

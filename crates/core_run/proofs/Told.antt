@@ -48,7 +48,7 @@ module _ (world : World) (before : Option Heard) where
   completions_note : (event : Event) (completed : Completed) → AreNotes (completions event completed)
   completions_note event completion.Nothing = tt
   completions_note event completion.Node = (tt, tt)
-  completions_note event (completion.Operands above) = (tt, tt, tt)
+  completions_note event (completion.Operands above) = (tt, (tt, tt))
 
   calls_told : (event : Option Event) (items : List Item) (notes : List Call) (go : Go) (old new : Option Heard) (e : Entry) (trace : List Entry)
       → AreNotes notes → Tells (picked event items ∷ notes) go old new → TellsEntry world event items e → ToldBy world before old trace
