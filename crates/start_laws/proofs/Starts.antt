@@ -117,6 +117,7 @@ first_kept world p m f is = record {
   });
   turn = omega (arith, is.top.turn);
   base = omega (arith, is.top.base);
+  lowest = λ none. is.top.base;
 }
 
 frames_kept : (world : World) (p : Program) (m : Machine) (st : State) → IsUnstarted p m
