@@ -1,21 +1,16 @@
--- A machine before its first pick, by what it was made of; and why there is none.
-use Rattle.std.proofs.Common.{◌≡◌, ◌≤◌, ◌∙◌, ℕ, refl, sym, ap, subst, List, [], length, map, None}
+-- A machine before its first pick, by what it was made of.
+use Rattle.std.proofs.Common.{◌≡◌, ◌≤◌, ◌∙◌, ℕ, sym, ap, subst, List, [], length, map, None}
 use Rattle.c_typed.specs.declared.program.Program.{Program}
 use Rattle.c_model.specs.Program.{Standing}
 use Rattle.c_model.specs.Runs.{created_after}
 use Rattle.mem_spec.specs.Store.{Store}
 use Rattle.prov_memory.specs.Memory.{Kept, empty, store_of}
-use Rattle.prov_memory.specs.declared.answer.CreateFault.{CreateFault}
-use Rattle.prov_memory.specs.declared.answer.CreateFault.TheVariants as fault
 use Rattle.run_acts.proofs.Counts.{start_counts}
 use Rattle.run_acts.proofs.Viewed.{as_viewed}
 use Rattle.run_code.specs.declared.whole.Code.{Code}
-use Rattle.run_state.specs.declared.halt.Halt.{Halt}
-use Rattle.run_state.specs.declared.halt.Halt.TheVariants as halt
 use Rattle.run_state.specs.declared.machine.Machine.{Machine}
 use Rattle.run_state.specs.declared.machine.Open.{Open}
 use Rattle.run_state.specs.Begins.{CountsAsDefined, IsFirst, IsUnstarted, SeesMain}
-use Rattle.run_state.specs.Faults.{halt_of}
 use Rattle.run_state.proofs.Beginning.{Parts}
 
 -- ---- the machine
@@ -51,8 +46,3 @@ counted old first p args input m nothing parts =
           ∙ ap (λ (xs : List Standing). created_after 0 (map (λ o. o.decl) xs)) (as_viewed p args os parts.started.1);
       streams = parts.streams;
     }
-
--- ---- its faults
-pub is_unplaced : (f : CreateFault) → halt_of f ≡ halt.Unplaced → f ≡ fault.Unplaced
-is_unplaced fault.Unplaced e = refl
-is_unplaced fault.NoMemory e = absurd (cc)

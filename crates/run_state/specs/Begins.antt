@@ -14,7 +14,7 @@ use Rattle.prov_memory.specs.declared.cell.Via.{Via}
 use Rattle.prov_memory.specs.declared.cell.Via.TheVariants as vias
 use Rattle.prov_memory.specs.declared.value.Value.{Value as Kept_value}
 use Rattle.prov_memory.specs.Cells.{type_numbered}
-use Rattle.prov_memory.specs.Keeps.{Keeps, RowsStay}
+use Rattle.prov_memory.specs.Keeps.{RowsStay}
 use Rattle.prov_memory.specs.Memory.{Kept, store_of}
 use Rattle.c_model.specs.Program.{Standing}
 use Rattle.c_model.specs.Values.{Value}
@@ -22,7 +22,6 @@ use Rattle.c_model.specs.World.{World, Limits}
 use Rattle.c_model.specs.Runs.{State, Running, start, created_after, too_many, limit_passed}
 use Rattle.program_view.specs.View.{main_values, standing_of}
 use Rattle.run_acts.specs.Kept.{IsOf}
-use Rattle.run_acts.specs.Outcomes.{HasNoPlace}
 use Rattle.run_acts.specs.Standing.{Stand, program_name}
 use Rattle.run_acts.specs.Viewed.{IsGiven}
 use Rattle.run_acts.specs.declared.initial.Places.{Places}
@@ -130,14 +129,6 @@ pub record IsUnstarted (p : Program) (m : Machine) : Type 0 where
 pub record CountsAsDefined (p : Program) (arguments : List (List ℕ)) (input : List ℕ) (m : Machine) : Type 0 where
   pub created : m.memory.created ≡ created_after 0 (map (λ o. o.decl) (standing_of p arguments))
   pub streams : m.streams ≡ record { input = input; position = 0; output = silent }
-
--- Of the objects that stand before the first pick the first ones were created in this memory, and the next one has no place there (own).
-abbrev pub SomeHasNoPlace : Kept → Program → (strings : List (List ℕ)) → Type 0
-SomeHasNoPlace m p strings = (after : Kept) × Keeps m after × HasNoPlace m after p strings
-
--- the objects that stand before the first pick count so many bytes at most (own)
-abbrev pub CountWithin : Program → (strings : List (List ℕ)) → ℕ → Type 0
-CountWithin p strings n = (os : List Standing) → Stand p strings os → created_after 0 (map (λ o. o.decl) os) ≤ n
 
 -- the body of `main` is to be done
 abbrev pub StartsMain : Code → Program → Stacked → Type 0

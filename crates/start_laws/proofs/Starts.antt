@@ -1,5 +1,5 @@
 -- The machine of a lawful program before its first pick is going.
-use Rattle.std.proofs.Common.{arith, ◌≡◌, ◌≤◌, ◌<◌, ◌+◌, ◌∙◌, ◌^◌, ℕ, Bool, true, false, List, [], ◌∷◌, map, reverse, Option, Some, None, nat_lt}
+use Rattle.std.proofs.Common.{arith, ◌≡◌, ◌≤◌, ◌<◌, ◌∙◌, ◌^◌, ℕ, Bool, true, false, List, [], ◌∷◌, map, reverse, Option, Some, None, nat_lt}
 use Rattle.std.proofs.Common.{refl, sym, ap, subst}
 use Rattle.std.proofs.lemmas.Bool.Decides.{nat_tests}
 use Rattle.std.specs.Prelude.{if◌then◌else◌}
@@ -32,7 +32,7 @@ use Rattle.frame_laws.specs.Named.{LawfulIsScoped, MainIsDefined}
 use Rattle.frame_laws.specs.Reached.{StartsReached}
 use Rattle.code_view.specs.Laws.{LawfulCodeStands}
 use Rattle.code_view.specs.Numbering.{meaning_of}
-use Rattle.run_facts.specs.Frames.{IsOneOf, KeepFrames, KeepsBegun, KeepsFrame, Sees, function_of}
+use Rattle.run_facts.specs.Frames.{IsOneOf, KeepFrames, KeepsBegun, KeepsFrame, Sees, SeesFunction, function_of}
 use Rattle.run_facts.specs.Going.{locals_of}
 use Rattle.run_facts.specs.SetUp.{IsProfile, IsSetUp}
 use Rattle.start_laws.specs.Starts.{IsMadeReady, StartsGoing, StartsOver}
@@ -56,7 +56,11 @@ many limits is n more =
 
 none_passed : (limits : Limits) (depth : ℕ) (s : Store) → nat_lt limits.depth depth ≡ false → nat_lt limits.created s.created ≡ false
     → nat_lt limits.output (total s.output) ≡ false → limit_passed limits depth s ≡ None
-none_passed limits depth s deep created output = rw (deep, created, output) refl
+none_passed limits depth s deep created output =
+    let past : Option (Cause × ℕ) = if nat_lt limits.output (total s.output) then Some (cause.Output, total s.output) else None in
+    let more : Option (Cause × ℕ) = if nat_lt limits.created s.created then Some (cause.Created, s.created) else past in
+    ap (λ (a : Bool). if a then Some (cause.Depth, depth) else more) deep ∙ ap (λ (a : Bool). if a then Some (cause.Created, s.created) else past) created
+    ∙ ap (λ (a : Bool). if a then Some (cause.Output, total s.output) else None) output
 
 start_within : (p : Program) (arguments : List (List ℕ)) (input : List ℕ) (m : Machine) (limits : Limits) (count : ℕ) → IsProfile limits
     → IsMadeReady p arguments input m → count ≡ created_after 0 (map (λ o. o.decl) (standing_of p arguments)) → count ≤ 2 ^ 26
@@ -84,37 +88,40 @@ starts_in : LawfulCodeStands → (p : Program) (numbers : Numbers) (arguments : 
     (number : Path → ℕ) (limits : Limits) → IsSetUp (world_of p arguments rows number limits) p numbers m.code.now m.jumps
     → (ready : IsMadeReady p arguments input m) → RowsStay m.memory.rows rows → number [] ≡ 0
     → StartsIn p arguments rows number limits numbers input m ready.prepared.begins.0
-starts_in code p numbers arguments input m rows number limits set ready stay zero within =
+starts_in code p numbers arguments input m rows number limits held ready stay zero bounded =
     let made = ready.prepared in
     let os = made.begins.0 in
     let world = world_with p arguments os rows number limits in
     let program : StandsProgram world p = record { functions = refl; main = refl; agree = refl; library = refl } in
-    made.begins.2 rows number limits (meaning_of p numbers m.code.now) (main_values p world arguments) stay zero within
-    (code p numbers m.code.now world set.whole.lawful set.code.code_of program) set.code.listed (made.given os rows number limits stay)
+    made.begins.2 rows number limits (meaning_of p numbers m.code.now) (main_values p world arguments) stay zero bounded
+    (code p numbers m.code.now world held.whole.lawful held.code.code_of program) held.code.listed (made.given os rows number limits stay)
 
 starts_as : StandsAsViewed → LawfulCodeStands → (p : Program) (numbers : Numbers) (arguments : List (List ℕ)) (input : List ℕ) (m : Machine) (rows : List Row)
     (number : Path → ℕ) (limits : Limits) → IsSetUp (world_of p arguments rows number limits) p numbers m.code.now m.jumps
     → IsMadeReady p arguments input m → RowsStay m.memory.rows rows → number [] ≡ 0 → StartIsWithin limits (standing_of p arguments) m
     → StartsAs (world_of p arguments rows number limits) (meaning_of p numbers m.code.now) input
     (main_values p (world_of p arguments rows number limits) arguments) m
-starts_as viewed code p numbers arguments input m rows number limits set ready stay zero =
+starts_as viewed code p numbers arguments input m rows number limits held ready stay zero =
     let os = ready.prepared.begins.0 in
     subst (StartsIn p arguments rows number limits numbers input m) (viewed p arguments os ready.prepared.begins.1)
-    (starts_in code p numbers arguments input m rows number limits set ready stay zero)
+    (starts_in code p numbers arguments input m rows number limits held ready stay zero)
 
 -- ---- the first frame
+sees_main : (p : Program) (m : Machine) → IsUnstarted p m → SeesFunction m m.top p.main
+sees_main p m is = record {
+  code = is.sees.main;
+  at = is.sees.at;
+  blocks = is.sees.blocks;
+  expressions = is.sees.expressions;
+  above = omega (arith, is.sees.above, is.top.locals);
+  places = is.places;
+  own = subst (λ (s : Option Stage). IsOneOf is.sees.main.expressions s) (sym is.top.stage) tt;
+}
+
 first_kept : (world : World) (p : Program) (m : Machine) (f : Local) → IsUnstarted p m → KeepsFrame world m m.top [] f 0
 first_kept world p m f is = record {
   begun = subst (λ (s : Option Stage). KeepsBegun world m 0 m.top s f.scene f.begun) (sym is.top.stage) tt;
-  sees = subst (λ (g : Option ℕ). Sees m m.top (function_of g [])) (sym is.top.function) (record {
-    code = is.sees.main;
-    at = is.sees.at;
-    blocks = is.sees.blocks;
-    expressions = is.sees.expressions;
-    above = omega (arith, is.sees.above, is.top.locals);
-    places = is.places;
-    own = subst (λ (s : Option Stage). IsOneOf is.sees.main.expressions s) (sym is.top.stage) tt;
-  });
+  sees = subst (λ (g : Option ℕ). Sees m m.top (function_of g [])) (sym is.top.function) (sees_main p m is);
   turn = omega (arith, is.top.turn);
   base = omega (arith, is.top.base);
   lowest = λ none. is.top.base;
@@ -129,21 +136,21 @@ frames_kept world p m st is =
 module _ (viewed : StandsAsViewed) (stands : ViewStands) (code : LawfulCodeStands) (scoped : LawfulIsScoped) (main : MainIsDefined)
     (ordered : StartsOrdered) (reached : StartsReached) (kept : StartsWithin) where
   pub starts_going : StartsGoing
-  starts_going p numbers arguments input m rows number limits count set ready stay zero counts few =
+  starts_going p numbers arguments input m rows number limits count held ready stay zero counts few =
       let world = world_of p arguments rows number limits in
       let vs = main_values p world arguments in
       let same = counts (standing_of p arguments) (stands p arguments) in
-      let within = start_within p arguments input m limits count set.world.limits ready same few in
-      let started = starts_as viewed code p numbers arguments input m rows number limits set ready stay zero within in
+      let bounded = start_within p arguments input m limits count held.world.limits ready same few in
+      let started = starts_as viewed code p numbers arguments input m rows number limits held ready stay zero bounded in
       let st = started.0 in (
         st,
         started.1,
         record {
           program = ready.unstarted.program;
-          set_up = set;
+          set_up = held;
           stands = started.2;
           within = kept world input vs st started.1;
-          ordered = ordered world input vs st (scoped p world set.whole.lawful refl) (main p world refl refl set.whole.main) started.1;
+          ordered = ordered world input vs st (scoped p world held.whole.lawful refl) (main p world refl refl held.whole.main) started.1;
           reached = reached world input vs st started.1;
           frames = frames_kept world p m st ready.unstarted;
           few = omega arith;
