@@ -28,6 +28,7 @@ use Rattle.c_typed.specs.Lawful.{
   SwitchIsLawful,
   ExpressionIsLawful,
   StaticIsLawful,
+  AreBytes,
   HasBytes,
   IsComplete,
 }
@@ -77,6 +78,7 @@ least_is_lawful p f b fs ss ls ts m sig lib bod ex su h = record {
   }) (All-nil _));
   library = subst (All IsExternal) (sym fs) (All-cons IsExternal f [] (subst (Where (λ (l : LibFunc). f.body ≡ None)) (sym lib) tt) (All-nil _));
   literals = subst (All HasBytes) (sym ls) (All-nil _);
+  bytes = subst (All AreBytes) (sym ls) (All-nil _);
   complete = subst (All (IsComplete p.tags)) (sym ss) (All-nil _);
   statics = subst (All (StaticIsLawful p)) (sym ss) (All-nil _);
   numbered = record {

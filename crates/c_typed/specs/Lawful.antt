@@ -528,9 +528,14 @@ AddressIsLawful p (target.Static number) offset =
 AddressIsLawful p (target.Literal number) offset = There (slice_get p.literals number) (λ bytes. offset ≤ length bytes)
 AddressIsLawful p (target.Function number) offset = There (slice_get p.functions number) (λ f. CanBeCalled f × (offset ≡ 0))
 
+-- a byte of an object (5.2.4.2.1p1)
+abbrev pub AreBytes : List ℕ → Type 0
+AreBytes = All (λ n. n < 256)
+
 abbrev pub ContentIsLawful : Program → Content → Type 0
 ContentIsLawful p (content.Address target offset) = AddressIsLawful p target offset
-ContentIsLawful p _ = Unit {0}
+ContentIsLawful p (content.Bytes bs) = AreBytes bs
+ContentIsLawful p (content.Zeros count) = Unit {0}
 
 -- one expression for the whole object, or a list of parts of it, each inside it and none over another, whose addresses are lawful (6.7.9p11,
 -- 6.7.9p13, 6.7.9p14, 6.7.9p16)
@@ -762,6 +767,9 @@ HasBytes bytes = 0 < length bytes
 abbrev pub LiteralsHaveBytes : Program → Type 0
 LiteralsHaveBytes p = All HasBytes p.literals
 
+abbrev pub LiteralsAreBytes : Program → Type 0
+LiteralsAreBytes p = All AreBytes p.literals
+
 -- each object with static storage has a complete type
 abbrev pub StaticsAreComplete : Program → Type 0
 StaticsAreComplete p = All (IsComplete p.tags) p.statics
@@ -779,6 +787,7 @@ pub record IsLawful (p : Program) : Type 0 where
   pub functions : All (FunctionIsLawful p) p.functions
   pub library : LibraryIsExternal p
   pub literals : LiteralsHaveBytes p
+  pub bytes : LiteralsAreBytes p
   pub complete : StaticsAreComplete p
   pub statics : All (StaticIsLawful p) p.statics
   pub numbered : IsNumbered p

@@ -12,6 +12,7 @@ use Rattle.c_typed.specs.Lawful.{
   There,
   IsSized,
   IsComplete,
+  AreBytes,
   ContentIsLawful,
   ContentSuits,
   PartsFit,
@@ -54,15 +55,16 @@ complete p ss h i d lt = let s = h i d lt in there_some (extent (extents p.tags)
 
 pub program_lawful : (p : Program) (fs : List Function) (ls : List (List ℕ)) (ss : List Static) → HasMain p → MainHasType p → IsNumbered p →
     fs ≡ p.functions → ls ≡ p.literals → ss ≡ p.statics →
-    All IsExternal fs → All HasBytes ls → All (StaticIsLawful p) ss → All (FunctionIsLawful p) fs → IsLawful p
-program_lawful p fs ls ss main main_type numbered f l s external bytes statics functions =
+    All IsExternal fs → All HasBytes ls → All AreBytes ls → All (StaticIsLawful p) ss → All (FunctionIsLawful p) fs → IsLawful p
+program_lawful p fs ls ss main main_type numbered f l s external some bytes statics functions =
     let objects = subst (All (StaticIsLawful p)) s statics in
     record {
       main = main;
       main_type = main_type;
       functions = subst (All (FunctionIsLawful p)) f functions;
       library = subst (All IsExternal) f external;
-      literals = subst (All HasBytes) l bytes;
+      literals = subst (All HasBytes) l some;
+      bytes = subst (All AreBytes) l bytes;
       complete = complete p p.statics objects;
       statics = objects;
       numbered = numbered;

@@ -1,12 +1,13 @@
 // The whole program (5.1.2.2.1, 6.4.5, 6.9).
 ghost use Rattle.std.specs.Prelude.{IsTrue, IfOk};
 ghost use Rattle.std.specs.List.{All};
-ghost use Rattle.c_typed.specs.Lawful.{HasMain, MainHasType, IsExternal, HasBytes, IsNumbered, FunctionIsLawful, StaticIsLawful, IsLawful};
+ghost use Rattle.c_typed.specs.Lawful.{AreBytes, HasMain, MainHasType, IsExternal, HasBytes, IsNumbered, FunctionIsLawful, StaticIsLawful, IsLawful};
 
 use crate::startup::is_main_type;
 use crate::statics::is_lawful_static;
 use c_typed::{Function, Program, Static};
 use lawful_bodies::is_lawful_function;
+use lawful_trees::are_bytes;
 use std::alloc::Global;
 use ub_base::{Bytes, NoMemory};
 
@@ -39,7 +40,8 @@ fn are_external(functions: &[Function]) -> bool
 }
 
 fn have_bytes(literals: &[Bytes]) -> bool
-    ensures { IsTrue result → All HasBytes literals.now }
+    ensures some { IsTrue result → All HasBytes literals.now }
+    ensures bytes { IsTrue result → All AreBytes literals.now }
 {
     for literal in literals {
         if !has_bytes(literal) {
@@ -51,9 +53,12 @@ fn have_bytes(literals: &[Bytes]) -> bool
 
 // A string literal has its closing zero at least (6.4.5p6).
 fn has_bytes(literal: &Bytes) -> bool
-    ensures { IsTrue result → HasBytes literal.now }
+    ensures some { IsTrue result → HasBytes literal.now }
+    ensures bytes { AreBytes literal.now }
 {
-    0 < literal.len()
+    let bytes = literal.as_slice();
+    are_bytes(bytes);
+    !bytes.is_empty()
 }
 
 fn are_lawful_functions(

@@ -2,7 +2,7 @@
 ghost use Rattle.std.specs.Prelude.{IsTrue};
 ghost use Rattle.std.specs.List.{All};
 ghost use Rattle.c_typed.specs.declared.tree.Target.TheVariants as to;
-ghost use Rattle.c_typed.specs.Lawful.{AddressIsLawful, ContentIsLawful};
+ghost use Rattle.c_typed.specs.Lawful.{AddressIsLawful, AreBytes, ContentIsLawful};
 
 use crate::names::can_be_called;
 use c_typed::{Constant, Content, Program, Target};
@@ -46,12 +46,21 @@ fn is_lawful_address(program: &Program, target: Target, offset: u64) -> bool
     }
 }
 
+/// A slice of bytes has no others: its type says so.
+pub fn are_bytes(bytes: &[u8])
+    ensures { AreBytes bytes.now }
+{}
+
 // Whether an address that it may be is lawful.
 fn is_lawful_content(program: &Program, content: &Content) -> bool
     ensures { IsTrue result → ContentIsLawful program.now content.now }
 {
     match content {
-        Content::Zeros(_) | Content::Bytes(_) => true,
+        Content::Zeros(_) => true,
+        Content::Bytes(bytes) => {
+            are_bytes(bytes.as_slice());
+            true
+        }
         Content::Address { target, offset } => is_lawful_address(program, *target, *offset),
     }
 }

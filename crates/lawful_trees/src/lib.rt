@@ -13,7 +13,7 @@ mod place;
 mod plain;
 mod types;
 
-pub use addresses::are_lawful_contents;
+pub use addresses::{are_bytes, are_lawful_contents};
 pub use expression::is_lawful_expression;
 pub use parts::parts_fit;
 pub use place::{Around, Purpose};
