@@ -1,7 +1,7 @@
 mod Viewed
 mod Full
 mod Own
-mod Listed
+pub mod Listed
 mod Sited
 mod Whole
 mod Formed

@@ -3,6 +3,7 @@
 //! A law function takes nothing and answers nothing: its contract is a law about the definitions.
 #![tactic(auto)]
 
+ghost use Rattle.start_laws.specs.Bytes.{LawfulHasBytes};
 ghost use Rattle.start_laws.specs.Starts.{StartsGoing, StartsOver};
 
 use code_view::law_code;
@@ -24,3 +25,8 @@ pub fn law_start()
     law_reached();
     law_within();
 }
+
+/// The constants and the literals of a lawful program are bytes; so all that a run of it begins with is small, where its arguments are bytes (6.4.5, 6.7.9).
+pub fn law_bytes()
+    ensures { LawfulHasBytes }
+{}
