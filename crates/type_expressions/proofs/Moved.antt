@@ -22,7 +22,7 @@ names_tell n t off before old new env e h =
     let P : State → Type 0 = λ s. Tells n t off before s (known_by n.objects t s env) in
     subst P (sym e) (record {
       known = refl;
-      tags = h.tags;
+      tags = ((h.tags).0, record { rows = ((h.tags).1).rows; noted = ((h.tags).1).noted; none = ((h.tags).1).none });
       distinct = h.distinct;
       objects = h.objects;
       evaluated = h.evaluated;
@@ -50,7 +50,7 @@ enumerations_tell n t off before old new env e h =
     let P : State → Type 0 = λ s. Tells n t off before s (known_by n.objects t s env) in
     subst P (sym e) (record {
       known = refl;
-      tags = h.tags;
+      tags = ((h.tags).0, record { rows = ((h.tags).1).rows; noted = ((h.tags).1).noted; none = ((h.tags).1).none });
       distinct = h.distinct;
       objects = h.objects;
       evaluated = h.evaluated;
@@ -64,7 +64,7 @@ completed_tell n t off before old new env e h =
     let P : State → Type 0 = λ s. Tells n t off before s (known_by n.objects t s env) in
     subst P (sym e) (record {
       known = refl;
-      tags = h.tags;
+      tags = ((h.tags).0, record { rows = ((h.tags).1).rows; noted = ((h.tags).1).noted; none = ((h.tags).1).none });
       distinct = h.distinct;
       objects = h.objects;
       evaluated = h.evaluated;

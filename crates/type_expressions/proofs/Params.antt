@@ -12,10 +12,11 @@ use Rattle.c_grammar.specs.Grammar.{name_of}
 use Rattle.c_types.specs.Types.{Params, none, more, params_of, Qualified, qualified_of}
 use Rattle.c_types.specs.declared.ty.Qual.{Qual}
 use Rattle.typing_env.specs.Env.{Env, Typing, Use, and_then, ◌>>=◌, pure}
-use Rattle.typing_words.specs.Words.{Words, is_lone_void, parameter}
+use Rattle.typing_words.specs.Words.{Words, Derivation, is_lone_void, parameter}
 use Rattle.type_declarators.specs.Keywords.{IsSaid}
-use Rattle.typing_spec.specs.Expressions.{Specified, specified, declared, derived_type, parameters, is_last, says_void}
+use Rattle.typing_spec.specs.Expressions.{Specified, specified, declared, derivations, derived_type, parameters, is_last, says_void}
 use Rattle.type_scope.specs.declared.fault.TypeFault.{TypeFault}
+use Rattle.type_scope.specs.declared.fault.TypeFault.TheVariants.{NoMemory}
 use Rattle.type_scope.specs.declared.state.State.{State}
 use Rattle.type_declarators.specs.declared.declarator.Declared as held_declared
 use Rattle.type_declarators.specs.declared.words.Words as held_words
@@ -42,17 +43,38 @@ flat : {B : Type 0} (o : Option (Specified × Env)) (f : Specified → Typing Qu
 flat None f g = refl
 flat (Some x) f g = flat_in (x.0).words (f x.0 x.1) g
 
+assoc : {B : Type 0} (o : Option (List Derivation × Env)) (f : List Derivation → Typing Qualified) (g : Qualified → Typing B)
+    → and_then o (λ ds. f ds >>= g) ≡ and_then (and_then o f) g
+assoc None f g = refl
+assoc (Some x) f g = refl
+
+-- a declarator by its parts, and what is read then
+regroup : (p : Param) (k : Specified → Qualified → Typing Params) (o : Option (Specified × Env))
+    → and_then o (λ s. derivations p.declarator >>= λ ds. derived_type s.qual ds >>= k s) ≡ and_then o (λ s. declared s.qual p.declarator >>= k s)
+unfolding declared
+regroup p k None = refl
+regroup p k (Some x) = assoc (derivations p.declarator x.1) (λ ds. derived_type (x.0).qual ds) (k x.0)
+
+-- the keywords and the type, and what is made of them
+abbrev raw : Param → (Specified → Typing Params) → Env → Option (Params × Env)
+raw p k env =
+    and_then (specified p.specs.words p.specs.base false env)
+    (λ s. derivations p.declarator >>= λ ds. derived_type s.qual ds >>= λ q. k (specifying s.words q))
+
+raw_is : (p : Param) (k : Specified → Typing Params) (env : Env) → raw p k env ≡ and_then (parameter_in p env) k
+raw_is p k env =
+    regroup p (λ s q. k (specifying s.words q)) (specified p.specs.words p.specs.base false env)
+    ∙ sym (flat (specified p.specs.words p.specs.base false env) (λ s. declared s.qual p.declarator) k)
+
 row_read : (variadic : Bool) (index : ℕ) (ps : List Param) (env : Env)
     → parameters variadic index (hidden-the_row-Param-4 ps) env ≡ parameters_of variadic index ps env
-unfolding parameters declared hidden-the_row-Param-4 hidden
+unfolding parameters hidden-the_row-Param-4 hidden
 row_read variadic index [] env = refl
 row_read variadic index (p ∷ ps) env =
-    ap (λ (rest : Typing Params). and_then (specified p.specs.words p.specs.base false env) (λ s. declared s.qual p.declarator >>= λ q.
-    with_parameter variadic index (is_last (hidden-the_row-Param-4 ps)) p rest (specifying s.words q))) (fun_ext (row_read variadic (index + 1) ps))
-    ∙ ap (λ (b : Bool). and_then (specified p.specs.words p.specs.base false env) (λ s. declared s.qual p.declarator >>= λ q.
-    with_parameter variadic index b p (parameters_of variadic (index + 1) ps) (specifying s.words q))) (row_last ps)
-    ∙ sym (flat (specified p.specs.words p.specs.base false env) (λ s. declared s.qual p.declarator)
-    (with_parameter variadic index (none_left ps) p (parameters_of variadic (index + 1) ps)))
+    ap (λ (rest : Typing Params). raw p (with_parameter variadic index (is_last (hidden-the_row-Param-4 ps)) p rest) env)
+    (fun_ext (row_read variadic (index + 1) ps))
+    ∙ ap (λ (b : Bool). raw p (with_parameter variadic index b p (parameters_of variadic (index + 1) ps)) env) (row_last ps)
+    ∙ raw_is p (with_parameter variadic index (none_left ps) p (parameters_of variadic (index + 1) ps)) env
 
 pub row_is : (variadic : Bool) (index : ℕ) (ps : List Param) → parameters variadic index (hidden-the_row-Param-4 ps) ≡ parameters_of variadic index ps
 row_is variadic index ps = fun_ext (row_read variadic index ps)
@@ -249,8 +271,7 @@ next_stands t variadic old mid later new all i m qs extended p h found lone is q
 pub next_none : {A : Type 0} (view : A → Params) (t : TokenText) (variadic : Bool) (old mid later new : State) (all : List Param) (i : ℕ) (qs : List Qual) (p : Param)
     (x : TypeFault)
     → i < length all → p ≡ get_or all i p → StandsAt t variadic old mid all i qs
-    → ((n : Namings) (off : Bool) (before : List Use) (env : Env) → Tells n t off before mid env
-    → FollowsSo {held_words.Words × held_declared.Declared} IsParameter (Tells n t off before later) (parameter_in p env) (Err x))
+    → ((n : Namings) (off : Bool) (before : List Use) (env : Env) → Tells n t off before mid env → x ≢ NoMemory → parameter_in p env ≡ None)
     → ReadsAs (λ _. view) t old new (λ _. parameters_of variadic 0 all) (Err x)
 next_none view t variadic old mid later new all i qs p x below at s read = λ n off before env tells other.
     let g = s.read n off before env tells in

@@ -1,5 +1,5 @@
 -- Specifiers, as the definition reads them (6.7, 6.7.2).
-use Rattle.std.proofs.Common.{◌≡◌, ◌∙◌, refl, sym, ap, subst, ℕ, Bool, true, false, List, [], ◌∷◌}
+use Rattle.std.proofs.Common.{◌≡◌, ◌∙◌, refl, sym, ap, subst, ℕ, Bool, true, false, List, [], ◌∷◌, arith, nat_tests}
 use Rattle.std.specs.Prelude.{◌≢◌, ◌&&◌, ◌||◌, ◌==◌, if◌then◌else◌, length, Option, Some, None, Result, Ok, Err}
 use Rattle.std.proofs.lemmas.Option.{none-some}
 use Rattle.c_lex.specs.TokenText.{TokenText}
@@ -238,4 +238,4 @@ enumeration_is_plain base tag all is h = plain_enumeration tag all (let P : Base
 -- no keyword
 pub is_no_words : (words : List Word) → (length words == 0) ≡ is_no_word words
 is_no_words [] = refl
-is_no_words (w ∷ ws) = refl
+is_no_words (w ∷ ws) = grind (arith, nat_tests)

@@ -54,7 +54,7 @@ pub object_tells : (n : Namings) (t : TokenText) (off : Bool) (before : List Use
 object_tells n t off before u old new env e h rows uses =
     let K : State → Type 0 = λ s. IsKnown n.objects t s env in
     let C : State → Type 0 = λ s. Notes t s in
-    use_tells n t off before u old new env h (subst K (sym e) h.known) (subst C (sym e) h.tags) (rows env h.objects)
+    use_tells n t off before u old new env h (subst K (sym e) h.known) (subst C (sym e) ((h.tags).0, record { rows = ((h.tags).1).rows; noted = ((h.tags).1).noted; none = ((h.tags).1).none })) (rows env h.objects)
     (ap (λ (s : State). s.unevaluated) e) (uses h.distinct)
 
 pub function_tells : (n : Namings) (t : TokenText) (off : Bool) (before : List Use) (u : Use) (old new : State) (env : Env)
@@ -64,7 +64,7 @@ pub function_tells : (n : Namings) (t : TokenText) (off : Bool) (before : List U
 function_tells n t off before u old new env e h known uses =
     let C : State → Type 0 = λ s. Notes t s in
     let O : State → Type 0 = λ s. HasObjects n.objects s env in
-    use_tells n t off before u old new env h (h.known ∙ sym known) (subst C (sym e) h.tags) (subst O (sym e) h.objects)
+    use_tells n t off before u old new env h (h.known ∙ sym known) (subst C (sym e) ((h.tags).0, record { rows = ((h.tags).1).rows; noted = ((h.tags).1).noted; none = ((h.tags).1).none })) (subst O (sym e) h.objects)
     (ap (λ (s : State). s.unevaluated) e) uses
 
 pub unused_tells : (n : Namings) (t : TokenText) (off : Bool) (before : List Use) (s : State) (env : Env)
@@ -85,7 +85,7 @@ suspended n t off before old new env e h =
     let P : State → Type 0 = λ s. Tells n t true (noted off before env.uses) s env in
     subst P (sym e) (record {
       known = h.known;
-      tags = h.tags;
+      tags = ((h.tags).0, record { rows = ((h.tags).1).rows; noted = ((h.tags).1).noted; none = ((h.tags).1).none });
       distinct = h.distinct;
       objects = h.objects;
       evaluated = refl;
@@ -99,7 +99,7 @@ resumed n t off before old mid new was env here e is h k =
     let P : State → Type 0 = λ s. Tells n t off before s (record here { uses = env.uses }) in
     subst P (sym e) (record {
       known = ap (λ (x : Env). record x { uses = env.uses }) k.known;
-      tags = k.tags;
+      tags = ((k.tags).0, record { rows = ((k.tags).1).rows; noted = ((k.tags).1).noted; none = ((k.tags).1).none });
       distinct = k.distinct;
       objects = k.objects;
       evaluated = is ∙ h.evaluated;
@@ -114,7 +114,7 @@ forgotten n t off before mid new env e h =
     let P : State → Type 0 = λ s. Tells n t off before s env in
     subst P (sym e) (record {
       known = h.known;
-      tags = h.tags;
+      tags = ((h.tags).0, record { rows = ((h.tags).1).rows; noted = ((h.tags).1).noted; none = ((h.tags).1).none });
       distinct = h.distinct;
       objects = h.objects;
       evaluated = h.evaluated;

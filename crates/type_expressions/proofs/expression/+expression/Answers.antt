@@ -309,3 +309,81 @@ cast-returns t c at e plain =
 
 pub expressions-loop-e-init : goal.expressions-loop-e-init
 expressions-loop-e-init t c plain = first_stands c.args.source.now c.args.state.now c.args.all.now c.new-operands.result.items c.new-operands.ensures plain
+
+-- 2. Lists of operands.
+
+pub expressions-loop-e-preserved : goal.expressions-loop-e-preserved
+expressions-loop-e-preserved t c plain =
+    next_stands c.args.source.now c.args.state.now c.loop-e.state c.expression-operand.new.state c.args.all.now c.loop-e.e-index c.loop-e.operands.items
+    c.push.new.self.items c.loop-e.e c.in_ok-operand.operand c.loop-e-test.true refl (c.loop-e.invariant plain)
+    (c.in_ok-operand.ensures (next_is_plain c.args.source.now c.args.state.now c.loop-e.state c.args.all.now c.loop-e.e-index c.loop-e.operands.items c.loop-e.e
+    c.loop-e-test.true refl (c.loop-e.invariant plain))) c.in_ok-push.ensures
+
+pub expressions-returns-in_err-operand : goal.expressions-returns-in_err-operand
+expressions-returns-in_err-operand t c plain =
+    next_none (λ n v. map (operand_seen n) v.items) c.args.source.now c.args.state.now c.loop-e.state c.expression-operand.new.state
+    c.expression-operand.new.state c.args.all.now c.loop-e.e-index c.loop-e.operands.items c.loop-e.e _ c.loop-e-test.true refl (c.loop-e.invariant plain)
+    (c.in_err-operand.ensures (next_is_plain c.args.source.now c.args.state.now c.loop-e.state c.args.all.now c.loop-e.e-index c.loop-e.operands.items c.loop-e.e
+    c.loop-e-test.true refl (c.loop-e.invariant plain)))
+
+pub expressions-returns : goal.expressions-returns
+expressions-returns t c plain =
+    all_stand (λ n v. map (operand_seen n) v.items) c.args.source.now c.args.state.now c.loop-e.state c.args.all.now c.loop-e.e-index c.loop-e.operands.items
+    c.loop-e.operands c.loop-e-test.false (c.loop-e.invariant plain) (λ n. refl)
+
+-- 3. Type names.
+
+pub type_name-returns-in_err-specified : goal.type_name-returns-in_err-specified
+type_name-returns-in_err-specified t c plain =
+    type_none c.args.source.now c.args.state.now c.specified.new.state c.specified.new.state c.args.name.now _ (c.in_err-specified.ensures plain.0)
+
+pub type_name-returns-then-not-are_qualified : goal.type_name-returns-then-not-are_qualified
+type_name-returns-then-not-are_qualified t c plain =
+    words_left c.args.source.now c.args.state.now c.specified.new.state c.specified.new.state c.args.name.now c.in_ok-specified.words c.in_ok-specified.base
+    c.are_qualified.result _ (c.in_ok-specified.ensures plain.0) c.are_qualified.ensures c.if-not-are_qualified.true
+
+pub type_name-returns-in_err-declared : goal.type_name-returns-in_err-declared
+type_name-returns-in_err-declared t c plain =
+    type_read c.args.source.now c.args.state.now c.specified.new.state c.declared.new.state c.args.name.now c.in_ok-specified.words c.in_ok-specified.base
+    c.are_qualified.result _ (c.in_ok-specified.ensures plain.0) c.are_qualified.ensures c.if-not-are_qualified.false (c.in_err-declared.ensures.reads plain.1)
+
+pub type_name-returns : goal.type_name-returns
+type_name-returns t c plain =
+    type_read c.args.source.now c.args.state.now c.specified.new.state c.declared.new.state c.args.name.now c.in_ok-specified.words c.in_ok-specified.base
+    c.are_qualified.result _ (c.in_ok-specified.ensures plain.0) c.are_qualified.ensures c.if-not-are_qualified.false (c.in_ok-declared.ensures.reads plain.1)
+
+-- 4. Tags.
+
+pub tagged-returns-in-None : goal.tagged-returns-in-None
+tagged-returns-in-None t c none =
+    let P : TagKind → Type 0 = λ k. ReadsAs (λ _ (x : Ty). plain (type_of x)) c.args.source.now c.args.state.now c.reference.new.state
+    (λ _. reference c.args.alone k c.args.tag) c.reference.result in
+    subst P c.kind_of-kind.ensures
+    (known_read (λ (x : Ty). plain (type_of x)) c.args.source.now c.args.state.now c.reference.new.state
+    (reference c.args.alone c.kind_of-kind.result c.args.tag) c.reference.result
+    (tag_kept c.args.source.now c.args.state.now c.reference.new.state c.reference.result c.reference.ensures.rest c.reference.ensures.symbols
+    c.reference.ensures.constants) c.reference.ensures.reads)
+
+-- 5. Enumerations.
+
+pub enumeration-returns-in-None : goal.enumeration-returns-in-None
+enumeration-returns-in-None t c plain =
+    known_read (λ (x : Ty). plain (type_of x)) c.args.source.now c.args.state.now c.args.state.now (enumeration_reference c.args.tag) c.enumeration.result
+    (state_kept c.args.source.now c.args.state.now c.enumeration.result) c.enumeration.ensures
+
+pub enumerated-loop-e-preserved : goal.enumerated-loop-e-preserved
+enumerated-loop-e-preserved t c plain =
+    enumerators.next_stands c.args.source.now c.args.state.now c.loop-e.state c.enumerator_value-value.new.state c.enumeration_constant-number.new.state
+    c.args.list.now c.loop-e.e-index c.loop-e.before c.loop-e.e c.in_ok-value.value c.in_ok-number.number c.loop-e-test.true refl (c.loop-e.invariant plain)
+    (c.in_ok-value.ensures (enumerators.next_is_plain c.args.source.now c.args.state.now c.loop-e.state c.args.list.now c.loop-e.e-index c.loop-e.before
+    c.loop-e.e c.loop-e-test.true refl (c.loop-e.invariant plain)))
+    (known_read (λ z. z) c.args.source.now c.enumerator_value-value.new.state c.enumeration_constant-number.new.state
+    (enumerated (c.loop-e.e).name c.in_ok-value.value c.loop-e.before) _
+    (names_kept c.args.source.now c.enumerator_value-value.new.state c.enumeration_constant-number.new.state _ c.enumeration_constant-number.ensures.rest)
+    c.in_ok-number.ensures.reads)
+
+-- 6. Declarators.
+
+pub derivations-returns-in-Ident-clause-reads : goal.derivations-returns-in-Ident-clause-reads
+derivations-returns-in-Ident-clause-reads t c plain =
+    name_read c.args.source.now c.args.state.now c.args.d.now c.args.parts.now.items c.in-Ident.name c.in-Ident.is
