@@ -1,27 +1,11 @@
 // Expressions, and the declarations inside them: type names, specifiers and declarators (6.5, 6.7.2 to 6.7.7).
-ghost use Rattle.std.specs.Prelude.{◌≡◌, ℕ, ◌<◌, ◌^◌, ◌==◌, Bool, not, ◌&&◌, List, map, length, IfOk, Option, None};
-ghost use Rattle.c_grammar.specs.Grammar.{name_of};
-ghost use Rattle.c_types.specs.Types.{type_of, qualified_of, params_of};
-ghost use Rattle.type_conversions.specs.Casts as casts;
-ghost use Rattle.type_calls.specs.Choices.{chosen};
-ghost use Rattle.type_operators.specs.Operators.{indexed};
-ghost use Rattle.typing_env.specs.Env.{Env, Use, spelling, unevaluated};
-ghost use Rattle.typing_env.specs.Names.{in_prototype};
-ghost use Rattle.typing_words.specs.Words as spec_words;
-ghost use Rattle.typing_spec.specs.Expressions as spec;
-ghost use Rattle.type_declarators.specs.Keywords.{IsSaid};
-ghost use Rattle.type_expressions.specs.Forms.{member_by};
-ghost use Rattle.type_expressions.specs.Plain.{IsPlain, IsPlainBase, IsPlainDeclarator, IsPlainName, AllPlain, AllPlainParams, AllPlainEnumerators, IsPlainEnumerator, operands_of};
-ghost use Rattle.type_expressions.specs.Seen.{Namings, operand_seen};
-ghost use Rattle.type_expressions.specs.Tells.{Tells, ReadsAs, line_by, read_then};
-ghost use Rattle.type_expressions.specs.TypeNames.{type_by, type_before, parameter_in, parameters_of, value_in, enumerators_of, enumeration_with, AllPlainOption, FollowsSo, IsSpecified, IsParameter, AreParts};
 
 use crate::apply;
 use c_ast::{
     AssignOp, Base, BinaryOp, Declarator, Enumerator, Expr, ExprNode, MemberEntry, Param, PostOp,
     Specs, TypeName, UnaryOp,
 };
-use c_types::{Qual, Ty};
+use c_types::Qual;
 use type_declarators::declarator::{Declared, Derivation};
 use type_declarators::tag::MemberList;
 use type_declarators::words::{Storage, Words, read_words};
@@ -34,9 +18,7 @@ use ub_base::Items;
 /// An expression (6.5). What follows a first operand is read by a function of its own that isn't inlined, so that a level of
 /// nesting costs the host's stack little.
 #[cycle(expression)]
-pub fn expression(source: &Source<'_>, state: &mut State, e: &Expr) -> Result<Operand, TypeFault>
-    ensures { IsPlain e.now.node → ReadsAs operand_seen source.now state.old state.new (λ _. spec.expr e.now) result }
-{
+pub fn expression(source: &Source<'_>, state: &mut State, e: &Expr) -> Result<Operand, TypeFault> {
     let line = source.line(e.at);
     match &e.node {
         ExprNode::Name(at) => apply::named(source, state, *at),
@@ -92,9 +74,7 @@ fn unary(
     a: &Expr,
     op: UnaryOp,
     line: u32,
-) -> Result<Operand, TypeFault>
-    ensures { (at : ℕ) → line ≡ line_by source.now at → IsPlain a.now.node → ReadsAs operand_seen source.now state.old state.new (λ _. read_then (spec.expr a.now) (λ y. spec.made_modifying at (spec.unary op y))) result }
-{
+) -> Result<Operand, TypeFault> {
     let a = expression(source, state, a)?;
     apply::unary(state, op, a, line)
 }
@@ -108,9 +88,7 @@ fn postfix(
     a: &Expr,
     op: PostOp,
     line: u32,
-) -> Result<Operand, TypeFault>
-    ensures { (at : ℕ) → line ≡ line_by source.now at → IsPlain a.now.node → ReadsAs operand_seen source.now state.old state.new (λ _. read_then (spec.expr a.now) (λ y. spec.made_modifying at (spec.postfix op y))) result }
-{
+) -> Result<Operand, TypeFault> {
     let a = expression(source, state, a)?;
     apply::postfix(state, op, a, line)
 }
@@ -125,9 +103,7 @@ fn binary(
     op: BinaryOp,
     a: Operand,
     line: u32,
-) -> Result<Operand, TypeFault>
-    ensures { (at : ℕ) → line ≡ line_by source.now at → IsPlain b.now.node → ReadsAs operand_seen source.now state.old state.new (λ n. read_then (spec.expr b.now) (λ w. spec.made at (spec.binary op (operand_seen n a) w))) result }
-{
+) -> Result<Operand, TypeFault> {
     let b = expression(source, state, b)?;
     apply::binary(state, op, a, b, line)
 }
@@ -142,9 +118,7 @@ fn assignment(
     op: AssignOp,
     a: Operand,
     line: u32,
-) -> Result<Operand, TypeFault>
-    ensures { (at : ℕ) → line ≡ line_by source.now at → IsPlain b.now.node → ReadsAs operand_seen source.now state.old state.new (λ n. read_then (spec.expr b.now) (λ w. spec.made_modifying at (spec.assigned op (operand_seen n a) w))) result }
-{
+) -> Result<Operand, TypeFault> {
     let b = expression(source, state, b)?;
     apply::assignment(state, op, a, b, line)
 }
@@ -159,9 +133,7 @@ fn conditional(
     a: Operand,
     b: Operand,
     line: u32,
-) -> Result<Operand, TypeFault>
-    ensures { (at : ℕ) → line ≡ line_by source.now at → IsPlain c.now.node → ReadsAs operand_seen source.now state.old state.new (λ n. read_then (spec.expr c.now) (λ z. spec.made at (λ tags. chosen tags (operand_seen n a) (operand_seen n b) z))) result }
-{
+) -> Result<Operand, TypeFault> {
     let c = expression(source, state, c)?;
     apply::conditional(state, a, b, c, line)
 }
@@ -175,9 +147,7 @@ fn subscript(
     b: &Expr,
     a: Operand,
     line: u32,
-) -> Result<Operand, TypeFault>
-    ensures { (at : ℕ) → line ≡ line_by source.now at → IsPlain b.now.node → ReadsAs operand_seen source.now state.old state.new (λ n. read_then (spec.expr b.now) (λ w. spec.made at (λ tags. indexed tags (operand_seen n a) w))) result }
-{
+) -> Result<Operand, TypeFault> {
     let b = expression(source, state, b)?;
     apply::subscript(state, a, b, line)
 }
@@ -192,9 +162,7 @@ fn member(
     arrow: bool,
     name: u32,
     line: u32,
-) -> Result<Operand, TypeFault>
-    ensures { (at : ℕ) → line ≡ line_by source.now at → IsPlain a.now.node → ReadsAs operand_seen source.now state.old state.new (λ _. read_then (spec.expr a.now) (λ y k. spec.made at (λ tags. member_by arrow tags y (spelling k name)) k)) result }
-{
+) -> Result<Operand, TypeFault> {
     let a = expression(source, state, a)?;
     apply::member(source, state, arrow, a, name, line)
 }
@@ -208,9 +176,7 @@ fn cast(
     a: &Expr,
     to: Qual,
     line: u32,
-) -> Result<Operand, TypeFault>
-    ensures { (at : ℕ) → line ≡ line_by source.now at → IsPlain a.now.node → ReadsAs operand_seen source.now state.old state.new (λ _. read_then (spec.expr a.now) (λ y. spec.made at (λ tags. casts.cast tags (qualified_of to).ty y))) result }
-{
+) -> Result<Operand, TypeFault> {
     let a = expression(source, state, a)?;
     apply::cast(state, a, &to.ty, line)
 }
@@ -223,9 +189,7 @@ fn size_of_operand(
     state: &mut State,
     a: &Expr,
     line: u32,
-) -> Result<Operand, TypeFault>
-    ensures { (at : ℕ) → line ≡ line_by source.now at → IsPlain a.now.node → ReadsAs operand_seen source.now state.old state.new (λ _. read_then (unevaluated (spec.expr a.now)) (λ y. spec.measured_operand at y)) result }
-{
+) -> Result<Operand, TypeFault> {
     let mark = state.suspend();
     let a = expression(source, state, a)?;
     state.resume(mark);
@@ -240,9 +204,7 @@ fn size_of_type(
     state: &mut State,
     ty: &TypeName,
     at: u32,
-) -> Result<Operand, TypeFault>
-    ensures { IsPlainName ty.now → ReadsAs operand_seen source.now state.old state.new (λ _. read_then (type_by ty.now) (λ q. spec.measured at (λ e. e.size) q.ty)) result }
-{
+) -> Result<Operand, TypeFault> {
     let qual = type_name(source, state, ty, at)?;
     apply::size_of_type(state, &qual.ty, source.line(at))
 }
@@ -255,9 +217,7 @@ fn alignment_of_type(
     state: &mut State,
     ty: &TypeName,
     at: u32,
-) -> Result<Operand, TypeFault>
-    ensures { IsPlainName ty.now → ReadsAs operand_seen source.now state.old state.new (λ _. read_then (type_by ty.now) (λ q. spec.measured at (λ e. e.align) q.ty)) result }
-{
+) -> Result<Operand, TypeFault> {
     let qual = type_name(source, state, ty, at)?;
     apply::alignment_of_type(state, &qual.ty, source.line(at))
 }
@@ -267,9 +227,7 @@ fn expressions(
     source: &Source<'_>,
     state: &mut State,
     all: &[Expr],
-) -> Result<Vec<Operand>, TypeFault>
-    ensures { AllPlain all.now → ReadsAs (λ n v. map (operand_seen n) v.items) source.now state.old state.new (λ _. operands_of all.now) result }
-{
+) -> Result<Vec<Operand>, TypeFault> {
     let mut operands = Vec::new(state.alloc);
     for e in all {
         let operand = expression(source, state, e)?;
@@ -285,9 +243,7 @@ pub fn constant(
     state: &mut State,
     e: &Expr,
     reason: Reason,
-) -> Result<i128, TypeFault>
-    ensures { IsPlain e.now.node → ReadsAs (λ _ z. z) source.now state.old state.new (λ _. spec.constant e.now) result }
-{
+) -> Result<i128, TypeFault> {
     let mark = state.mark();
     let operand = expression(source, state, e)?;
     state.forget_literals(mark);
@@ -301,22 +257,13 @@ pub fn type_name(
     state: &mut State,
     name: &TypeName,
     at: u32,
-) -> Result<Qual, TypeFault>
-    ensures { IsPlainName name.now → ReadsAs (λ _. qualified_of) source.now state.old state.new (λ _. type_by name.now) result }
-{
+) -> Result<Qual, TypeFault> {
     let (words, base) = specified(source, state, &name.specs, at, false)?;
-    if !are_qualified(&words) {
+    if words.storage != Storage::None || words.function {
         return Err(source.fault(at, Reason::TypeName));
     }
     let Declared { name: _, qual } = declared(source, state, &name.declarator, base, at)?;
     Ok(qual)
-}
-
-// Whether they are qualifiers and type specifiers alone (6.7.7).
-fn are_qualified(words: &Words) -> bool
-    ensures { (ws : spec_words.Words) → IsSaid words.now ws → result ≡ spec_words.are_qualified ws }
-{
-    words.storage == Storage::None && !words.function
 }
 
 /// What specifiers say and the type that they give; `at` is a token near them, and `alone` says that no declarator follows.
@@ -327,89 +274,44 @@ pub fn specified(
     specs: &Specs,
     at: u32,
     alone: bool,
-) -> Result<(Words, Qual), TypeFault>
-    ensures { IsPlainBase specs.now.base → (n : Namings) (off : Bool) (before : List Use) (env : Env) → Tells n source.now off before state.old env → FollowsSo IsSpecified (Tells n source.now off before state.new) (spec.specified specs.now.words specs.now.base alone env) result }
-{
+) -> Result<(Words, Qual), TypeFault> {
     let words = read_words(specs.words.as_slice());
-    let bare = alone && specs.words.as_slice().is_empty();
-    let qual = type_before(source, state, specs, &words, at, bare)?;
-    let suited = declarator::with_words(source, state.alloc, qual, &words, &specs.base, at)?;
-    Ok((words, suited))
-}
-
-// The type that specifiers give apart from their qualifiers; `alone` says that nothing stands beside them (6.7.2).
-#[cycle(expression)]
-fn type_before(
-    source: &Source<'_>,
-    state: &mut State,
-    specs: &Specs,
-    words: &Words,
-    at: u32,
-    alone: bool,
-) -> Result<Qual, TypeFault>
-    ensures { IsPlainBase specs.now.base → (ws : spec_words.Words) → IsSaid words.now ws → ReadsAs (λ _. qualified_of) source.now state.old state.new (λ _. type_before alone ws specs.now.base) result }
-{
-    match &specs.base {
-        Base::Plain => declarator::plain_type(source, words, at),
-        Base::Typedef(name) => declarator::typedef_type(source, state, *name),
+    let qual = match &specs.base {
+        Base::Plain => declarator::plain_type(source, &words, at)?,
+        Base::Typedef(name) => declarator::typedef_type(source, state, *name)?,
         Base::Tagged {
             union,
             tag,
             members,
         } => {
-            let ty = tagged(source, state, *union, *tag, members, at, alone)?;
-            Ok(declarator::unqualified(ty))
+            let kind = tag::kind_of(*union);
+            let ty = match members {
+                None => {
+                    let alone = alone && specs.words.is_empty();
+                    tag::reference(source, state, kind, *tag, at, alone)?
+                }
+                Some(entries) => {
+                    let number = tag::open(source, state, kind, *tag)?;
+                    let list = structure(source, state, entries.as_slice(), at)?;
+                    tag::close(source, state, kind, number, list, at)?
+                }
+            };
+            declarator::unqualified(ty)
         }
         Base::Enumerated { tag, enumerators } => {
-            let listed = enumeration(source, state, *tag, enumerators, at)?;
-            Ok(declarator::unqualified(listed))
+            let ty = match enumerators {
+                None => tag::enumeration(source, state, *tag, at)?,
+                Some(list) => {
+                    let number = tag::open_enumeration(source, state, *tag)?;
+                    enumerated(source, state, list.as_slice())?;
+                    tag::close_enumeration(state, number)
+                }
+            };
+            declarator::unqualified(ty)
         }
-    }
-}
-
-// A structure, or a union where `union` is true: one that is named, or one with its member list (6.7.2.1, 6.7.2.3).
-#[cycle(expression)]
-fn tagged(
-    source: &Source<'_>,
-    state: &mut State,
-    union: bool,
-    tag: Option<u32>,
-    members: &Option<Items<MemberEntry>>,
-    at: u32,
-    alone: bool,
-) -> Result<Ty, TypeFault>
-    ensures { members.now ≡ None → ReadsAs (λ _ ty. spec_words.plain (type_of ty)) source.now state.old state.new (λ _. spec_words.reference alone (spec_words.kind_of_tag union) tag) result }
-{
-    let kind = tag::kind_of(union);
-    match members {
-        None => tag::reference(source, state, kind, tag, at, alone),
-        Some(entries) => {
-            let number = tag::open(source, state, kind, tag)?;
-            let list = structure(source, state, entries.as_slice(), at)?;
-            tag::close(source, state, kind, number, list, at)
-        }
-    }
-}
-
-// An enumeration: one that is named, or one with its list (6.7.2.2, 6.7.2.3).
-#[cycle(expression)]
-fn enumeration(
-    source: &Source<'_>,
-    state: &mut State,
-    tag: Option<u32>,
-    enumerators: &Option<Items<Enumerator>>,
-    at: u32,
-) -> Result<Ty, TypeFault>
-    ensures { AllPlainOption enumerators.now → ReadsAs (λ _ ty. spec_words.plain (type_of ty)) source.now state.old state.new (λ _. enumeration_with tag enumerators.now) result }
-{
-    match enumerators {
-        None => tag::enumeration(source, state, tag, at),
-        Some(list) => {
-            let number = tag::open_enumeration(source, state, tag)?;
-            enumerated(source, state, list.as_slice())?;
-            Ok(tag::close_enumeration(state, number))
-        }
-    }
+    };
+    let qual = declarator::with_words(source, state.alloc, qual, &words, &specs.base, at)?;
+    Ok((words, qual))
 }
 
 // The members of a structure or union (6.7.2.1).
@@ -476,34 +378,16 @@ fn enumerated(
     source: &Source<'_>,
     state: &mut State,
     list: &[Enumerator],
-) -> Result<(), TypeFault>
-    ensures { AllPlainEnumerators list.now → ReadsAs (λ _ u. u) source.now state.old state.new (λ _. enumerators_of None list.now) result }
-{
+) -> Result<(), TypeFault> {
     let mut before = None;
     for e in list {
-        let value = enumerator_value(source, state, e)?;
-        let number = apply::enumeration_constant(source, state, e.name, value, before)?;
-        before = Some(number);
+        let value = match &e.value {
+            None => None,
+            Some(value) => Some(constant(source, state, value, Reason::EnumeratorValue)?),
+        };
+        before = Some(apply::enumeration_constant(source, state, e.name, value, before)?);
     }
     Ok(())
-}
-
-// The value that is written behind an enumerator (6.7.2.2p2).
-#[cycle(expression)]
-fn enumerator_value(
-    source: &Source<'_>,
-    state: &mut State,
-    e: &Enumerator,
-) -> Result<Option<i128>, TypeFault>
-    ensures { IsPlainEnumerator e.now → ReadsAs (λ _ v. v) source.now state.old state.new (λ _. value_in e.now) result }
-{
-    match &e.value {
-        None => Ok(None),
-        Some(value) => {
-            let number = constant(source, state, value, Reason::EnumeratorValue)?;
-            Ok(Some(number))
-        }
-    }
 }
 
 /// What a declarator declares, from the type in front of it; `at` is a token near it (6.7.6).
@@ -514,10 +398,7 @@ pub fn declared(
     d: &Declarator,
     base: Qual,
     at: u32,
-) -> Result<Declared, TypeFault>
-    ensures reads { IsPlainDeclarator d.now → ReadsAs (λ _ found. qualified_of found.qual) source.now state.old state.new (λ _. spec.declared (qualified_of base) d.now) result }
-    ensures name { IfOk result (λ found. found.name ≡ name_of d.now) }
-{
+) -> Result<Declared, TypeFault> {
     let mut parts = Vec::new(state.alloc);
     let name = derivations(source, state, d, at, &mut parts)?;
     let qual = declarator::derived(source, state, parts, base, at)?;
@@ -533,10 +414,7 @@ fn derivations(
     d: &Declarator,
     at: u32,
     parts: &mut Vec<Derivation>,
-) -> Result<Option<u32>, TypeFault>
-    ensures name { IfOk result (λ name. name ≡ name_of d.now) }
-    ensures reads { IsPlainDeclarator d.now → (n : Namings) (off : Bool) (before : List Use) (env : Env) → Tells n source.now off before state.old env → FollowsSo (AreParts parts.old.items parts.new.items) (Tells n source.now off before state.new) (spec.derivations d.now env) result }
-{
+) -> Result<Option<u32>, TypeFault> {
     match d {
         Declarator::Ident(name) => Ok(*name),
         Declarator::Pointer(words, d) => {
@@ -574,9 +452,7 @@ fn prototype(
     variadic: bool,
     at: u32,
     own: bool,
-) -> Result<Items<Qual>, TypeFault>
-    ensures { AllPlainParams params.now → length params.now < 2 ^ 32 → ReadsAs (λ _ quals. params_of (map qualified_of quals)) source.now state.old state.new (λ _. in_prototype own (parameters_of variadic 0 params.now)) result }
-{
+) -> Result<Items<Qual>, TypeFault> {
     state.enter_scope()?;
     let lone = params.len() == 1 && !variadic;
     let params = parameters(source, state, params, lone, at)?;
@@ -592,9 +468,7 @@ fn parameters(
     params: &[Param],
     lone: bool,
     at: u32,
-) -> Result<Items<Qual>, TypeFault>
-    ensures { (variadic : Bool) → lone ≡ ((length params.now == 1) && not variadic) → AllPlainParams params.now → length params.now < 2 ^ 32 → ReadsAs (λ _ quals. params_of (map qualified_of quals)) source.now state.old state.new (λ _. parameters_of variadic 0 params.now) result }
-{
+) -> Result<Items<Qual>, TypeFault> {
     let mut quals = Items::new(state.alloc);
     for p in params {
         let (words, param) = parameter(source, state, p, at)?;
@@ -613,10 +487,7 @@ fn parameter(
     state: &mut State,
     param: &Param,
     at: u32,
-) -> Result<(Words, Declared), TypeFault>
-    ensures reads { IsPlainBase param.now.specs.base → IsPlainDeclarator param.now.declarator → (n : Namings) (off : Bool) (before : List Use) (env : Env) → Tells n source.now off before state.old env → FollowsSo IsParameter (Tells n source.now off before state.new) (parameter_in param.now env) result }
-    ensures name { IfOk result (λ p. (p.1).name ≡ name_of param.now.declarator) }
-{
+) -> Result<(Words, Declared), TypeFault> {
     let (words, base) = specified(source, state, &param.specs, at, false)?;
     let found = declared(source, state, &param.declarator, base, at)?;
     Ok((words, found))
