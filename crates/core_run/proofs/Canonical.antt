@@ -339,8 +339,11 @@ module _ (comes : AlongComes) (stay : NumbersStay) (starts_numbered : StartedIsN
       let c = came new rows number s d (Ok (pick.Step (Some status))) y in (
         d.first,
         d.starts,
-        inr (status, ended_of (world_in p strings rows number) d new status
-            (over_with new rows number s (pick.Step (Some status)) Stop d status c.0 c.1 c.2 tells)),
+        inr (
+          status,
+          ended_of (world_in p strings rows number) d new status
+              (over_with new rows number s (pick.Step (Some status)) Stop d status c.0 c.1 c.2 tells),
+        ),
       )
   stops (pick.Event event completed None) mid new x is g tells = λ rows number s.
       let y = subst (λ (m : Machine). AnswersAll old m (Ok (pick.Event event completed None))) (sym is) x in
@@ -353,8 +356,11 @@ module _ (comes : AlongComes) (stay : NumbersStay) (starts_numbered : StartedIsN
       let c = came new rows number s d (Ok (pick.Event event completed (Some status))) y in (
         d.first,
         d.starts,
-        inr (status, ended_of (world_in p strings rows number) d new status
-            (over_with new rows number s (pick.Event event completed (Some status)) Stop d status c.0 c.1 c.2 tells)),
+        inr (
+          status,
+          ended_of (world_in p strings rows number) d new status
+              (over_with new rows number s (pick.Event event completed (Some status)) Stop d status c.0 c.1 c.2 tells),
+        ),
       )
   stops (pick.Starts event) mid new x is g tells =
       subst (λ (m : Machine). GoesOnAt p strings input numbers before told_now m n grown (old.memory.rows ∷ earlier) (End (Stopped (n + 1)))) (sym is.2)
