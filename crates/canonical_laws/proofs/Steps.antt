@@ -79,6 +79,11 @@ through_raises : (x : Option (Cause × ℕ)) (o : Outcome) (c : Clause) (trace :
 through_raises None o c trace q = q
 through_raises (Some k) o c trace q = absurd (cc (q))
 
+-- ---- behind a control step the frame goes on, or the one below it
+abbrev pub GoesIn : State → List (Local × Place) → Path → Type 0
+GoesIn st [] path = path ≡ st.top.scene.path
+GoesIn st (h ∷ hs) path = (path ≡ st.top.scene.path) ⊎ (path ≡ h.0.scene.path)
+
 module _ (world : World) where
   pub limited_running : (o : Outcome) (st : State) → limited world.limits o ≡ Running st → o ≡ Running st
   limited_running Refused st q = absurd (cc (q))
@@ -130,11 +135,6 @@ module _ (world : World) where
   next_path f None (Ev u) v = refl
   next_path f (Some e) Control v = refl
   next_path f (Some e) (Ev u) v = refl
-
-  -- ---- behind a control step the frame goes on, or the one below it
-  abbrev pub GoesIn : State → List (Local × Place) → Path → Type 0
-  GoesIn st [] path = path ≡ st.top.scene.path
-  GoesIn st (h ∷ hs) path = (path ≡ st.top.scene.path) ⊎ (path ≡ h.0.scene.path)
 
   stays_in : (st : State) (held : List (Local × Place)) (path : Path) → path ≡ st.top.scene.path → GoesIn st held path
   stays_in st [] path q = q

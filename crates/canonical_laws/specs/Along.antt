@@ -1,5 +1,5 @@
 -- A machine along the canonical order of a run, with all that its picks ask (own).
-use Rattle.std.specs.Prelude.{◌≡◌, ◌≤◌, ℕ, List, IfOk, Result, length}
+use Rattle.std.specs.Prelude.{◌≡◌, ◌≤◌, ℕ, List, Option, IfOk, Result, length}
 use Rattle.addr_map.specs.declared.map.Row.{Row}
 use Rattle.addr_map.specs.Sound.{AreApart}
 use Rattle.c_typed.specs.declared.program.Program.{Program}
