@@ -1,4 +1,2 @@
 mod Counts
 mod Telling
-mod Told
-mod Canonical

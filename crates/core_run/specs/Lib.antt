@@ -1,5 +1,4 @@
 pub mod Calls
-pub mod Canonical
 pub mod Ends
 pub mod Record
 pub mod Steps

@@ -1,6 +1,3 @@
-use Rattle.std.proofs.Common.{arith, subst}
-use Rattle.canonical_laws.specs.Along.{AnswersAll}
-use Rattle.core_run.proofs.Canonical.{ends_by, goes_on, stops}
 use Rattle.core_run.proofs.Telling.{started_by}
 use Rattle.core_run.proofs.canonical.advance.Goals as goal
 
@@ -9,31 +6,3 @@ returns-in-Stop-clause-started g c = started_by c.in-Ok.told _ _ _ _ _ _ c.in_ok
 
 pub returns-in-On-clause-started : goal.returns-in-On-clause-started
 returns-in-On-clause-started g c = started_by c.in-Ok.told _ _ _ _ _ _ c.in_ok-start_frame.ensures.rows c.in_ok-tell.ensures.calls
-
-pub returns-in-Stop-clause-canonical : goal.returns-in-Stop-clause-canonical
-returns-in-Stop-clause-canonical g c = λ p strings input numbers before earlier at.
-    stops c.law_along.ensures c.law_numbers.ensures.stay c.law_numbers.ensures.started p strings input numbers before _ _ c.args.machine.now c.args.picks
-    c.args.frames.now c.start_frame.new.frames earlier at (omega (arith, c.requires.few)) c.in-Ok.told c.canonical.new.machine c.start_frame.new.machine
-    (subst (AnswersAll c.args.machine.now c.canonical.new.machine) c.in-Ok.is (record {
-      takes = c.canonical.ensures.takes;
-      steps = c.canonical.ensures.steps;
-      events = c.canonical.ensures.events;
-      bodies = c.canonical.ensures.bodies;
-      calls = c.canonical.ensures.calls;
-      libraries = c.canonical.ensures.libraries;
-      keeps = c.canonical.ensures.keeps;
-    })) c.in_ok-start_frame.ensures.numbered c.in_ok-start_frame.ensures.rows c.in_ok-tell.ensures.calls
-
-pub returns-in-On-clause-canonical : goal.returns-in-On-clause-canonical
-returns-in-On-clause-canonical g c = λ p strings input numbers before earlier at.
-    goes_on c.law_along.ensures c.law_numbers.ensures.stay c.law_numbers.ensures.started p strings input numbers before _ _ c.args.machine.now c.args.picks
-    c.args.frames.now c.start_frame.new.frames earlier at (omega (arith, c.requires.few)) c.in-Ok.told c.canonical.new.machine c.start_frame.new.machine
-    c.after.result (subst (AnswersAll c.args.machine.now c.canonical.new.machine) c.in-Ok.is (record {
-      takes = c.canonical.ensures.takes;
-      steps = c.canonical.ensures.steps;
-      events = c.canonical.ensures.events;
-      bodies = c.canonical.ensures.bodies;
-      calls = c.canonical.ensures.calls;
-      libraries = c.canonical.ensures.libraries;
-      keeps = c.canonical.ensures.keeps;
-    })) c.in_ok-start_frame.ensures.numbered c.in_ok-start_frame.ensures.rows c.in_ok-tell.ensures.calls c.after.ensures.follows

@@ -1,5 +1,0 @@
-mod Steps
-mod Listed
-mod Along
-mod Control
-mod Begins

@@ -1,4 +1,0 @@
-pub mod Listed
-pub mod Along
-pub mod Begins
-pub mod Comes
