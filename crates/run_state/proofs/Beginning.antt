@@ -38,7 +38,7 @@ use Rattle.run_state.specs.declared.machine.Machine.{Machine}
 use Rattle.run_state.specs.declared.machine.Open.{Open}
 use Rattle.run_state.specs.declared.machine.Stage.{Stage}
 use Rattle.run_state.specs.Meaning.{world_with, AccessSuits, StandsProgram, StandsCode}
-use Rattle.run_state.specs.Stands.{AreBytes, AreEach, HoldsAll, IsVia, StandFrames, StandsBegun, StandsFrame, StandsTables, frames_of, result_seen}
+use Rattle.run_state.specs.Stands.{AreBytes, AreEach, HoldsAll, IsResultOf, IsVia, StandFrames, StandsBegun, StandsFrame, StandsTables, frames_of, result_seen}
 use Rattle.run_state.specs.Begins.{AreBytesWhere, BeginsAsDefined, IsFirst, IsNamedVia, StartIsWithin, StartsMain}
 use Rattle.run_state.proofs.Each.{each_where}
 use Rattle.run_state.proofs.Vias.{named_seen}
