@@ -1,0 +1,5 @@
+mod Steps
+mod Listed
+mod Along
+mod Control
+mod Begins

@@ -1,0 +1,4 @@
+pub mod Listed
+pub mod Along
+pub mod Begins
+pub mod Comes
