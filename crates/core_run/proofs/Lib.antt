@@ -1,2 +1,5 @@
 mod Counts
 mod Telling
+mod Told
+mod OneMore
+mod OnePick

@@ -1,4 +1,5 @@
 pub mod Calls
+pub mod Canonical
 pub mod Ends
 pub mod Record
 pub mod Steps

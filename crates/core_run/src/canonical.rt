@@ -1,13 +1,21 @@
 // A run from its start to its end.
-ghost use Rattle.std.specs.Prelude.{◌≡◌, ◌≤◌, ◌<◌, ◌+◌, ◌^◌, ◌++◌, ◌∷◌, ◌⊎◌, [], length, IfOk, OnOk};
+ghost use Rattle.std.specs.Prelude.{◌≡◌, ◌≤◌, ◌<◌, ◌+◌, ◌^◌, ◌++◌, ◌∷◌, ◌⊎◌, [], length, ℕ, List, Option, IfOk, OnOk};
 ghost use Rattle.core_run.specs.Calls.{GoesOn, FollowsPick, Tells, completions, calls_of, AnswersEnd, StartedBy};
 ghost use Rattle.core_run.specs.Ends.{picks_of, told_of, IsOutOfSteps};
 ghost use Rattle.core_run.specs.Steps.{told_by, told_at_end, taken_by, EndsAfter, EndsRun, AnswersNext, IsUnstopped, GoesUnstopped, Grows};
 ghost use Rattle.core_run.specs.Told.{more};
+ghost use Rattle.core_run.specs.Canonical.{EndsSome, Follows, GoesOnAt, HasRow, IsAt, IsEndedBy, IsNumbered};
+ghost use Rattle.core_run.specs.Calls.{row_by, Heard};
+ghost use Rattle.ub_base.specs.Frames.{IsFrameList};
+ghost use Rattle.addr_map.specs.declared.map.Row.{Row};
+ghost use Rattle.c_typed.specs.declared.program.Program.{Program};
+ghost use Rattle.run_statements.specs.declared.numbers.Numbers.{Numbers};
 
 use crate::watch::{Go, Ran, RunState, Watch};
 use addr_map::{AddrMap, Mode};
+use canonical_laws::law_along;
 use core_ir::CoreProgram;
+use frame_numbers::law_numbers;
 use prov_memory::{Memory, Outputs};
 use run_acts::start_bytes;
 use run_machine::{
@@ -102,10 +110,22 @@ fn unstarted(alloc: Global, number: u64, budget: u64) -> RunState
 fn start_frame(machine: &mut Machine, frames: &mut Frames, told: Pick) -> Result<(), NoMemory>
     ensures items { machine.new.items ≡ machine.old.items }
     ensures rows { OnOk result (Grows told frames.old frames.new) }
+    ensures numbered { OnOk result (IsNumbered told machine.old machine.new frames.new) }
 {
     let Pick::Starts(event) = told else {
         return Ok(());
     };
+    let frame = number_of(frames, event)?;
+    machine.start(frame);
+    Ok(())
+}
+
+// The number of the frame that the body of this event has started.
+fn number_of(frames: &mut Frames, event: Event) -> Result<Frame, NoMemory>
+    ensures rows { OnOk result ((frames.new ≡ frames.old) ⊎ (frames.new ≡ frames.old ++ row_by event ∷ [])) }
+    ensures list { OnOk result (IsFrameList frames.new) }
+    ensures number { IfOk result (λ frame. HasRow frames.new frame event) }
+{
     let count = frames.len();
     if count == u32::MAX || event.frame.0 > count {
         return Err(NoMemory);
@@ -114,8 +134,9 @@ fn start_frame(machine: &mut Machine, frames: &mut Frames, told: Pick) -> Result
         Some(frame) => frame,
         None => frames.call(event.frame, event.turn, event.node)?,
     };
-    machine.start(frame);
-    Ok(())
+    // Once more, for what it says of the list.
+    let _count = frames.len();
+    Ok(frame)
 }
 
 // Tells what a pick of this event completes.
@@ -180,7 +201,7 @@ fn advance<W: Watch>(
     picks: u64,
     watch: &mut W,
 ) -> Result<Next, NoMemory>
-    requires few { picks < 2 ^ 32 }
+    requires few { picks < 100000000 }
     requires ready { GoesOn (W.heard watch.old) }
     ensures rows { IfOk result (λ next. length frames.new ≤ length frames.old + taken_by next) }
     ensures told { IfOk result (λ next. W.told watch.new ≡ more (told_by next) (W.told watch.old)) }
@@ -188,7 +209,13 @@ fn advance<W: Watch>(
     ensures end { IfOk result (λ next. EndsAfter next picks) }
     ensures answers { IfOk result (λ next. AnswersNext next (W.heard watch.new)) }
     ensures started { StartedBy (W.heard watch.old) frames.old → OnOk result (StartedBy (W.heard watch.new) frames.new) }
+    // It is a pick of the canonical order, where those before were.
+    ensures canonical { (p : Program) (strings : List (List ℕ)) (input : List ℕ) (numbers : Numbers) (before : Option Heard) (earlier : List (List Row))
+        → IsAt p strings input numbers before (W.heard watch.old) machine.old picks frames.old earlier
+        → IfOk result (GoesOnAt p strings input numbers before (W.heard watch.new) machine.new picks frames.new (machine.old.memory.rows ∷ earlier)) }
 {
+    law_along();
+    law_numbers();
     let told = match canonical(machine) {
         Ok(told) => told,
         Err(halt) => return Ok(Next::End(ended_by(halt, picks)?)),
@@ -206,6 +233,7 @@ fn ended_by(halt: Halt, picks: u64) -> Result<Ran, NoMemory>
     ensures end { IfOk result (λ ran. EndsRun ran picks) }
     ensures told { IfOk result (λ ran. told_at_end ran ≡ 0) }
     ensures unstopped { IfOk result (λ ran. IsUnstopped ran) }
+    ensures ended { IfOk result (IsEndedBy halt picks) }
 {
     match halt {
         Halt::Raised {
@@ -234,6 +262,7 @@ fn after(told: Pick, picks: u64) -> Next
     ensures taken { taken_by result ≡ 1 }
     ensures end { EndsAfter result picks }
     ensures unstopped { GoesUnstopped result }
+    ensures follows { Follows told picks result }
 {
     match told {
         Pick::Step(Some(status)) | Pick::Event(_, _, Some(status)) => Next::End(Ran::Ended {
@@ -260,6 +289,10 @@ fn follow<W: Watch>(
     ensures out_of_steps { IfOk result (λ ran. IsOutOfSteps ran → picks_of ran ≡ budget) }
     ensures answers { IfOk result (λ ran. AnswersEnd ran (W.heard watch.new)) }
     ensures started { OnOk result (StartedBy (W.heard watch.new) frames.new) }
+    // Where it begins so, it follows the canonical order.
+    ensures canonical { (p : Program) (strings : List (List ℕ)) (input : List ℕ) (numbers : Numbers)
+        → IsAt p strings input numbers (W.heard watch.old) (W.heard watch.old) machine.old 0 [] []
+        → IfOk result (λ ran. EndsSome p strings input numbers (W.heard watch.old) (W.heard watch.new) machine.new.streams.output frames.new ran) }
 {
     for picks in 0..budget {
         match advance(machine, frames, picks, watch)? {
