@@ -14,7 +14,7 @@ use Rattle.run_state.specs.declared.halt.Halt.{Halt}
 use Rattle.run_state.specs.declared.halt.Halt.TheVariants as halt
 use Rattle.run_state.specs.declared.machine.Machine.{Machine}
 use Rattle.run_state.specs.declared.machine.Open.{Open}
-use Rattle.run_state.specs.Begins.{CountsAsDefined, IsFirst, IsUnstarted, SeesMain}
+use Rattle.run_state.specs.Begins.{CountsAsDefined, IsFirst, IsUnstarted, NoMachine, SeesMain}
 use Rattle.run_state.specs.Faults.{halt_of}
 use Rattle.run_state.proofs.Beginning.{Parts}
 
@@ -52,7 +52,11 @@ counted old first p args input m nothing parts =
       streams = parts.streams;
     }
 
--- ---- its faults
-pub is_unplaced : (f : CreateFault) → halt_of f ≡ halt.Unplaced → f ≡ fault.Unplaced
-is_unplaced fault.Unplaced e = refl
-is_unplaced fault.NoMemory e = absurd (cc)
+-- ---- why there is none
+pub no_machine : (m : Kept) (p : Program) (strings : List (List ℕ)) (f : CreateFault) (h : Halt) → h ≡ halt_of f →
+    (f ≡ fault.Unplaced → NoMachine m p strings halt.Unplaced) → NoMachine m p strings h
+no_machine m p strings fault.Unplaced h e none = subst (NoMachine m p strings) (sym e) (none refl)
+no_machine m p strings fault.NoMemory h e none = subst (NoMachine m p strings) (sym e) tt
+
+pub for_want : (m : Kept) (p : Program) (strings : List (List ℕ)) (h : Halt) → h ≡ halt.NoMemory → NoMachine m p strings h
+for_want m p strings h e = subst (NoMachine m p strings) (sym e) tt

@@ -1,9 +1,11 @@
 -- The machine of a program before its first pick stands for the state that the definitions start from (own).
-use Rattle.std.specs.Prelude.{◌≡◌, ℕ, ◌≤◌, ◌+◌, [], ◌∷◌, List, length, map, slice_get, Option, None, Some}
+use Rattle.std.specs.Prelude.{◌≡◌, ℕ, ◌≤◌, ◌<◌, ◌+◌, ◌^◌, [], ◌∷◌, List, length, map, slice_get, Option, None, Some}
 use Rattle.std.specs.Borrow.{Bor}
 use Rattle.addr_map.specs.declared.map.Row.{Row}
+use Rattle.addr_map.specs.Sound.{Above}
 use Rattle.ub_base.specs.Frames.{Path}
 use Rattle.c_typed.specs.declared.program.Program.{Program}
+use Rattle.c_typed.specs.Lawful.{IsLawful}
 use Rattle.c_types.specs.Types.{CType, type_of}
 use Rattle.c_typed.specs.declared.program.Constant.{Constant}
 use Rattle.c_typed.specs.declared.tree.Access.{Access}
@@ -16,13 +18,14 @@ use Rattle.prov_memory.specs.declared.value.Value.{Value as Kept_value}
 use Rattle.prov_memory.specs.Cells.{type_numbered}
 use Rattle.prov_memory.specs.Keeps.{Keeps, RowsStay}
 use Rattle.prov_memory.specs.Memory.{Kept, store_of}
+use Rattle.prov_memory.specs.Sound.{IsSound}
 use Rattle.c_model.specs.Program.{Standing}
 use Rattle.c_model.specs.Values.{Value}
 use Rattle.c_model.specs.World.{World, Limits}
 use Rattle.c_model.specs.Runs.{State, Running, start, created_after, too_many, limit_passed}
 use Rattle.program_view.specs.View.{main_values, standing_of}
 use Rattle.run_acts.specs.Kept.{IsOf}
-use Rattle.run_acts.specs.Outcomes.{HasNoPlace}
+use Rattle.run_acts.specs.Outcomes.{HasNoPlace, IsNew}
 use Rattle.run_acts.specs.Standing.{Stand, program_name}
 use Rattle.run_acts.specs.Viewed.{IsGiven}
 use Rattle.run_acts.specs.declared.initial.Places.{Places}
@@ -40,6 +43,8 @@ use Rattle.run_code.specs.declared.steps.StoreCode.{StoreCode}
 use Rattle.run_code.specs.OfTrees.{ListsTrees}
 use Rattle.run_statements.specs.declared.jumps.Jumps.{Jumps}
 use Rattle.run_statements.specs.Jumping.{HasJumps}
+use Rattle.run_state.specs.declared.halt.Halt.{Halt}
+use Rattle.run_state.specs.declared.halt.Halt.TheVariants as halt
 use Rattle.run_state.specs.declared.machine.Machine.{Machine}
 use Rattle.run_state.specs.declared.machine.Open.{Open}
 use Rattle.run_state.specs.Meaning.{world_with, StandsCode}
@@ -138,6 +143,15 @@ SomeHasNoPlace m p strings = (after : Kept) × Keeps m after × HasNoPlace m aft
 -- the objects that stand before the first pick count so many bytes at most (own)
 abbrev pub CountWithin : Program → (strings : List (List ℕ)) → ℕ → Type 0
 CountWithin p strings n = (os : List Standing) → Stand p strings os → created_after 0 (map (λ o. o.decl) os) ≤ n
+
+-- Why there is no machine of a lawful program, in this memory: want of memory, or an object has no place, which can't be in a new memory where the objects
+-- count 2^40 bytes at most (own).
+abbrev pub NoMachine : Kept → Program → (strings : List (List ℕ)) → Halt → Type 0
+NoMachine m p strings halt.NoMemory = Unit {0}
+NoMachine m p strings halt.Unplaced =
+    IsSound m → IsLawful p → Above 16777216 m.rows → length strings < 2 ^ 32
+    → SomeHasNoPlace m p strings × (IsNew m → CountWithin p strings (2 ^ 40) → ⊥)
+NoMachine m p strings _ = ⊥
 
 -- the body of `main` is to be done
 abbrev pub StartsMain : Code → Program → Stacked → Type 0

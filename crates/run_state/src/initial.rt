@@ -1,5 +1,5 @@
 // A run before its first pick.
-ghost use Rattle.std.specs.Prelude.{◌≡◌, ◌⊎◌, [], ◌∷◌, ◌+◌, ◌<◌, ◌^◌, None, Some, Err, length, map, slice_get, string_bytes, IfErr, IfOk, OnOk};
+ghost use Rattle.std.specs.Prelude.{◌≡◌, [], ◌∷◌, ◌+◌, ◌<◌, ◌^◌, None, Some, length, map, slice_get, string_bytes, IfErr, IfOk, OnOk};
 ghost use Rattle.addr_map.specs.Sound.{Above};
 ghost use Rattle.c_typed.specs.Lawful.{IsLawful};
 ghost use Rattle.mem_spec.specs.Streams.{Io, silent};
@@ -8,12 +8,10 @@ ghost use Rattle.prov_memory.specs.Made.{AreNamed};
 ghost use Rattle.prov_memory.specs.Memory.{empty, store_of};
 ghost use Rattle.prov_memory.specs.Sound.{IsSound};
 ghost use Rattle.prov_memory.specs.Tags.{AreTagged};
-ghost use Rattle.run_acts.specs.Outcomes.{IsNew};
 ghost use Rattle.run_acts.specs.Standing.{StartStands, program_name};
 ghost use Rattle.run_acts.specs.Starting.{ArePlaced};
 ghost use Rattle.run_state.specs.Begins.{AreBytesWhere, BeginsAsDefined, HoldsGiven, IsBodyOf, IsFirst, IsGivenIn, IsNamed, IsNamedVia, KeepsLabels, StartsMain};
-ghost use Rattle.run_state.specs.Begins.{CountsAsDefined, CountWithin, IsUnstarted, SeesMain, SomeHasNoPlace};
-ghost use Rattle.run_state.specs.declared.halt.Halt.TheVariants as halt;
+ghost use Rattle.run_state.specs.Begins.{CountsAsDefined, IsUnstarted, NoMachine, SeesMain};
 ghost use Rattle.run_state.specs.Stands.{AreEach};
 
 use crate::halt::Halt;
@@ -167,11 +165,7 @@ fn placed_objects(
         → StartStands memory first.memory program.now (program_name ∷ map string_bytes args.now)) }
     ensures given { IfOk result (λ first. IsSound memory → IsLawful program.now
         → IsGivenIn first.memory program.now (length args.now + 1) first.values.items) }
-    ensures faults { IfErr result (λ h. (h ≡ halt.NoMemory) ⊎ (h ≡ halt.Unplaced)) }
-    ensures unplaced { result ≡ Err halt.Unplaced → IsSound memory → IsLawful program.now → Above 16777216 memory.rows → length args.now + 1 < 2 ^ 32
-        → SomeHasNoPlace memory program.now (program_name ∷ map string_bytes args.now) }
-    ensures room { result ≡ Err halt.Unplaced → IsSound memory → IsLawful program.now → IsNew memory → Above 16777216 memory.rows
-        → length args.now + 1 < 2 ^ 32 → CountWithin program.now (program_name ∷ map string_bytes args.now) (2 ^ 40) → ⊥ }
+    ensures none { IfErr result (NoMachine memory program.now (program_name ∷ map string_bytes args.now)) }
 {
     let mut memory = memory;
     let started = start(alloc, program, args, &mut memory)?;
@@ -227,13 +221,6 @@ pub fn prepare<'p, 'c>(
     ensures code { IfOk result (λ machine. machine.code ≡ code.entry) }
     // Just the frame of `main` is open, with places for its objects, and sees the blocks and the full expressions of its code.
     ensures first { IfOk result (λ machine. IsUnstarted program.now machine) }
-    // There is no machine for want of memory, or where one of the objects that stand before the first pick has no place.
-    ensures faults { IfErr result (λ h. (h ≡ halt.NoMemory) ⊎ (h ≡ halt.Unplaced)) }
-    ensures unplaced { result ≡ Err halt.Unplaced → IsLawful program.now → length args.now + 1 < 2 ^ 32 → memory ≡ empty memory.rows memory.mode
-        → Above 16777216 memory.rows → SomeHasNoPlace memory program.now (program_name ∷ map string_bytes args.now) }
-    // A new memory that places its objects has room for them, where they count 2^40 bytes at most.
-    ensures room { result ≡ Err halt.Unplaced → IsLawful program.now → length args.now + 1 < 2 ^ 32 → memory ≡ empty memory.rows memory.mode
-        → IsNew memory → Above 16777216 memory.rows → CountWithin program.now (program_name ∷ map string_bytes args.now) (2 ^ 40) → ⊥ }
 {
     let mut first = placed_objects(alloc, program, args, memory)?;
     let vias = vias_of(alloc, code, &mut first.memory)?;
