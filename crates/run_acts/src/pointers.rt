@@ -182,6 +182,7 @@ fn agrees(op: RelOp, order: Ordering) -> bool
 
 /// The values of an object before and after an update (6.5.2.4, 6.5.3.1, 6.5.16.2). `ty` is the object's type where it
 /// is a pointer; `spare` is overwritten.
+#[inline(always)]
 pub fn changed(
     m: &mut Memory,
     change: Change,
@@ -206,6 +207,7 @@ pub fn changed(
     }
 }
 
+#[inline(always)]
 fn changed_integer(
     m: &mut Memory,
     op: BinOp,
@@ -228,6 +230,7 @@ fn changed_integer(
     Ok((Value::Int(old), Value::Int(after)))
 }
 
+#[inline(always)]
 fn changed_pointer(
     m: &mut Memory,
     size: u64,

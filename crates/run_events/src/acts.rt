@@ -1,7 +1,7 @@
 // The acts of events.
 ghost use Rattle.std.specs.Prelude.{◌≡◌, ◌≢◌, ◌+◌, ◌<◌, ℕ, true, false, not, List, length, slice_get, None, Some, IfOk};
 ghost use Rattle.addr_map.specs.declared.map.Row.{Row};
-ghost use Rattle.c_model.specs.Nodes.{bool_value, in_order};
+ghost use Rattle.c_model.specs.Nodes.{bool_value};
 ghost use Rattle.c_model.specs.Values as model;
 ghost use Rattle.prov_memory.specs.Made.{IsMade};
 ghost use Rattle.prov_memory.specs.Keeps.{Keeps};
@@ -24,12 +24,14 @@ ghost use Rattle.run_events.specs.Performs.{gives_value, kept_room, is_pointer_a
 
 use crate::fault::Fault;
 use crate::frames::{call, initialize};
-use c_typed::{Access, Change, Conversion, EqOp, RelOp, UnOp};
+use crate::relations::relation;
+use crate::updates::update;
+use c_typed::{Access, Conversion, EqOp, UnOp};
 use c_types::{BinOp, IntKind, Ty};
 use prov_memory::{Value, Via};
 use run_acts::{
-    Filling, Pointer, answer, binary, changed, convert, distance, equal, fill, load, member, moved,
-    part, related, store, unary,
+    Filling, Pointer, answer, binary, convert, distance, equal, fill, load, member, moved, part,
+    store, unary,
 };
 use run_code::{Act, Operand, StoreCode};
 use run_state::Machine;
@@ -46,7 +48,7 @@ pub enum Outcome {
     End(u8),
 }
 
-fn number(value: bool) -> Value
+pub fn number(value: bool) -> Value
     ensures seen { (m : Kept) → value_in m result ≡ bool_value value }
     ensures made { (m : Kept) → IsOf m result }
 {
@@ -401,76 +403,6 @@ fn distance_between(
     Ok(Outcome::Done)
 }
 
-// The value of a relational operator (6.5.8), on two pointers or two integers.
-#[inline(always)]
-fn relation(
-    machine: &mut Machine,
-    op: RelOp,
-    pointers: bool,
-    left: &Operand,
-    right: &Operand,
-    event: Event,
-) -> Result<Outcome, Fault>
-    ensures exact { CanAct machine.old → AreGiven machine.old event (acts.Related op pointers left.now right.now) → Does machine.old machine.new event (acts.Related op pointers left.now right.now) result }
-    ensures changes { ChangesOnly machine.old machine.new event.node (acts.Related op pointers left.now right.now) }
-{
-    if pointers {
-        pointer_relation(machine, op, left, right, event)
-    } else {
-        integer_relation(machine, op, left, right, event)
-    }
-}
-
-#[inline(never)]
-fn pointer_relation(
-    machine: &mut Machine,
-    op: RelOp,
-    left: &Operand,
-    right: &Operand,
-    event: Event,
-) -> Result<Outcome, Fault>
-    ensures exact { CanAct machine.old → AreGiven machine.old event (acts.Related op true left.now right.now) → Does machine.old machine.new event (acts.Related op true left.now right.now) result }
-    ensures changes { ChangesOnly machine.old machine.new event.node (acts.Related op true left.now right.now) }
-{
-    let left = machine.pointer(*left);
-    let right = machine.pointer(*right);
-    let first = left.value();
-    let second = right.value();
-    let t = &mut machine.items;
-    let value = related(&mut machine.memory, op, true, &first, &second, t)?;
-    machine.keep(event.node, value);
-    Ok(Outcome::Done)
-}
-
-#[inline(never)]
-fn integer_relation(
-    machine: &mut Machine,
-    op: RelOp,
-    left: &Operand,
-    right: &Operand,
-    event: Event,
-) -> Result<Outcome, Fault>
-    ensures exact { CanAct machine.old → AreGiven machine.old event (acts.Related op false left.now right.now) → Does machine.old machine.new event (acts.Related op false left.now right.now) result }
-    ensures changes { ChangesOnly machine.old machine.new event.node (acts.Related op false left.now right.now) }
-{
-    let left = machine.integer(*left);
-    let right = machine.integer(*right);
-    let value = number(is_in_order(op, left, right));
-    machine.keep(event.node, value);
-    Ok(Outcome::Done)
-}
-
-fn is_in_order(op: RelOp, left: i128, right: i128) -> bool
-    ensures { result ≡ in_order op left right }
-{
-    match op {
-        RelOp::Less => left < right,
-        RelOp::Greater => right < left,
-        RelOp::LessEq => left <= right,
-        RelOp::GreaterEq => right <= left,
-    }
-}
-
 #[inline(never)]
 fn equality(
     machine: &mut Machine,
@@ -584,37 +516,6 @@ fn taken(machine: &mut Machine, room: u32) -> Result<Value, NoMemory>
     match machine.values.get_mut(at) {
         Some(place) => Ok(std::mem::replace(place, Value::Nothing)),
         None => Err(NoMemory),
-    }
-}
-
-// An Update's value, and in its room what it will store.
-#[inline(never)]
-fn update(
-    machine: &mut Machine,
-    change: Change,
-    old: bool,
-    ty: &Ty,
-    event: Event,
-    place: &Operand,
-    operand: &Operand,
-    room: u32,
-) -> Result<Outcome, Fault>
-    ensures exact { CanAct machine.old → AreGiven machine.old event (acts.Change change old ty.entry place.now operand.now room) → Does machine.old machine.new event (acts.Change change old ty.entry place.now operand.now room) result }
-    ensures changes { ChangesOnly machine.old machine.new event.node (acts.Change change old ty.entry place.now operand.now room) }
-{
-    let place = machine.pointer(*place);
-    let operand = machine.integer(*operand);
-    let (t, spare) = (&mut machine.items, &mut machine.spare);
-    let memory = &mut machine.memory;
-    let both = changed(memory, change, ty, event, place, operand, t, spare)?;
-    let (before, after) = both;
-    if old {
-        machine.keep(room, after);
-        machine.keep(event.node, before);
-        Ok(Outcome::Done)
-    } else {
-        machine.keep(event.node, after);
-        Ok(Outcome::Done)
     }
 }
 

@@ -7,6 +7,8 @@ mod choices;
 mod fault;
 mod frames;
 mod laws;
+mod relations;
+mod updates;
 
 pub use acts::{Outcome, perform, put_at};
 pub use choices::{choose, choose_at_once};

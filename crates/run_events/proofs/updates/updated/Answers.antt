@@ -9,7 +9,7 @@ use Rattle.run_events.specs.declared.acts.Outcome.TheVariants as outcome
 use Rattle.run_events.specs.Performs.{ChangesOnly, Does}
 use Rattle.run_events.proofs.Valued.{both_change, both_done, update_did, update_fails}
 use Rattle.run_events.proofs.Rooms.{room_changes, room_done, touches_all}
-use Rattle.run_events.proofs.acts.update.Goals as goal
+use Rattle.run_events.proofs.updates.updated.Goals as goal
 
 pub returns-in_err-both-clause-exact : goal.returns-in_err-both-clause-exact
 returns-in_err-both-clause-exact c =

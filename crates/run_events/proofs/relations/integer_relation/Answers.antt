@@ -11,7 +11,7 @@ use Rattle.run_events.specs.Acts.{given_by}
 use Rattle.run_events.proofs.Valued.{at_once}
 use Rattle.run_events.proofs.Doing.{given_as}
 use Rattle.run_events.proofs.Rooms.{room_changes, room_done}
-use Rattle.run_events.proofs.acts.integer_relation.Goals as goal
+use Rattle.run_events.proofs.relations.integer_relation.Goals as goal
 
 pub returns-clause-exact : goal.returns-clause-exact
 returns-clause-exact c = λ can given.

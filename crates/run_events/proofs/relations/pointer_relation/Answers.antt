@@ -7,7 +7,7 @@ use Rattle.run_acts.specs.Scripts.{less_act}
 use Rattle.run_acts.specs.Views.{value_in}
 use Rattle.run_events.proofs.Doing.{by_script, places_same, pointer_is, pointer_made}
 use Rattle.run_events.proofs.Rooms.{room_changes, room_done, touches_all}
-use Rattle.run_events.proofs.acts.pointer_relation.Goals as goal
+use Rattle.run_events.proofs.relations.pointer_relation.Goals as goal
 
 pub returns-in_err-value-clause-exact : goal.returns-in_err-value-clause-exact
 returns-in_err-value-clause-exact c =
