@@ -11,6 +11,7 @@ use ub_base::NoMemory;
 pub fn choose(machine: &mut Machine, code: &Code, number: u32) -> Result<(), NoMemory>
     requires there { number < length code.now.tables.choices.items }
     ensures chosen { OnOk result (Chooses code.now number machine.old machine.new) }
+    ensures rest { OnOk result (machine.new ≡ record machine.old { begun = machine.new.begun }) }
 {
     let choice = code.choice(number);
     let (way, chosen) = code.way(number, machine.truth(choice.test));

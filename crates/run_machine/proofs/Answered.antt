@@ -157,7 +157,7 @@ module _ (steps : EventSteps) (world : World) (meaning : Option ℕ → Meaning)
   abbrev who : Event
   who = event_at now d.place
 
-  at : (z : Option Stage) × (now ≡ staged m z)
+  pub at : (z : Option Stage) × (now ≡ staged m z)
   at = staged_so m now s d s.straight t.goes
 
   passes : IsPast s.straight m s d past
@@ -295,14 +295,14 @@ event_comes stands world meaning old new st e s laid u o taken = λ rows.
     )
 
 -- ---- what the act did, from where the cursor has passed it
-abbrev Did : Machine → Due → Machine → Machine → Result Done_as Fault → Type 0
+abbrev pub Did : Machine → Due → Machine → Machine → Result Done_as Fault → Type 0
 Did now d start done p =
     ((rows : List Row) → CanPerform rows start → AreGiven start (event_at now d.place) d.act → is_body_act d.act ≡ false
     → Performs rows start done (event_at now d.place) d.act p)
     × (is_body_act d.act ≡ false → ChangesOnly start done d.place.node d.act)
     × (is_body_act d.act ≡ false → gives_value d.act ≡ false → done.values ≡ start.values)
 
-did_so : (now : Machine) (d : Due) (start done : Machine) (p q : Result Done_as Fault) → start ≡ past_event now → p ≡ q → Did now d start done p →
+pub did_so : (now : Machine) (d : Due) (start done : Machine) (p q : Result Done_as Fault) → start ≡ past_event now → p ≡ q → Did now d start done p →
     Did now d (past_event now) done q
 did_so now d start done p q is same did =
     subst (λ (k : Machine). Did now d k done q) is (subst (λ (r : Result Done_as Fault). Did now d start done r) same did)

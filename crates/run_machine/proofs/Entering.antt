@@ -148,7 +148,7 @@ abbrev entry_act : World → Local → List Decl → Script Value
 entry_act world f ds = bear_all world f.scene (suc f.scene.turn) 0 ds (pass_all world f.scene (suc f.scene.turn) 0 ds f.arguments)
 
 -- its objects are created, and the first of them take the arguments
-abbrev Enters_by : (old new : Machine) → BlockCode → Type 0
+abbrev pub Enters_by : (old new : Machine) → BlockCode → Type 0
 Enters_by old new c =
     (middle : Machine)
     × AreNew old (part_of old.code.now.tables.objects.items c.objects) c.first (length (part_of old.code.now.tables.objects.items c.objects)) middle
@@ -249,6 +249,10 @@ module _ (world : World) (meaning : Option ℕ → Meaning) (m new : Machine) (b
 
   passed : HavePassed mid params c.first (length params) new
   passed = e.2 can_pass
+
+  -- rows stay
+  pub passed_rows : RowsStay m.memory.rows new.memory.rows
+  passed_rows x r at = passed.kept.rows x r (d.kept.rows x r at)
 
   module _ (rows : RowsStay new.memory.rows world.rows) where
     rows_mid : RowsStay mid.memory.rows world.rows

@@ -89,7 +89,7 @@ way_noted : (straight : Bool) (m n : Machine) (u : Place) → NotesWay straight 
 way_noted true m n u notes = subst (λ (k : Machine). k ≡ record m { strayed = k.strayed }) (sym notes) refl
 way_noted false m n u notes = notes.rest
 
-in_noted : (o : Option Stage) (m n : Machine) (u : Place) → NotesIn o m u n → n ≡ record m { strayed = n.strayed }
+pub in_noted : (o : Option Stage) (m n : Machine) (u : Place) → NotesIn o m u n → n ≡ record m { strayed = n.strayed }
 in_noted None m n u notes = absurd notes
 in_noted (Some s) m n u notes = way_noted s.straight m n u notes
 

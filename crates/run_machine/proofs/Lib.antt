@@ -34,6 +34,8 @@ mod Raised
 mod Results
 mod Returning
 mod Rooms
+mod RowsStand
+mod RowsTaken
 mod RootValue
 mod Selecting
 mod Settling

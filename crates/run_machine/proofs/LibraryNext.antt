@@ -31,12 +31,12 @@ use Rattle.run_machine.specs.Taking.{at_next}
 use Rattle.run_machine.proofs.Onward.{at_ready, came_next, cleared_open, ev_place}
 
 -- the machine has gone on to it, and may do it
-record Comes (world : World) (meaning : Option ℕ → Meaning) (old : Machine) (is : List Item) (st : State) (e : Begun) (s : Stage) (laid : Expression)
+pub record Comes (world : World) (meaning : Option ℕ → Meaning) (old : Machine) (is : List Item) (st : State) (e : Begun) (s : Stage) (laid : Expression)
     (due : Bor Due) (mid : Machine) (u : Place) : Type 0 where
-  same : due.now.place ≡ u
-  may : MayCallLibrary world meaning (untouched old) st e s laid due.now (record mid { items = is })
+  pub same : due.now.place ≡ u
+  pub may : MayCallLibrary world meaning (untouched old) st e s laid due.now (record mid { items = is })
 
-comes : NextIsPermitted → (old mid : Machine) (is : List Item) (next : Option (Bor Due)) (due : Bor Due) → Follows old mid next → next ≡ Some due → is ≡ []
+pub comes : NextIsPermitted → (old mid : Machine) (is : List Item) (next : Option (Bor Due)) (due : Bor Due) → Follows old mid next → next ≡ Some due → is ≡ []
     → TakesCanonical old (place_of next) → (world : World) (meaning : Option ℕ → Meaning) (st : State) (e : Begun) (s : Stage) (laid : Expression) (u : Place)
     → MayCallLibraryNext world meaning old st e s laid → canonical_pick world st.top st.top.begun ≡ Ev u → Comes world meaning old is st e s laid due mid u
 comes permits old mid is next due f some none canonical world meaning st e s laid u asks picks =

@@ -238,12 +238,12 @@ module _ (stands : LibraryStands) (steps : LibrarySteps) (more : CallsMoreRows) 
     acts_by = ap (event_act world st.top.scene e d.place) call.body.node ∙ if_true (is_body d.place.kind) _ _ (ap is_body call.body.kind)
 
     -- either the definitions raise a clause, or the function is called
-    record Raising : Type 0 where
-      clause : Clause
-      ran : run world.rows (event_act world st.top.scene e d.place (at_node 0 e.root d.place.node)) st.store ≡ Raised clause
-      only : RaisesOnly clause q
+    pub record Raising : Type 0 where
+      pub clause : Clause
+      pub ran : run world.rows (event_act world st.top.scene e d.place (at_node 0 e.root d.place.node)) st.store ≡ Raised clause
+      pub only : RaisesOnly clause q
 
-    record Calling : Type 0 where
+    pub record Calling : Type 0 where
       is_call : IsLibraryCall world st.top.scene e d.place g (types_seen call.code.types) (later_values all)
       does : CallsLibrary past g os call.code.types who done q
 
@@ -306,7 +306,7 @@ module _ (stands : LibraryStands) (steps : LibrarySteps) (more : CallsMoreRows) 
     leads (Some ty) typed (Some found) called runs =
         by_checks ty typed found called (is_some found.1.body || is_some found.1.library) refl (world.agree found.1.ty ty) refl runs
 
-    led : Raising ⊎ Calling
+    pub led : Raising ⊎ Calling
     led = leads (function_type (target (first_type call.body.operands))) refl (called_by world all) refl found_so
 
     -- ---- the call
@@ -341,7 +341,7 @@ module _ (stands : LibraryStands) (steps : LibrarySteps) (more : CallsMoreRows) 
     can = subst (λ (k : Machine). CanCall k g hs) (sym past_is) (can_of (passed_stage at.0) made_in_m)
 
     module _ (c : Calling) where
-      kept : Keeps m.memory done.memory
+      pub kept : Keeps m.memory done.memory
       kept = subst (λ (k : Kept). Keeps k done.memory) memory_is (c.does.kept hs args.given can)
 
       comes : (a : Act LibValue) → call_in past done g who (types_seen call.code.types) hs ≡ a → Extends done.memory.rows world.rows
@@ -464,7 +464,7 @@ module _ (stands : LibraryStands) (steps : LibrarySteps) (more : CallsMoreRows) 
         c.does.does (hs (Ok outcome.Started) same world meaning m st e s laid t) (args (Ok outcome.Started) same world meaning m st e s laid t).given
         (can (Ok outcome.Started) same world meaning m st e s laid t)
 
-    raised_by : (c : Clause) (same : p ≡ Err (fault.Raise c)) (r : Raising (Err (fault.Raise c)) same world meaning m st e s laid t)
+    pub raised_by : (c : Clause) (same : p ≡ Err (fault.Raise c)) (r : Raising (Err (fault.Raise c)) same world meaning m st e s laid t)
         → (trace : List Entry) × (step world st (Ev d.place) ≡ Raises c trace)
     raised_by c same r = (
       entry_of world st.top (Ev d.place) [] ∷ st.trace,

@@ -232,15 +232,17 @@ enters_cleared world m is st (Enter b ds ∷ rest) c = record {
 }
 enters_cleared world m is st (w ∷ rest) c = tt
 
-pub control_answers : (r : Result (Option ℕ) Halt) (o : Option Step) (s : Step) (m : Machine) (below : List (List Kept_work)) (now : List Kept_work)
-    (n : Machine) → m.top.stage ≡ None → o ≡ Some s → below ≡ m.work.below →
-    ((k : Meaning) → readied k o (todo_of k now) ≡ ready_work (todo_of k m.work.now)) → AnswersStep s (with_work m below now) n r → AnswersControl m n r
-control_answers r o s m below now n none is same ready does = λ world meaning st stands goes items.
+-- of the machine that has taken it off
+pub has_taken : (o : Option Step) (s : Step) (m : Machine) (below : List (List Kept_work)) (now : List Kept_work) → m.top.stage ≡ None → o ≡ Some s →
+    below ≡ m.work.below → ((k : Meaning) → readied k o (todo_of k now) ≡ ready_work (todo_of k m.work.now)) → (world : World)
+    (meaning : Option ℕ → Meaning) (st : State) → Stands world meaning m st → MayGoOn world m st → m.items ≡ [] →
+    HasTaken world meaning s (with_work m below now) st
+has_taken o s m below now none is same ready world meaning st stands goes items =
     let mg = meaning m.top.function in
     let next = ap (λ (p : Option Step). readied mg p (todo_of mg now)) (sym is) ∙ ready mg in
     let closed = none_open world mg m (length (reverse m.below.items)) m.top m.top.stage st.top.scene st.top.begun stands.frames.0.begun none in
     let can = subst (λ (b : Option Begun). CanGoOn world m st b) closed goes.can in
-    does world meaning st (record {
+    record {
       before = m.work.now;
       stands = before_stands world meaning m below now st same stands;
       next = next;
@@ -251,7 +253,13 @@ control_answers r o s m below now n none is same ready does = λ world meaning s
       enters = enters_as world m below now st (step_of mg s ∷ todo_of mg now)
           (subst (λ (t : Todo). CanEnterFirst world m st t) (sym (next ∙ stands.frames.0.control.ready)) can.enters);
       ends = λ e. ends_as m below now st (can.ends (sym (ap is_last (next ∙ stands.frames.0.control.ready)) ∙ e));
-    })
+    }
+
+pub control_answers : (r : Result (Option ℕ) Halt) (o : Option Step) (s : Step) (m : Machine) (below : List (List Kept_work)) (now : List Kept_work)
+    (n : Machine) → m.top.stage ≡ None → o ≡ Some s → below ≡ m.work.below →
+    ((k : Meaning) → readied k o (todo_of k now) ≡ ready_work (todo_of k m.work.now)) → AnswersStep s (with_work m below now) n r → AnswersControl m n r
+control_answers r o s m below now n none is same ready does = λ world meaning st stands goes items.
+    does world meaning st (has_taken o s m below now none is same ready world meaning st stands goes items)
 
 pub not_both : {A : Type 0} (o : Option A) (x : A) → o ≡ None → o ≡ Some x → ⊥
 not_both None x none some = cc
@@ -281,7 +289,7 @@ event_untold follows m n k next due r f is = λ world meaning st stands goes.
     absurd (no_event due.now.place (event ∙ picks ∙ control_first world st.top st.top.begun goes.control))
 
 -- a control step is taken by the machine that has touched nothing
-cleared_stands : (world : World) (meaning : Option ℕ → Meaning) (m n : Machine) (is : List Item) (st : State) → n ≡ m → Stands world meaning m st →
+pub cleared_stands : (world : World) (meaning : Option ℕ → Meaning) (m n : Machine) (is : List Item) (st : State) → n ≡ m → Stands world meaning m st →
     Stands world meaning (record n { items = is }) st
 cleared_stands world meaning m n is st same s =
     subst (λ (k : Machine). Stands world meaning (record k { items = is }) st) (sym same) (items_stand world meaning m is m.spare st s)
@@ -308,7 +316,7 @@ can_cleared world m is st (Some e) can = record {
   usable = λ stage laid here at. let u = can.usable stage laid here at in record { firsts = u.firsts; value = u.value; named = u.named };
 }
 
-cleared_goes : (world : World) (m n : Machine) (is : List Item) (st : State) → n ≡ m → MayGoOn world m st → MayGoOn world (record n { items = is }) st
+pub cleared_goes : (world : World) (m n : Machine) (is : List Item) (st : State) → n ≡ m → MayGoOn world m st → MayGoOn world (record n { items = is }) st
 cleared_goes world m n is st same goes =
     subst (λ (k : Machine). MayGoOn world (record k { items = is }) st) (sym same)
     (record { within = goes.within; control = goes.control; can = can_cleared world m is st st.top.begun goes.can })

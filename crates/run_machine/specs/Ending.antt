@@ -132,6 +132,7 @@ pub record EndsRun (old new : Machine) (status : ℕ) : Type 0 where
   pub exits : (k : Kept) → status ≡ status_of (value_in k value)
   pub items : new.items ≡ old.items
   pub output : new.streams ≡ old.streams
+  pub memory : new.memory ≡ old.memory
 
 abbrev pub EndsFrame : (old new : Machine) → Result (Option ℕ) Halt → Type 0
 EndsFrame old new (Ok None) = GoesBack old new

@@ -1,5 +1,6 @@
 pub mod Picks
 pub mod Raising
+pub mod Rows
 pub mod Moving
 pub mod Jumps
 pub mod Answering

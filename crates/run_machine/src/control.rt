@@ -16,6 +16,7 @@ ghost use Rattle.run_machine.specs.Keeping.{FillsObjects, GoesFurther, KeepsCont
 ghost use Rattle.run_machine.specs.Leaving.{GoesStill, LeavesBlock};
 ghost use Rattle.run_machine.specs.Passing.{IsOnePassed, PassesAll, with_arguments};
 ghost use Rattle.run_machine.specs.Moving.{GoesOn, IsGone, StepLeaves, TakesStep};
+ghost use Rattle.run_machine.specs.Rows.{GrowsByControl, GrowsByStep, KeepsMemory, KeepsTaken};
 ghost use Rattle.run_machine.specs.Settling.{HasSelected, HasUsed, left_by};
 ghost use Rattle.run_state.specs.Operands.{operand_in};
 ghost use Rattle.prov_memory.specs.declared.value.Value.{Value as Kept_value};
@@ -45,6 +46,7 @@ pub fn control_step(machine: &mut Machine) -> Result<Option<u8>, Halt>
     ensures step { OnOk result (machine.old.top.stage ≡ None → (m : Meaning) → TakesStep m machine.old.jumps.links.items machine.old.work machine.new.work) }
     ensures answers { AnswersControl machine.old machine.new result }
     ensures keeps { KeepsControl machine.old machine.new result }
+    ensures rows { GrowsByControl machine.old machine.new result }
 {
     match machine.top.stage {
         Some(stage) => settle(machine, stage),
@@ -59,6 +61,7 @@ fn take_step<'c>(machine: &mut Machine<'_, 'c>, step: Step<'c>) -> Result<Option
     ensures leaves { OnOk result ((m : Meaning) → StepLeaves m machine.old.jumps.links.items step.entry machine.old.work machine.new.work) }
     ensures answers { AnswersStep step.entry machine.old machine.new result }
     ensures keeps { machine.old.top.stage ≡ None → KeepsControl machine.old machine.new result }
+    ensures rows { GrowsByStep step.entry machine.old machine.new result }
 {
     match step {
         Step::Begin(number, how) => begin(machine, number, how),
@@ -83,6 +86,7 @@ fn go_on(machine: &mut Machine) -> Result<Option<u8>, Halt>
     ensures still { (m : Meaning) → is_nothing (ready_work (todo_of m machine.old.work.now)) ≡ false → GoesStill machine.old machine.new result }
     ensures ends { (m : Meaning) → is_nothing (ready_work (todo_of m machine.old.work.now)) ≡ true → AnswersEnd machine.old machine.new result }
     ensures further { GoesFurther machine.old machine.new result }
+    ensures memory { KeepsMemory machine.old machine.new result }
 {
     if machine.work.is_over()? {
         end_frame(machine)
@@ -96,6 +100,7 @@ fn go(machine: &mut Machine, how: Move) -> Result<Option<u8>, Halt>
     ensures now { OnOk result ((m : Meaning) → todo_of m machine.new.work.now ≡ moved how (todo_of m machine.old.work.now)) }
     ensures answers { AnswersStep (step_of_move how) machine.old machine.new result }
     ensures rest { OnOk result (machine.new ≡ record machine.old { work = machine.new.work }) }
+    ensures memory { KeepsMemory machine.old machine.new result }
 {
     machine.work.go(how)?;
     Ok(None)
@@ -105,6 +110,7 @@ fn go_to(machine: &mut Machine, label: u32) -> Result<Option<u8>, Halt>
     ensures gone { OnOk result ((m : Meaning) → IsGone m machine.old.jumps.links.items machine.old.work machine.new.work) }
     ensures answers { AnswersStep (steps.GoTo label) machine.old machine.new result }
     ensures rest { OnOk result (machine.new ≡ record machine.old { work = machine.new.work }) }
+    ensures memory { KeepsMemory machine.old machine.new result }
 {
     let Some(function) = machine.top.function else {
         return Err(Halt::NoMemory);
@@ -282,6 +288,7 @@ fn declare(machine: &mut Machine, object: u32) -> Result<Option<u8>, Halt>
     ensures work { machine.new.work ≡ machine.old.work }
     ensures answers { AnswersStep (steps.Unwrite object) machine.old machine.new result }
     ensures rest { OnOk result (machine.new ≡ record machine.old { memory = machine.new.memory; items = machine.new.items }) }
+    ensures rows { KeepsTaken machine.old machine.new result }
 {
     let Some(block) = machine.work.block() else {
         return Err(Halt::NoMemory);
@@ -297,6 +304,7 @@ fn begin<'c>(machine: &mut Machine<'_, 'c>, number: u32, how: Use<'c>) -> Result
     ensures work { machine.new.work ≡ machine.old.work }
     ensures answers { AnswersStep (steps.Begin number how.entry) machine.old machine.new result }
     ensures keeps { machine.old.top.stage ≡ None → KeepsControl machine.old machine.new result }
+    ensures memory { KeepsMemory machine.old machine.new result }
 {
     law_view();
     law_cursor();
@@ -379,6 +387,7 @@ fn show_begun<'p>(
 fn settle(machine: &mut Machine, stage: Stage) -> Result<Option<u8>, Halt>
     ensures answers { machine.old.top.stage ≡ Some stage → AnswersControl machine.old machine.new result }
     ensures keeps { machine.old.top.stage ≡ Some stage → KeepsControl machine.old machine.new result }
+    ensures memory { KeepsMemory machine.old machine.new result }
 {
     law_operands();
     let operand = stage.value;

@@ -7,6 +7,7 @@ ghost use Rattle.run_machine.specs.Library.{AnswersLibrary};
 ghost use Rattle.run_machine.specs.LibraryCompletes.{CompletesLibrary};
 ghost use Rattle.run_machine.specs.Picks.{event_at, IsOfEvent};
 ghost use Rattle.run_machine.specs.Raising.{RaisesAt};
+ghost use Rattle.run_machine.specs.Rows.{GrowsAt, KeepsMemory};
 ghost use Rattle.run_machine.specs.Starting.{AnswersBody, AnswersCall, FunctionStands, FunctionSteps};
 ghost use Rattle.run_machine.specs.Taking.{past_event, AnswersEvent, DecidesBy, FollowsEvent};
 
@@ -58,6 +59,7 @@ pub fn take_event(machine: &mut Machine, due: &Due) -> Result<Pick, Halt>
     ensures libraries { AnswersLibrary due.now machine.old machine.new result }
     ensures completes_libraries { CompletesLibrary due.now machine.old machine.new result }
     ensures raised { RaisesAt machine.old due.now result }
+    ensures rows { GrowsAt due.now machine.old machine.new result }
 {
     law_events();
     law_bodies();
@@ -92,6 +94,7 @@ fn finish_event(
     requires named { IsDueOf code.now.tables due.now }
     ensures follows { FollowsEvent code.now event status due.now machine.old machine.new result }
     ensures completes { CompletesPick due.now machine.new result }
+    ensures memory { KeepsMemory machine.old machine.new result }
 {
     note(machine, due.place)?;
     choose_at(machine, code, due)?;
@@ -103,6 +106,7 @@ fn finish_event(
 fn choose_at(machine: &mut Machine, code: &Code, due: &Due) -> Result<(), NoMemory>
     requires named { IsDueOf code.now.tables due.now }
     ensures decides { OnOk result (DecidesBy code.now due.now.choice machine.old machine.new) }
+    ensures memory { OnOk result (machine.new.memory ≡ machine.old.memory) }
 {
     match due.choice {
         Some(choice) => choose(machine, code, choice),

@@ -4,6 +4,7 @@ ghost use Rattle.run_control.specs.Stacked.{Closes};
 ghost use Rattle.run_machine.specs.Ended.{AnswersEnd};
 ghost use Rattle.run_machine.specs.Ending.{EndsFrame, HasGiven, LeavesValue, depth_without};
 ghost use Rattle.run_machine.specs.Keeping.{GoesFurther};
+ghost use Rattle.run_machine.specs.Rows.{KeepsMemory};
 
 use crate::events::note;
 use c_typed::Place;
@@ -21,6 +22,7 @@ pub fn end_frame(machine: &mut Machine) -> Result<Option<u8>, Halt>
     ensures work { OnOk result (Closes machine.old.work.below true machine.new.work) }
     ensures answers { AnswersEnd machine.old machine.new result }
     ensures further { GoesFurther machine.old machine.new result }
+    ensures memory { KeepsMemory machine.old machine.new result }
 {
     law_cursor();
     close_frame(machine)

@@ -21,6 +21,7 @@ ghost use Rattle.run_machine.specs.Keeping.{KeepsPick};
 ghost use Rattle.run_machine.specs.Library.{AnswersNextLibrary};
 ghost use Rattle.run_machine.specs.LibraryCompletes.{CompletesNextLibrary};
 ghost use Rattle.run_machine.specs.Raising.{RaisesNext};
+ghost use Rattle.run_machine.specs.Rows.{GrowsByControl, GrowsNext};
 ghost use Rattle.run_machine.specs.Starting.{AnswersNextBody, AnswersNextCall};
 ghost use Rattle.run_machine.specs.Straying.{Reaches, TakesSo};
 ghost use Rattle.run_machine.specs.Taking.{AnswersNext};
@@ -52,6 +53,7 @@ pub fn canonical(machine: &mut Machine) -> Result<Pick, Halt>
     ensures libraries { AnswersNextLibrary machine.old machine.new result }
     ensures completes_libraries { CompletesNextLibrary machine.old machine.new result }
     ensures raises { RaisesNext machine.old result }
+    ensures rows { GrowsNext machine.old machine.new result }
 {
     law_picks();
     let next = follow(machine)?;
@@ -68,6 +70,7 @@ fn take_control(machine: &mut Machine) -> Result<Pick, Halt>
     ensures step { IfOk result IsStep }
     ensures answers { TakesControl machine.old machine.new result }
     ensures keeps { KeepsPick machine.old machine.new result }
+    ensures rows { GrowsByControl machine.old machine.new result }
 {
     match control_step(machine) {
         Ok(status) => Ok(Pick::Step(status)),

@@ -1,3 +1,5 @@
+use Rattle.std.proofs.Common.{◌∙◌, ap}
+use Rattle.run_state.specs.declared.machine.Machine.{Machine}
 use Rattle.run_machine.proofs.Beginning.{begin_answers}
 use Rattle.run_machine.proofs.Commencing.{begins_so}
 use Rattle.run_machine.proofs.control.begin.Goals as goal
@@ -14,3 +16,8 @@ returns-clause-keeps c = λ closed.
     c.saturating_add-size.result c.args.how _ _ closed c.in-Some.ensures.found.0 c.in-Some.ensures.own c.in-Some.ensures.found.1 c.saturating_add-machine.ensures
     c.in_ok-grow.ensures.rest c.saturating_add-size.ensures c.in_ok-grow.ensures.count c.grow.ensures.fewest c.in_ok-show_begun.ensures.shown
     c.in_ok-choose_at_once.ensures.chosen
+
+pub returns-clause-memory : goal.returns-clause-memory
+returns-clause-memory c =
+    ap (λ (k : Machine). k.memory) c.in_ok-choose_at_once.ensures.chosen.rest ∙ ap (λ (k : Machine). k.memory) c.in_ok-show_begun.ensures.shown.rest
+    ∙ ap (λ (k : Machine). k.memory) c.in_ok-grow.ensures.rest

@@ -11,4 +11,5 @@ returns c = record {
   answers = goto_answers c.args.machine.now c.in-Some.function c.args.label c.in_ok-target.target c.deref.result.now c.go_to.new.self.below
       c.go_to.new.self.now c.in-Some.is c.deref.ensures.value c.in_ok-go_to.ensures.below c.in_ok-target.ensures c.in_ok-go_to.ensures.now;
   rest = refl;
+  memory = refl;
 }

@@ -3,6 +3,7 @@ use Rattle.run_control.specs.declared.work.Step.TheVariants as taking
 use Rattle.run_machine.proofs.Entering.{enter_answers}
 use Rattle.run_machine.proofs.Keeping.{keeps_going, keeps_left, keeps_nothing, keeps_stays, keeps_writing}
 use Rattle.run_machine.proofs.Left.{block_answers}
+use Rattle.run_machine.proofs.RowsStand.{entered_rows, left_rows, taken_same}
 use Rattle.run_machine.proofs.Staying.{by_step, nothing_answers}
 use Rattle.run_machine.proofs.Steering.{block_left, gone_back, gone_on, gone_out, label_gone}
 use Rattle.run_machine.proofs.control.take_step.Goals as goal
@@ -15,12 +16,19 @@ returns-in-Begin-clause-answers c =
 pub returns-in-Begin-clause-keeps : goal.returns-in-Begin-clause-keeps
 returns-in-Begin-clause-keeps c = c.begin.ensures.keeps
 
+pub returns-in-Begin-clause-rows : goal.returns-in-Begin-clause-rows
+returns-in-Begin-clause-rows c = λ world meaning st h. taken_same c.args.machine.now c.begin.new.machine c.begin.result c.begin.ensures.memory
+
 pub returns-in-Enter-clause-answers : goal.returns-in-Enter-clause-answers
 returns-in-Enter-clause-answers c =
     enter_answers c.args.machine.now c.enter.new.machine c.args.step c.in-Enter.block _ c.enter.result c.in-Enter.is refl c.enter.ensures.enters
 
 pub returns-in-Enter-clause-keeps : goal.returns-in-Enter-clause-keeps
 returns-in-Enter-clause-keeps c = λ closed. keeps_stays c.args.machine.now c.enter.new.machine c.enter.result closed c.enter.ensures.stays
+
+pub returns-in-Enter-clause-rows : goal.returns-in-Enter-clause-rows
+returns-in-Enter-clause-rows c =
+    entered_rows c.args.machine.now c.enter.new.machine c.args.step c.in-Enter.block _ c.enter.result c.in-Enter.is refl c.enter.ensures.enters
 
 pub returns-in_ok-leave-in-Leave : goal.returns-in_ok-leave-in-Leave
 returns-in_ok-leave-in-Leave c = record {
@@ -31,6 +39,8 @@ returns-in_ok-leave-in-Leave c = record {
   keeps = λ closed.
       keeps_left c.args.machine.now c.leave.new.machine c.go_on.new.machine c.go_on.result closed c.in_ok-leave-in-Leave.ensures.lives.2.rest
       c.go_on.ensures.further;
+  rows = λ world meaning st h.
+      left_rows c.args.machine.now c.leave.new.machine c.go_on.new.machine _ c.go_on.result c.in_ok-leave-in-Leave.ensures.lives c.go_on.ensures.memory;
 }
 
 pub returns-in-Unwrite-clause-answers : goal.returns-in-Unwrite-clause-answers
@@ -41,6 +51,9 @@ returns-in-Unwrite-clause-answers c =
 pub returns-in-Unwrite-clause-keeps : goal.returns-in-Unwrite-clause-keeps
 returns-in-Unwrite-clause-keeps c = λ closed. keeps_writing c.args.machine.now c.declare.new.machine c.declare.result closed c.declare.ensures.rest
 
+pub returns-in-Unwrite-clause-rows : goal.returns-in-Unwrite-clause-rows
+returns-in-Unwrite-clause-rows c = λ world meaning st h. c.declare.ensures.rows
+
 pub returns-in-Nothing-clause-answers : goal.returns-in-Nothing-clause-answers
 returns-in-Nothing-clause-answers c =
     by_step c.args.step taking.Nothing c.args.machine.now c.args.machine.now (Ok None) c.in-Nothing.is (nothing_answers c.args.machine.now)
@@ -48,12 +61,16 @@ returns-in-Nothing-clause-answers c =
 pub returns-in-Nothing-clause-keeps : goal.returns-in-Nothing-clause-keeps
 returns-in-Nothing-clause-keeps c = keeps_nothing c.args.machine.now
 
+pub returns-in-Nothing-clause-rows : goal.returns-in-Nothing-clause-rows
+returns-in-Nothing-clause-rows c = λ world meaning st h. (λ x r at. at)
+
 pub returns-in-GoTo : goal.returns-in-GoTo
 returns-in-GoTo c = record {
   leaves = label_gone c.go_to.result c.args.machine.now.jumps.links.items c.args.step c.in-GoTo.label c.args.machine.now.work c.go_to.new.machine.work
       c.in-GoTo.is c.go_to.ensures.gone;
   answers = by_step c.args.step (taking.GoTo c.in-GoTo.label) c.args.machine.now c.go_to.new.machine c.go_to.result c.in-GoTo.is c.go_to.ensures.answers;
   keeps = λ closed. keeps_going c.args.machine.now c.go_to.new.machine c.go_to.result closed c.go_to.ensures.rest;
+  rows = λ world meaning st h. taken_same c.args.machine.now c.go_to.new.machine c.go_to.result c.go_to.ensures.memory;
 }
 
 pub returns-in-GoOut : goal.returns-in-GoOut
@@ -62,6 +79,7 @@ returns-in-GoOut c = record {
       c.go.ensures.below c.go.ensures.now;
   answers = by_step c.args.step taking.GoOut c.args.machine.now c.go.new.machine c.go.result c.in-GoOut.is c.go.ensures.answers;
   keeps = λ closed. keeps_going c.args.machine.now c.go.new.machine c.go.result closed c.go.ensures.rest;
+  rows = λ world meaning st h. taken_same c.args.machine.now c.go.new.machine c.go.result c.go.ensures.memory;
 }
 
 pub returns-in-GoOn : goal.returns-in-GoOn
@@ -70,6 +88,7 @@ returns-in-GoOn c = record {
       c.go-in-GoOn.ensures.below c.go-in-GoOn.ensures.now;
   answers = by_step c.args.step taking.GoOn c.args.machine.now c.go-in-GoOn.new.machine c.go-in-GoOn.result c.in-GoOn.is c.go-in-GoOn.ensures.answers;
   keeps = λ closed. keeps_going c.args.machine.now c.go-in-GoOn.new.machine c.go-in-GoOn.result closed c.go-in-GoOn.ensures.rest;
+  rows = λ world meaning st h. taken_same c.args.machine.now c.go-in-GoOn.new.machine c.go-in-GoOn.result c.go-in-GoOn.ensures.memory;
 }
 
 pub returns-in-GoBack : goal.returns-in-GoBack
@@ -79,4 +98,5 @@ returns-in-GoBack c = record {
   answers = by_step c.args.step taking.GoBack c.args.machine.now c.go-in-GoBack.new.machine c.go-in-GoBack.result c.in-GoBack.is
       c.go-in-GoBack.ensures.answers;
   keeps = λ closed. keeps_going c.args.machine.now c.go-in-GoBack.new.machine c.go-in-GoBack.result closed c.go-in-GoBack.ensures.rest;
+  rows = λ world meaning st h. taken_same c.args.machine.now c.go-in-GoBack.new.machine c.go-in-GoBack.result c.go-in-GoBack.ensures.memory;
 }

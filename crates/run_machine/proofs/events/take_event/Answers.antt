@@ -7,6 +7,7 @@ use Rattle.run_machine.proofs.Callees.{call_done, call_ended, call_started, call
 use Rattle.run_machine.proofs.LibraryCompletes.{completed_called}
 use Rattle.run_machine.proofs.LibraryTaken.{called_done, called_ended, called_started, called_stopped}
 use Rattle.run_machine.proofs.Raised.{finished_raises, raised_by}
+use Rattle.run_machine.proofs.RowsTaken as rows
 use Rattle.run_machine.proofs.events.take_event.Goals as goal
 
 pub returns-in-Ok-Done-clause-answers : goal.returns-in-Ok-Done-clause-answers
@@ -161,3 +162,42 @@ returns-in-Ok-End-clause-raised c =
 
 pub returns-in-Err-clause-raised : goal.returns-in-Err-clause-raised
 returns-in-Err-clause-raised c = raised_by c.args.machine.now c.args.due.now c.in-Err.fault c.of.result c.of.ensures
+
+pub returns-in-Ok-Done-clause-rows : goal.returns-in-Ok-Done-clause-rows
+returns-in-Ok-Done-clause-rows c = record {
+  events = rows.rows_done c.law_events.ensures.steps c.args.due.now c.args.machine.now c.pass_event.new.machine c.perform.new.machine
+      c.finish_event.new.machine c.perform.result c.finish_event.result c.pass_event.ensures (c.perform.ensures.exact, c.perform.ensures.changes, c.perform.ensures.effect)
+      (c.in-Ok-Done.is ∙ ap Ok c.in-Ok-Done.field-0-is) c.finish_event.ensures.memory;
+  libraries = rows.called_done c.law_bodies.ensures.stands c.law_bodies.ensures.steps c.law_library.ensures.rows c.law_library.ensures.steps c.args.due.now
+      c.args.machine.now c.pass_event.new.machine c.perform.new.machine c.perform.result c.pass_event.ensures c.perform.ensures.calls
+      (c.in-Ok-Done.is ∙ ap Ok c.in-Ok-Done.field-0-is) c.finish_event.new.machine c.finish_event.result c.finish_event.ensures.memory;
+}
+
+pub returns-in-Ok-Started-clause-rows : goal.returns-in-Ok-Started-clause-rows
+returns-in-Ok-Started-clause-rows c = record {
+  events = rows.rows_started c.law_events.ensures.steps c.args.due.now c.args.machine.now c.pass_event.new.machine c.perform.new.machine
+      c.perform.new.machine c.perform.result (Ok (pick.Starts (event_at c.args.machine.now c.args.due.now.place))) c.pass_event.ensures
+      (c.perform.ensures.exact, c.perform.ensures.changes, c.perform.ensures.effect) (c.in-Ok-Started.is ∙ ap Ok c.in-Ok-Started.field-0-is);
+  libraries = rows.called_started c.law_bodies.ensures.stands c.law_bodies.ensures.steps c.law_library.ensures.rows c.law_library.ensures.steps c.args.due.now
+      c.args.machine.now c.pass_event.new.machine c.perform.new.machine c.perform.result c.pass_event.ensures c.perform.ensures.calls
+      (c.in-Ok-Started.is ∙ ap Ok c.in-Ok-Started.field-0-is) (event_at c.args.machine.now c.args.due.now.place);
+}
+
+pub returns-in-Ok-End-clause-rows : goal.returns-in-Ok-End-clause-rows
+returns-in-Ok-End-clause-rows c = record {
+  events = rows.rows_ended c.law_events.ensures.steps c.args.due.now c.args.machine.now c.pass_event.new.machine c.perform.new.machine
+      c.finish_event-in-Ok-End.new.machine c.perform.result c.finish_event-in-Ok-End.result c.pass_event.ensures
+      (c.perform.ensures.exact, c.perform.ensures.changes, c.perform.ensures.effect) _ (c.in-Ok-End.is ∙ ap Ok c.in-Ok-End.field-0-is);
+  libraries = rows.called_ended c.law_bodies.ensures.stands c.law_bodies.ensures.steps c.law_library.ensures.rows c.law_library.ensures.steps c.args.due.now
+      c.args.machine.now c.pass_event.new.machine c.perform.new.machine c.perform.result c.pass_event.ensures c.perform.ensures.calls
+      _ (c.in-Ok-End.is ∙ ap Ok c.in-Ok-End.field-0-is) c.finish_event-in-Ok-End.new.machine c.finish_event-in-Ok-End.result
+      c.finish_event-in-Ok-End.ensures.memory;
+}
+
+pub returns-in-Err-clause-rows : goal.returns-in-Err-clause-rows
+returns-in-Err-clause-rows c = record {
+  events = λ world meaning m st e s laid t. tt;
+  libraries = rows.called_stopped c.law_bodies.ensures.stands c.law_bodies.ensures.steps c.law_library.ensures.rows c.law_library.ensures.steps c.args.due.now
+      c.args.machine.now c.pass_event.new.machine c.perform.new.machine c.perform.result c.pass_event.ensures c.perform.ensures.calls
+      c.in-Err.fault c.args.due.now.line c.of.result c.in-Err.is c.of.ensures;
+}

@@ -1,4 +1,5 @@
 use Rattle.run_machine.proofs.Keeping.{status_kept}
+use Rattle.run_machine.proofs.RowsStand.{halt_rows, status_rows}
 use Rattle.run_machine.proofs.Staying.{halt_told, status_told}
 use Rattle.run_machine.proofs.picks.take_control.Goals as goal
 
@@ -10,3 +11,9 @@ returns-in-Err-clause-answers c = halt_told c.args.machine.now c.control_step.ne
 
 pub returns-in-Ok-clause-keeps : goal.returns-in-Ok-clause-keeps
 returns-in-Ok-clause-keeps c = status_kept c.args.machine.now c.control_step.new.machine c.in-Ok.status c.in-Ok.ensures.keeps
+
+pub returns-in-Ok-clause-rows : goal.returns-in-Ok-clause-rows
+returns-in-Ok-clause-rows c = status_rows c.args.machine.now c.control_step.new.machine c.in-Ok.status c.in-Ok.ensures.rows
+
+pub returns-in-Err-clause-rows : goal.returns-in-Err-clause-rows
+returns-in-Err-clause-rows c = halt_rows c.args.machine.now c.control_step.new.machine c.in-Err.halt c.in-Err.ensures.rows
