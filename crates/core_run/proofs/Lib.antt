@@ -1,2 +1,6 @@
 mod Counts
 mod Telling
+mod Told
+mod OneMore
+mod OnePick
+mod Whole

@@ -1,20 +1,35 @@
 // A run from its start to its end.
-ghost use Rattle.std.specs.Prelude.{◌≡◌, ◌≤◌, ◌<◌, ◌+◌, ◌^◌, ◌++◌, ◌∷◌, ◌⊎◌, [], length, IfOk, OnOk};
+ghost use Rattle.std.specs.Prelude.{◌≡◌, ◌≤◌, ◌<◌, ◌+◌, ◌^◌, ◌++◌, ◌∷◌, ◌⊎◌, [], length, ℕ, List, Option, IfOk, OnOk};
 ghost use Rattle.core_run.specs.Calls.{GoesOn, FollowsPick, Tells, completions, calls_of, AnswersEnd, StartedBy};
 ghost use Rattle.core_run.specs.Ends.{picks_of, told_of, IsOutOfSteps};
 ghost use Rattle.core_run.specs.Steps.{told_by, told_at_end, taken_by, EndsAfter, EndsRun, AnswersNext, IsUnstopped, GoesUnstopped, Grows};
 ghost use Rattle.core_run.specs.Told.{more};
+ghost use Rattle.core_run.specs.Canonical.{EndsSome, Follows, GoesOnAt, HasRow, IsAt, IsEndedBy, IsNumbered};
+ghost use Rattle.core_run.specs.Calls.{row_by, Heard};
+ghost use Rattle.ub_base.specs.Frames.{IsFrameList};
+ghost use Rattle.addr_map.specs.declared.map.Row.{Row};
+ghost use Rattle.c_typed.specs.declared.program.Program.{Program};
+ghost use Rattle.run_statements.specs.declared.numbers.Numbers.{Numbers};
+ghost use Rattle.std.specs.Prelude.{map, string_bytes};
+ghost use Rattle.std.specs.List.{All};
+ghost use Rattle.value_facts.specs.Held.{AreBytes};
+ghost use Rattle.core_run.specs.Whole.{CanRun, IsOverBy, RunsAsDefined};
 
 use crate::watch::{Go, Ran, RunState, Watch};
 use addr_map::{AddrMap, Mode};
+use canonical_laws::{law_along, law_begins};
+use code_view::law_code_formed;
 use core_ir::CoreProgram;
+use frame_numbers::law_numbers;
 use prov_memory::{Memory, Outputs};
 use run_acts::start_bytes;
 use run_machine::{
     Completed, Halt, MOST_CREATED, Machine, Pick, View, canonical, code_of, prepare,
 };
+use start_laws::{law_bytes, law_start};
 use std::alloc::Global;
 use ub_base::{Bytes, Cause, Event, Frame, Frames, NoMemory};
+use value_facts::law_lawful_small;
 
 /// Follows the canonical order of a program for at most `budget` picks, and tells `watch` each of them: `pick`, then
 /// `node_done` of the node that it completes, then `operands_done` of the node above where that awaits nothing more. A pick
@@ -47,7 +62,17 @@ pub fn run<W: Watch>(
 
     // The trees that the watch was given are there as before.
     ensures trees { OnOk result (W.trees watch.new ≡ W.trees watch.old) }
+    // Of a lawful program with its terms: it starts, takes the picks of the canonical order, and ends, as the definitions do.
+    ensures canonical { CanRun p.now (map string_bytes args.now)
+        → IfOk result (RunsAsDefined p.now.program.now (map string_bytes args.now) input.now (W.heard watch.old) (W.heard watch.new)) }
 {
+    law_start();
+    law_begins();
+    law_bytes();
+    law_lawful_small();
+    law_code_formed();
+    are_words(args);
+    are_bytes(input);
     let program = p.program;
     let reached = start_bytes(program, args);
     if reached > MOST_CREATED {
@@ -61,15 +86,49 @@ pub fn run<W: Watch>(
     };
     let mut frames = Frames::new(alloc);
     let ran = follow(&mut machine, &mut frames, budget, watch)?;
-    let (output, map) = machine.into_output_and_map();
-    let Outputs { standard, errors } = output;
+    let (output, errors, map) = written_and_placed(machine);
     Ok(RunState {
         ran,
-        output: standard,
+        output,
         errors,
         map,
         frames,
     })
+}
+
+// A slice of bytes has no others: its type says so.
+fn are_bytes(bytes: &[u8])
+    ensures { AreBytes bytes.now }
+{}
+
+// So has a word.
+fn is_word(word: &String)
+    ensures { AreBytes (string_bytes word.now) }
+{
+    are_bytes(word.as_bytes());
+}
+
+// So have words.
+fn are_words(words: &[String])
+    ensures { All AreBytes (map string_bytes words.now) }
+{
+    for word in words {
+        is_word(word);
+    }
+}
+
+// What a run that has ended wrote to standard output and to standard error, and where its objects stand.
+fn written_and_placed(machine: Machine) -> (Bytes, Bytes, AddrMap)
+    ensures output { machine.entry.streams.output ≡ record { standard = result.0; errors = result.1 } }
+    ensures map { result.2 ≡ machine.entry.memory.rows }
+{
+    let Machine {
+        memory,
+        streams,
+        ..
+    } = machine;
+    let Outputs { standard, errors } = streams.into_output();
+    (standard, errors, memory.into_map())
 }
 
 // The start would pass the limit on created bytes.
@@ -79,6 +138,9 @@ fn unstarted(alloc: Global, number: u64, budget: u64) -> RunState
     ensures out_of_steps { IsOutOfSteps result.ran → budget ≡ 0 }
     ensures frames { result.frames ≡ [] }
     ensures unstopped { IsUnstopped result.ran }
+    ensures over { IsOverBy number result.ran }
+    ensures output { result.output ≡ [] }
+    ensures errors { result.errors ≡ [] }
 {
     let ran = if budget == 0 {
         Ran::OutOfSteps { picks: 0 }
@@ -102,10 +164,22 @@ fn unstarted(alloc: Global, number: u64, budget: u64) -> RunState
 fn start_frame(machine: &mut Machine, frames: &mut Frames, told: Pick) -> Result<(), NoMemory>
     ensures items { machine.new.items ≡ machine.old.items }
     ensures rows { OnOk result (Grows told frames.old frames.new) }
+    ensures numbered { OnOk result (IsNumbered told machine.old machine.new frames.new) }
 {
     let Pick::Starts(event) = told else {
         return Ok(());
     };
+    let frame = number_of(frames, event)?;
+    machine.start(frame);
+    Ok(())
+}
+
+// The number of the frame that the body of this event has started.
+fn number_of(frames: &mut Frames, event: Event) -> Result<Frame, NoMemory>
+    ensures rows { OnOk result ((frames.new ≡ frames.old) ⊎ (frames.new ≡ frames.old ++ row_by event ∷ [])) }
+    ensures list { OnOk result (IsFrameList frames.new) }
+    ensures number { IfOk result (λ frame. HasRow frames.new frame event) }
+{
     let count = frames.len();
     if count == u32::MAX || event.frame.0 > count {
         return Err(NoMemory);
@@ -114,8 +188,9 @@ fn start_frame(machine: &mut Machine, frames: &mut Frames, told: Pick) -> Result
         Some(frame) => frame,
         None => frames.call(event.frame, event.turn, event.node)?,
     };
-    machine.start(frame);
-    Ok(())
+    // Once more, for what it says of the list.
+    let _count = frames.len();
+    Ok(frame)
 }
 
 // Tells what a pick of this event completes.
@@ -180,7 +255,7 @@ fn advance<W: Watch>(
     picks: u64,
     watch: &mut W,
 ) -> Result<Next, NoMemory>
-    requires few { picks < 2 ^ 32 }
+    requires few { picks < 100000000 }
     requires ready { GoesOn (W.heard watch.old) }
     ensures rows { IfOk result (λ next. length frames.new ≤ length frames.old + taken_by next) }
     ensures told { IfOk result (λ next. W.told watch.new ≡ more (told_by next) (W.told watch.old)) }
@@ -188,7 +263,13 @@ fn advance<W: Watch>(
     ensures end { IfOk result (λ next. EndsAfter next picks) }
     ensures answers { IfOk result (λ next. AnswersNext next (W.heard watch.new)) }
     ensures started { StartedBy (W.heard watch.old) frames.old → OnOk result (StartedBy (W.heard watch.new) frames.new) }
+    // It is a pick of the canonical order, where those before were.
+    ensures canonical { (p : Program) (strings : List (List ℕ)) (input : List ℕ) (numbers : Numbers) (before : Option Heard) (earlier : List (List Row))
+        → IsAt p strings input numbers before (W.heard watch.old) machine.old picks frames.old earlier
+        → IfOk result (GoesOnAt p strings input numbers before (W.heard watch.new) machine.new picks frames.new (machine.old.memory.rows ∷ earlier)) }
 {
+    law_along();
+    law_numbers();
     let told = match canonical(machine) {
         Ok(told) => told,
         Err(halt) => return Ok(Next::End(ended_by(halt, picks)?)),
@@ -206,6 +287,7 @@ fn ended_by(halt: Halt, picks: u64) -> Result<Ran, NoMemory>
     ensures end { IfOk result (λ ran. EndsRun ran picks) }
     ensures told { IfOk result (λ ran. told_at_end ran ≡ 0) }
     ensures unstopped { IfOk result (λ ran. IsUnstopped ran) }
+    ensures ended { IfOk result (IsEndedBy halt picks) }
 {
     match halt {
         Halt::Raised {
@@ -234,6 +316,7 @@ fn after(told: Pick, picks: u64) -> Next
     ensures taken { taken_by result ≡ 1 }
     ensures end { EndsAfter result picks }
     ensures unstopped { GoesUnstopped result }
+    ensures follows { Follows told picks result }
 {
     match told {
         Pick::Step(Some(status)) | Pick::Event(_, _, Some(status)) => Next::End(Ran::Ended {
@@ -260,6 +343,10 @@ fn follow<W: Watch>(
     ensures out_of_steps { IfOk result (λ ran. IsOutOfSteps ran → picks_of ran ≡ budget) }
     ensures answers { IfOk result (λ ran. AnswersEnd ran (W.heard watch.new)) }
     ensures started { OnOk result (StartedBy (W.heard watch.new) frames.new) }
+    // Where it begins so, it follows the canonical order.
+    ensures canonical { (p : Program) (strings : List (List ℕ)) (input : List ℕ) (numbers : Numbers)
+        → IsAt p strings input numbers (W.heard watch.old) (W.heard watch.old) machine.old 0 [] []
+        → IfOk result (λ ran. EndsSome p strings input (W.heard watch.old) (W.heard watch.new) machine.new.streams.output frames.new ran) }
 {
     for picks in 0..budget {
         match advance(machine, frames, picks, watch)? {

@@ -1,3 +1,8 @@
+use Rattle.std.proofs.Common.{arith, subst}
+use Rattle.canonical_laws.specs.Along.{AnswersAll}
+use Rattle.core_run.specs.Calls.{Tells, calls_of}
+use Rattle.core_run.specs.declared.watch.Go.{Go}
+use Rattle.core_run.proofs.OnePick.{ends_by, goes_on, stops}
 use Rattle.core_run.proofs.Telling.{started_by}
 use Rattle.core_run.proofs.canonical.advance.Goals as goal
 
@@ -6,3 +11,51 @@ returns-in-Stop-clause-started g c = started_by c.in-Ok.told _ _ _ _ _ _ c.in_ok
 
 pub returns-in-On-clause-started : goal.returns-in-On-clause-started
 returns-in-On-clause-started g c = started_by c.in-Ok.told _ _ _ _ _ _ c.in_ok-start_frame.ensures.rows c.in_ok-tell.ensures.calls
+
+pub returns-in-Stop-clause-canonical : goal.returns-in-Stop-clause-canonical
+returns-in-Stop-clause-canonical g c = λ p strings input numbers before earlier at.
+    stops c.law_along.ensures c.law_numbers.ensures.stay c.law_numbers.ensures.started p strings input numbers before (g.W.Watch.heard c.args.watch.now)
+    (g.W.Watch.heard c.tell.new.watch) c.args.machine.now c.args.picks
+    c.args.frames.now c.start_frame.new.frames earlier at (omega (arith, c.requires.few)) c.in-Ok.told c.canonical.new.machine c.start_frame.new.machine
+    (subst (AnswersAll c.args.machine.now c.canonical.new.machine) c.in-Ok.is (record {
+      takes = c.canonical.ensures.takes;
+      steps = c.canonical.ensures.steps;
+      events = c.canonical.ensures.events;
+      bodies = c.canonical.ensures.bodies;
+      calls = c.canonical.ensures.calls;
+      libraries = c.canonical.ensures.libraries;
+      keeps = c.canonical.ensures.keeps;
+    })) c.in_ok-start_frame.ensures.numbered c.in_ok-start_frame.ensures.rows
+    (subst (λ (z : Go). Tells (calls_of c.in-Ok.told c.start_frame.new.machine.items) z (g.W.Watch.heard c.args.watch.now)
+    (g.W.Watch.heard c.tell.new.watch)) c.in-Stop.is c.in_ok-tell.ensures.calls)
+
+pub returns-in-On-clause-canonical : goal.returns-in-On-clause-canonical
+returns-in-On-clause-canonical g c = λ p strings input numbers before earlier at.
+    goes_on c.law_along.ensures c.law_numbers.ensures.stay c.law_numbers.ensures.started p strings input numbers before (g.W.Watch.heard c.args.watch.now)
+    (g.W.Watch.heard c.tell.new.watch) c.args.machine.now c.args.picks
+    c.args.frames.now c.start_frame.new.frames earlier at (omega (arith, c.requires.few)) c.in-Ok.told c.canonical.new.machine c.start_frame.new.machine
+    c.after.result (subst (AnswersAll c.args.machine.now c.canonical.new.machine) c.in-Ok.is (record {
+      takes = c.canonical.ensures.takes;
+      steps = c.canonical.ensures.steps;
+      events = c.canonical.ensures.events;
+      bodies = c.canonical.ensures.bodies;
+      calls = c.canonical.ensures.calls;
+      libraries = c.canonical.ensures.libraries;
+      keeps = c.canonical.ensures.keeps;
+    })) c.in_ok-start_frame.ensures.numbered c.in_ok-start_frame.ensures.rows
+    (subst (λ (z : Go). Tells (calls_of c.in-Ok.told c.start_frame.new.machine.items) z (g.W.Watch.heard c.args.watch.now)
+    (g.W.Watch.heard c.tell.new.watch)) c.in-On.is c.in_ok-tell.ensures.calls) c.after.ensures.follows
+
+pub returns-in-Err-clause-canonical : goal.returns-in-Err-clause-canonical
+returns-in-Err-clause-canonical g c = λ p strings input numbers before earlier at.
+    ends_by c.law_along.ensures p strings input numbers before (g.W.Watch.heard c.args.watch.now) c.args.machine.now c.canonical.new.machine c.args.picks
+    c.args.frames.now earlier at (omega (arith, c.requires.few)) c.in-Err.halt c.in_ok-ended_by-in-Err.field-0
+    (subst (AnswersAll c.args.machine.now c.canonical.new.machine) c.in-Err.is (record {
+      takes = c.canonical.ensures.takes;
+      steps = c.canonical.ensures.steps;
+      events = c.canonical.ensures.events;
+      bodies = c.canonical.ensures.bodies;
+      calls = c.canonical.ensures.calls;
+      libraries = c.canonical.ensures.libraries;
+      keeps = c.canonical.ensures.keeps;
+    })) c.in_ok-ended_by-in-Err.ensures.ended

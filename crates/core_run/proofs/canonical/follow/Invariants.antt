@@ -1,5 +1,9 @@
-use Rattle.std.proofs.Common.{◌≡◌, ◌≤◌, length}
+use Rattle.std.proofs.Common.{◌≡◌, ◌≤◌, ℕ, List, [], length}
+use Rattle.addr_map.specs.declared.map.Row.{Row}
+use Rattle.c_typed.specs.declared.program.Program.{Program}
+use Rattle.run_statements.specs.declared.numbers.Numbers.{Numbers}
 use Rattle.core_run.specs.Calls.{GoesOn, StartedBy}
+use Rattle.core_run.specs.Canonical.{IsAt}
 use Rattle.core_run.specs.Told.{more}
 use Rattle.core_run.proofs.canonical.follow.Given as goal
 
@@ -10,4 +14,8 @@ invariant-loop-picks g l = record {
   trees : g.W.Watch.trees l.watch ≡ g.W.Watch.trees l.initial.watch;
   ready : GoesOn (g.W.Watch.heard l.watch);
   started : StartedBy (g.W.Watch.heard l.watch) l.frames;
+  canonical : (p : Program) (strings : List (List ℕ)) (input : List ℕ) (numbers : Numbers)
+      → IsAt p strings input numbers (g.W.Watch.heard l.initial.watch) (g.W.Watch.heard l.initial.watch) l.initial.machine 0 [] []
+      → (earlier : List (List Row))
+      × IsAt p strings input numbers (g.W.Watch.heard l.initial.watch) (g.W.Watch.heard l.watch) l.machine l.picks l.frames earlier;
 }

@@ -1,6 +1,16 @@
-use Rattle.std.proofs.Common.{sym, subst}
+use Rattle.std.proofs.Common.{◌<◌, ◌+◌, ◌^◌, ℕ, List, arith, length, map, refl, string_bytes, sym, subst, inl, inr}
+use Rattle.std.proofs.lemmas.List.{length-map}
+use Rattle.std.specs.Borrow.{Bor}
+use Rattle.mem_spec.specs.Streams.{Outputs}
+use Rattle.c_model.specs.World.{profile_limits}
+use Rattle.program_view.specs.View.{main_values}
+use Rattle.run_code.specs.declared.whole.Code.{Code}
+use Rattle.run_code.specs.OfTrees.{AreTermsOf}
+use Rattle.run_facts.specs.SetUp.{IsItsCode}
 use Rattle.core_run.specs.Calls.{StartedBy}
+use Rattle.core_run.specs.Canonical.{EndsSome, world_in}
 use Rattle.core_run.proofs.Telling.{answers_unstopped, started_first}
+use Rattle.core_run.proofs.Whole.{IsGivenCode, IsGivenMachine, are_terms, begins_at, empty_of, is_made, its_code, none_above, profile}
 use Rattle.core_run.proofs.canonical.run.Goals as goal
 
 pub returns-then-reached-gt-MOST_CREATED-clause-answers :
@@ -11,3 +21,60 @@ pub returns-then-reached-gt-MOST_CREATED-clause-started :
     goal.returns-then-reached-gt-MOST_CREATED-clause-started
 returns-then-reached-gt-MOST_CREATED-clause-started g c =
     subst (StartedBy (g.W.Watch.heard c.args.watch.now)) (sym c.unstarted.ensures.frames) (started_first (g.W.Watch.heard c.args.watch.now))
+
+pub returns-then-reached-gt-MOST_CREATED-clause-canonical :
+    goal.returns-then-reached-gt-MOST_CREATED-clause-canonical
+returns-then-reached-gt-MOST_CREATED-clause-canonical g c = λ can.
+    let p = c.args.p.now.program.now in
+    let words = map string_bytes c.args.args.now in
+    let few : length c.args.args.now + 1 < 2 ^ 32 = omega (arith, length-map c.args.args.now string_bytes, can.few) in
+    inl (record {
+      count = c.start_bytes-reached.result;
+      passes = λ rows number.
+          let world = world_in p words rows number in
+          c.law_start.ensures.over p words c.args.input.now (main_values p world words) rows number profile_limits c.start_bytes-reached.result
+          profile (c.start_bytes-reached.ensures.exact few)
+          (omega (arith, c.if-reached-gt-MOST_CREATED.true));
+      ran = c.unstarted.ensures.over;
+      output = c.unstarted.ensures.output;
+      errors = c.unstarted.ensures.errors;
+    })
+
+pub returns-clause-canonical : goal.returns-clause-canonical
+returns-clause-canonical g c = λ can.
+    let p = c.args.p.now.program.now in
+    let words = map string_bytes c.args.args.now in
+    let input = c.args.input.now in
+    let heard = g.W.Watch.heard c.args.watch.now in
+    let terms = c.as_slice.result.now in
+    let few : length c.args.args.now + 1 < 2 ^ 32 = omega (arith, length-map c.args.args.now string_bytes, can.few) in
+    let made = c.in_ok-code.ensures in
+    let given : IsGivenCode p terms c.in_ok-code.code = record {
+      order = made.order;
+      listed = made.listed;
+      functions = made.functions;
+      bodies = made.bodies;
+      fit = made.fit p;
+      blocks = made.blocks;
+      expressions = made.expressions;
+    } in
+    let lawful = can.whole.lawful in
+    let nothing = empty_of c.new-memory.result _ c.new-memory.ensures.empty in
+    let ready : IsGivenMachine p words c.in_ok-input.input c.in-Ok.machine.code c.in-Ok.machine = record {
+      begins = c.in-Ok.ensures.stands lawful few nothing (none_above c.new-memory.result _ c.new-memory.ensures.empty);
+      counts = c.in-Ok.ensures.counts lawful few nothing;
+      given = c.in-Ok.ensures.given lawful nothing;
+      labels = c.in-Ok.ensures.labels;
+      over = refl;
+      first = c.in-Ok.ensures.first;
+    } in
+    let its = its_code c.law_code_formed.ensures p terms c.in_ok-code.code given can.whole
+    (subst (AreTermsOf p) (sym c.as_slice.ensures) (are_terms c.args.p.now can.terms)) in
+    let held = is_made p words input given.bodies.0 c.in-Ok.machine.code c.in-Ok.machine c.start_bytes-reached.result can.whole
+    (subst (λ (b : Bor Code). IsItsCode p given.bodies.0 b.now) (sym c.in-Ok.ensures.code) its)
+    (subst (λ (i : List ℕ). IsGivenMachine p words i c.in-Ok.machine.code c.in-Ok.machine) c.in_ok-input.ensures ready)
+    (c.start_bytes-reached.ensures.exact few) (omega (arith, c.if-reached-gt-MOST_CREATED.false)) c.are_words.ensures c.are_bytes.ensures can.few in
+    inr (subst (λ (o : Outputs). EndsSome p words input heard (g.W.Watch.heard c.follow.new.watch) o c.follow.new.frames c.in_ok-ran.ran)
+    c.written_and_placed-output.ensures.output (c.in_ok-ran.ensures.canonical p words input given.bodies.0
+    (begins_at c.law_start.ensures.goes c.law_begins.ensures c.law_lawful_small.ensures.worlds c.law_lawful_small.ensures.main c.law_bytes.ensures p words input
+    given.bodies.0 heard c.in-Ok.machine c.start_bytes-reached.result held)))

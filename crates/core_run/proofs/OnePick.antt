@@ -1,0 +1,295 @@
+-- A pick more of the canonical order.
+use Rattle.std.proofs.Common.{◌≡◌, ◌<◌, ◌+◌, ◌-◌, ◌^◌, ℕ, suc, arith, true, refl, sym, ap, ◌∙◌, subst, List, ◌∷◌, inl, inr, Option, Some, None, Result, Ok, Err}
+use Rattle.std.specs.Prelude.{is_some}
+use Rattle.ub_base.specs.declared.names.Event.{Event}
+use Rattle.ub_base.specs.declared.names.Frame.{Frame}
+use Rattle.ub_base.specs.Frames.{IsFrameList, Path, Row as Started_frame}
+use Rattle.addr_map.specs.declared.map.Row.{Row}
+use Rattle.c_typed.specs.declared.program.Program.{Program}
+use Rattle.mem_spec.specs.Store.{Store}
+use Rattle.mem_spec.specs.Streams.{Outputs}
+use Rattle.c_model.specs.Runs.{Ends, Entry, Raises, Running, State, canonical_after, canonical_pick, start, step}
+use Rattle.c_model.specs.World.{World}
+use Rattle.program_view.specs.View.{main_values}
+use Rattle.frame_numbers.specs.Numbers.{NumbersStay, StartedIsNumbered, number_in}
+use Rattle.run_statements.specs.declared.numbers.Numbers.{Numbers}
+use Rattle.run_state.specs.declared.halt.Halt.{Halt}
+use Rattle.run_state.specs.declared.halt.Halt.TheVariants as halt
+use Rattle.run_state.specs.declared.machine.Machine.{Machine}
+use Rattle.run_machine.specs.declared.pick.Pick.{Pick}
+use Rattle.run_machine.specs.declared.pick.Pick.TheVariants as pick
+use Rattle.run_machine.specs.Starting.{numbered}
+use Rattle.canonical_laws.specs.Along.{AnswersAll, IsAlong}
+use Rattle.canonical_laws.specs.Comes.{AlongComes, ComesAlong, GoesTo}
+use Rattle.canonical_laws.specs.Listed.{TellsNewest, TopIsListed, event_told}
+use Rattle.core_run.specs.Calls.{Heard, Tells, calls_of, row_by}
+use Rattle.core_run.specs.Canonical.{EndsIn, Follows, GoesOnAt, HasEnded, HasRow, IsAt, IsEndedBy, IsNumbered, RunsTo, StandsAt, Suits, ToldBy, world_in}
+use Rattle.core_run.specs.Steps.{Grows}
+use Rattle.core_run.proofs.Told.{pick_told}
+use Rattle.core_run.specs.declared.canonical.Next.{Next}
+use Rattle.core_run.specs.declared.canonical.Next.TheVariants.{End}
+use Rattle.core_run.specs.declared.watch.Go.{Go}
+use Rattle.core_run.specs.declared.watch.Go.TheVariants.{On, Stop}
+use Rattle.core_run.specs.declared.watch.Ran.{Ran}
+use Rattle.core_run.specs.declared.watch.Ran.TheVariants.{OutOfSteps, Stopped}
+use Rattle.core_run.proofs.OneMore.{grown_numbers, one_more, plus_one, rows_of_both, suits_before, suits_same}
+
+module _ (comes : AlongComes) (stay : NumbersStay) (starts_numbered : StartedIsNumbered) (p : Program) (strings : List (List ℕ)) (input : List ℕ)
+    (numbers : Numbers) (before heard told_now : Option Heard) (old : Machine) (n : ℕ) (frames grown : List Started_frame) (earlier : List (List Row))
+    (at : IsAt p strings input numbers before heard old n frames earlier) (few : suc n < 2 ^ 32) where
+  abbrev Before : World → Type 0
+  Before world = StandsAt p strings input numbers before heard world old n frames
+
+  -- ---- the run goes on
+  record Went (world : World) (d : Before world) (new : Machine) : Type 0 where
+    after : State
+    steps : step world d.st (canonical_pick world d.st.top d.st.top.begun) ≡ Running after
+    along : IsAlong world p numbers new after (suc n)
+    listed : TopIsListed grown after
+    tells : ToldBy world before told_now after.trace
+
+  on_of : (world : World) (d : Before world) (new : Machine) → Went world d new → StandsAt p strings input numbers before told_now world new (suc n) grown
+  on_of world d new w = record {
+    first = d.first;
+    st = w.after;
+    starts = d.starts;
+    runs = one_more world n d.first d.st d.runs ∙ w.steps;
+    along = w.along;
+    listed = w.listed;
+    told = w.tells;
+  }
+
+  abbrev Ends_at : World → Outputs → Ran → Type 0
+  Ends_at world output ran = (first : State) × (start world input (main_values p world strings) ≡ Running first)
+      × RunsTo world first before told_now output ran
+
+  stop_of : (world : World) (d : Before world) (new : Machine) → Went world d new → Ends_at world new.streams.output (Stopped (n + 1))
+  stop_of world d new w = (
+    d.first,
+    d.starts,
+    inl (
+      w.after,
+      subst (λ (k : ℕ). canonical_after world k d.first ≡ Running w.after) (sym (plus_one n)) (one_more world n d.first d.st d.runs ∙ w.steps),
+      ap (λ (s : Store). s.output) w.along.going.stands.memory.store,
+      w.tells,
+    ),
+  )
+
+  -- ---- or it has ended
+  record Over_with (world : World) (d : Before world) (new : Machine) (status : ℕ) : Type 0 where
+    trace : List Entry
+    ends : step world d.st (canonical_pick world d.st.top d.st.top.begun) ≡ Ends status new.streams.output trace
+    tells : ToldBy world before told_now trace
+
+  ended_of : (world : World) (d : Before world) (new : Machine) (status : ℕ) → Over_with world d new status
+      → HasEnded world d.first before told_now new.streams.output status (n + 1)
+  ended_of world d new status w = (
+    w.trace,
+    subst (λ (k : ℕ). canonical_after world k d.first ≡ Ends status new.streams.output w.trace) (sym (plus_one n))
+        (one_more world n d.first d.st d.runs ∙ w.ends),
+    w.tells,
+  )
+
+  -- ---- by the pick that was taken
+  abbrev Fits : Machine → List Row → (Path → ℕ) → Type 0
+  Fits new rows number = Suits (new.memory.rows ∷ old.memory.rows ∷ earlier) grown rows number
+
+  module _ (new : Machine) (rows : List Row) (number : Path → ℕ) (s : Fits new rows number) where
+    abbrev world : World
+    world = world_in p strings rows number
+
+    earlier_suits : (t : Pick) → Grows t frames grown → Suits (old.memory.rows ∷ earlier) frames rows number
+    earlier_suits t g = suits_before stay t new.memory.rows (old.memory.rows ∷ earlier) frames grown rows number g s
+
+    came : (d : Before world) (r : Result Pick Halt) → AnswersAll old new r
+        → ComesAlong world p numbers d.st n new r (step world d.st (canonical_pick world d.st.top d.st.top.begun))
+    came d r x = comes world p numbers old new d.st n r d.along x (rows_of_both old new earlier grown rows number s) few
+
+    listed_grown : (st : State) → grown ≡ frames → TopIsListed frames st → TopIsListed grown st
+    listed_grown st g q = subst (λ (z : List Started_frame). TopIsListed z st) (sym g) q
+
+    went_to : (t : Pick) (go : Go) (d : Before world) (after : State) → step world d.st (canonical_pick world d.st.top d.st.top.begun) ≡ Running after
+        → GoesTo world p numbers d.st n new (event_told t) after → grown ≡ frames → Tells (calls_of t new.items) go heard told_now → Went world d new
+    went_to t go d after steps g same tells = record {
+      after = after;
+      steps = steps;
+      along = g.along;
+      listed = g.listed grown (listed_grown d.st same d.listed);
+      tells = pick_told world before t new.items go heard told_now d.st.trace after.trace tells g.tells d.told;
+    }
+
+    over_with : (t : Pick) (go : Go) (d : Before world) (status : ℕ) (trace : List Entry)
+        → step world d.st (canonical_pick world d.st.top d.st.top.begun) ≡ Ends status new.streams.output trace
+        → TellsNewest world (event_told t) new.items d.st.trace trace → Tells (calls_of t new.items) go heard told_now → Over_with world d new status
+    over_with t go d status trace ends is tells =
+        record { trace = trace; ends = ends; tells = pick_told world before t new.items go heard told_now d.st.trace trace tells is d.told }
+
+  -- a frame has started, and has its number
+  went_start : (mid : Machine) (event : Event) (go : Go) (f : Frame) → HasRow grown f event → IsFrameList grown → Grows (pick.Starts event) frames grown
+      → AnswersAll old mid (Ok (pick.Starts event)) → Tells (calls_of (pick.Starts event) mid.items) go heard told_now
+      → (rows : List Row) (number : Path → ℕ) (s : Fits mid rows number) (d : Before (world_in p strings rows number))
+      → Went (world_in p strings rows number) d (numbered mid f)
+  went_start mid event go f row list grows x tells rows number s d =
+      let w = world_in p strings rows number in
+      let c = came mid rows number s d (Ok (pick.Starts event)) x in
+      let g = c.2 in
+      let k = some_in (number_in frames d.st.top.scene.path) d.listed in
+      let in_grown = grown_numbers stay (pick.Starts event) frames grown grows d.st.top.scene.path k.0 k.1 in
+      let own : k.0 ≡ event.frame.0 = sym (s.numbers d.st.top.scene.path k.0 in_grown) ∙ sym g.frame in
+      let deep = starts_numbered grown (f.0 - 1) (row_by event) d.st.top.scene.path list row.at
+      (subst (λ (z : ℕ). number_in grown d.st.top.scene.path ≡ Some z) own in_grown) in
+      let there = subst (λ (z : Path). number_in grown z ≡ Some (suc (f.0 - 1))) (sym g.path) deep in
+      let number_is : f.0 ≡ number c.0.top.scene.path = behind_one f.0 row.some ∙ sym (s.numbers c.0.top.scene.path (suc (f.0 - 1)) there) in record {
+        after = c.0;
+        steps = c.1;
+        along = g.along f number_is;
+        listed = ap is_some there;
+        tells = pick_told w before (pick.Starts event) mid.items go heard told_now d.st.trace c.0.trace tells g.tells d.told;
+      }
+    where
+      some_in : (o : Option ℕ) → is_some o ≡ true → (k : ℕ) × (o ≡ Some k)
+      some_in None q = absurd (cc (q))
+      some_in (Some k) q = (k, refl)
+
+      behind_one : (k : ℕ) → 0 < k → k ≡ suc (k - 1)
+      behind_one k q = omega (arith, q)
+
+  -- ---- what follows where the watch lets it go on
+  pub goes_on : (t : Pick) (mid new : Machine) (next : Next) → AnswersAll old mid (Ok t) → IsNumbered t mid new grown → Grows t frames grown
+      → Tells (calls_of t new.items) On heard told_now → Follows t n next
+      → GoesOnAt p strings input numbers before told_now new n grown (old.memory.rows ∷ earlier) next
+  goes_on (pick.Step None) mid new next x is g tells follows =
+      subst (GoesOnAt p strings input numbers before told_now new n grown (old.memory.rows ∷ earlier)) (sym follows)
+      (λ rows number s.
+      let y = subst (λ (m : Machine). AnswersAll old m (Ok (pick.Step None))) (sym is) x in
+      let d = at rows number (earlier_suits new rows number s (pick.Step None) g) in
+      let c = came new rows number s d (Ok (pick.Step None)) y in
+      on_of (world_in p strings rows number) d new (went_to new rows number s (pick.Step None) On d c.0 c.1 c.2 g tells))
+  goes_on (pick.Step (Some status)) mid new next x is g tells follows =
+      subst (GoesOnAt p strings input numbers before told_now new n grown (old.memory.rows ∷ earlier)) (sym follows)
+      (λ rows number s.
+      let y = subst (λ (m : Machine). AnswersAll old m (Ok (pick.Step (Some status)))) (sym is) x in
+      let d = at rows number (earlier_suits new rows number s (pick.Step (Some status)) g) in
+      let c = came new rows number s d (Ok (pick.Step (Some status))) y in (
+        d.first,
+        d.starts,
+        ended_of (world_in p strings rows number) d new status (over_with new rows number s (pick.Step (Some status)) On d status c.0 c.1 c.2 tells),
+      ))
+  goes_on (pick.Event event completed None) mid new next x is g tells follows =
+      subst (GoesOnAt p strings input numbers before told_now new n grown (old.memory.rows ∷ earlier)) (sym follows)
+      (λ rows number s.
+      let y = subst (λ (m : Machine). AnswersAll old m (Ok (pick.Event event completed None))) (sym is) x in
+      let d = at rows number (earlier_suits new rows number s (pick.Event event completed None) g) in
+      let c = came new rows number s d (Ok (pick.Event event completed None)) y in
+      on_of (world_in p strings rows number) d new (went_to new rows number s (pick.Event event completed None) On d c.0 c.1 c.2 g tells))
+  goes_on (pick.Event event completed (Some status)) mid new next x is g tells follows =
+      subst (GoesOnAt p strings input numbers before told_now new n grown (old.memory.rows ∷ earlier)) (sym follows)
+      (λ rows number s.
+      let y = subst (λ (m : Machine). AnswersAll old m (Ok (pick.Event event completed (Some status)))) (sym is) x in
+      let d = at rows number (earlier_suits new rows number s (pick.Event event completed (Some status)) g) in
+      let c = came new rows number s d (Ok (pick.Event event completed (Some status))) y in (
+        d.first,
+        d.starts,
+        ended_of (world_in p strings rows number) d new status
+            (over_with new rows number s (pick.Event event completed (Some status)) On d status c.0 c.1 c.2 tells),
+      ))
+  goes_on (pick.Starts event) mid new next x is g tells follows =
+      subst (λ (m : Machine). GoesOnAt p strings input numbers before told_now m n grown (old.memory.rows ∷ earlier) next) (sym is.2)
+      (subst (GoesOnAt p strings input numbers before told_now (numbered mid is.0) n grown (old.memory.rows ∷ earlier)) (sym follows)
+      (λ rows number s.
+      let d = at rows number (earlier_suits mid rows number s (pick.Starts event) g) in
+      on_of (world_in p strings rows number) d (numbered mid is.0)
+      (went_start mid event On is.0 is.1 is.3 g x (subst (λ (m : Machine). Tells (calls_of (pick.Starts event) m.items) On heard told_now) is.2 tells) rows
+      number s d)))
+
+  -- ---- where the watch stops it
+  pub stops : (t : Pick) (mid new : Machine) → AnswersAll old mid (Ok t) → IsNumbered t mid new grown → Grows t frames grown
+      → Tells (calls_of t new.items) Stop heard told_now
+      → GoesOnAt p strings input numbers before told_now new n grown (old.memory.rows ∷ earlier) (End (Stopped (n + 1)))
+  stops (pick.Step None) mid new x is g tells = λ rows number s.
+      let y = subst (λ (m : Machine). AnswersAll old m (Ok (pick.Step None))) (sym is) x in
+      let d = at rows number (earlier_suits new rows number s (pick.Step None) g) in
+      let c = came new rows number s d (Ok (pick.Step None)) y in
+      stop_of (world_in p strings rows number) d new (went_to new rows number s (pick.Step None) Stop d c.0 c.1 c.2 g tells)
+  stops (pick.Step (Some status)) mid new x is g tells = λ rows number s.
+      let y = subst (λ (m : Machine). AnswersAll old m (Ok (pick.Step (Some status)))) (sym is) x in
+      let d = at rows number (earlier_suits new rows number s (pick.Step (Some status)) g) in
+      let c = came new rows number s d (Ok (pick.Step (Some status))) y in (
+        d.first,
+        d.starts,
+        inr (
+          status,
+          ended_of (world_in p strings rows number) d new status
+              (over_with new rows number s (pick.Step (Some status)) Stop d status c.0 c.1 c.2 tells),
+        ),
+      )
+  stops (pick.Event event completed None) mid new x is g tells = λ rows number s.
+      let y = subst (λ (m : Machine). AnswersAll old m (Ok (pick.Event event completed None))) (sym is) x in
+      let d = at rows number (earlier_suits new rows number s (pick.Event event completed None) g) in
+      let c = came new rows number s d (Ok (pick.Event event completed None)) y in
+      stop_of (world_in p strings rows number) d new (went_to new rows number s (pick.Event event completed None) Stop d c.0 c.1 c.2 g tells)
+  stops (pick.Event event completed (Some status)) mid new x is g tells = λ rows number s.
+      let y = subst (λ (m : Machine). AnswersAll old m (Ok (pick.Event event completed (Some status)))) (sym is) x in
+      let d = at rows number (earlier_suits new rows number s (pick.Event event completed (Some status)) g) in
+      let c = came new rows number s d (Ok (pick.Event event completed (Some status))) y in (
+        d.first,
+        d.starts,
+        inr (
+          status,
+          ended_of (world_in p strings rows number) d new status
+              (over_with new rows number s (pick.Event event completed (Some status)) Stop d status c.0 c.1 c.2 tells),
+        ),
+      )
+  stops (pick.Starts event) mid new x is g tells =
+      subst (λ (m : Machine). GoesOnAt p strings input numbers before told_now m n grown (old.memory.rows ∷ earlier) (End (Stopped (n + 1)))) (sym is.2)
+      (λ rows number s.
+      let d = at rows number (earlier_suits mid rows number s (pick.Starts event) g) in
+      stop_of (world_in p strings rows number) d (numbered mid is.0)
+      (went_start mid event Stop is.0 is.1 is.3 g x (subst (λ (m : Machine). Tells (calls_of (pick.Starts event) m.items) Stop heard told_now) is.2 tells) rows
+      number s d))
+
+-- ---- no pick more
+module _ (comes : AlongComes) (p : Program) (strings : List (List ℕ)) (input : List ℕ) (numbers : Numbers) (before heard : Option Heard) (old new : Machine)
+    (n : ℕ) (frames : List Started_frame) (earlier : List (List Row)) (at : IsAt p strings input numbers before heard old n frames earlier)
+    (few : suc n < 2 ^ 32) where
+  pub ends_by : (h : Halt) (ran : Ran) → AnswersAll old new (Err h) → IsEndedBy h n ran
+      → GoesOnAt p strings input numbers before heard new n frames (old.memory.rows ∷ earlier) (End ran)
+  ends_by (halt.Raised event line clause) ran x is =
+      subst (λ (z : Ran). GoesOnAt p strings input numbers before heard new n frames (old.memory.rows ∷ earlier) (End z)) (sym is)
+      (λ rows number s.
+      let w = world_in p strings rows number in
+      let d = at rows number (suits_same new.memory.rows (old.memory.rows ∷ earlier) frames rows number s) in
+      let c = comes w p numbers old new d.st n (Err (halt.Raised event line clause)) d.along x (rows_of_both old new earlier frames rows number s) few in (
+        d.first,
+        d.starts,
+        (
+          c.0,
+          d.st.trace,
+          subst (λ (k : ℕ). canonical_after w k d.first ≡ Raises clause (c.0 ∷ d.st.trace)) (sym (plus_one n)) (one_more w n d.first d.st d.runs ∙ c.1),
+          d.told,
+        ),
+      ))
+  ends_by (halt.Over cause number) ran x is =
+      subst (λ (z : Ran). GoesOnAt p strings input numbers before heard new n frames (old.memory.rows ∷ earlier) (End z)) (sym is)
+      (λ rows count s.
+      let w = world_in p strings rows count in
+      let d = at rows count (suits_same new.memory.rows (old.memory.rows ∷ earlier) frames rows count s) in
+      let c = comes w p numbers old new d.st n (Err (halt.Over cause number)) d.along x (rows_of_both old new earlier frames rows count s) few in
+      (d.first, d.starts, (one_more w n d.first d.st d.runs ∙ c, (d.st, d.runs, d.told))))
+  ends_by halt.Unplaced ran x is = absurd is
+  ends_by halt.NoMemory ran x is = absurd is
+
+-- ---- no picks are left
+pub ends_here : (p : Program) (strings : List (List ℕ)) (input : List ℕ) (numbers : Numbers) (before heard : Option Heard) (m : Machine) (n : ℕ)
+    (frames : List Started_frame) (earlier : List (List Row)) → IsAt p strings input numbers before heard m n frames earlier
+    → EndsIn p strings input before heard m.streams.output frames (m.memory.rows ∷ earlier) (OutOfSteps n)
+ends_here p strings input numbers before heard m n frames earlier at rows number s =
+    let d = at rows number s in
+    (d.first, d.starts, (d.st, d.runs, ap (λ (s : Store). s.output) d.along.going.stands.memory.store, d.told))
+
+-- ---- the next pick of a run
+pub goes_behind : (p : Program) (strings : List (List ℕ)) (input : List ℕ) (numbers : Numbers) (before heard : Option Heard) (m : Machine) (n : ℕ)
+    (frames : List Started_frame) (earlier : List (List Row)) → IsAt p strings input numbers before heard m (suc n) frames earlier
+    → IsAt p strings input numbers before heard m (n + 1) frames earlier
+goes_behind p strings input numbers before heard m n frames earlier at =
+    subst (λ (k : ℕ). IsAt p strings input numbers before heard m k frames earlier) (sym (plus_one n)) at
