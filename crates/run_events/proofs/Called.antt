@@ -143,19 +143,21 @@ module _ (old : Machine) (os : List Operand) (ts : List Qual) (event : Event) wh
   wanted agree (Some ty) None = tt
   wanted agree (Some ty) (Some f) = wanted_where (is_some f.1.body || is_some f.1.library) (agree f.1.ty ty) f.0 f.1
 
-module _ (old : Machine) (os : List Operand) (ts : List Qual) (event : Event) (new : Machine) where
+module _ (old : Machine) (os : List Operand) (ts : List Qual) (event : Event) where
   refused_where : (callable agrees : Bool) (n : ℕ) (f : Function) (c : Clause) (rows : List Row) (s : Store) →
       run rows (require callable InvalidPointer >> (require agrees IncompatibleCall >> Give n)) s ≡ act_of (Err c) [] s →
-      RunsWhere old os ts event new (Err (fault.Raise c)) callable agrees n f
-  refused_where false agrees n f c rows s is = cc
-  refused_where true false n f c rows s is = cc
+      RunsWhere old os ts event old (Err (fault.Raise c)) callable agrees n f
+  refused_where false agrees n f c rows s is = (cc, refl)
+  refused_where true false n f c rows s is = (cc, refl)
   refused_where true true n f c rows s is = absurd (cc)
 
-  -- what the checks raise is raised
+  -- what the checks raise is raised, of a machine that is as before
   pub refused : (agree : CType → CType → Bool) (ty : CType) (found : Option (ℕ × Function)) (c : Clause) (rows : List Row) (s : Store) →
-      run rows (checked_call agree ty found) s ≡ act_of (Err c) [] s → CallsFound old os ts event new (Err (fault.Raise c)) agree (Some ty) found
-  refused agree ty None c rows s is = cc
+      run rows (checked_call agree ty found) s ≡ act_of (Err c) [] s → CallsFound old os ts event old (Err (fault.Raise c)) agree (Some ty) found
+  refused agree ty None c rows s is = (cc, refl)
   refused agree ty (Some f) c rows s is = refused_where (is_some f.1.body || is_some f.1.library) (agree f.1.ty ty) f.0 f.1 c rows s is
+
+module _ (old : Machine) (os : List Operand) (ts : List Qual) (event : Event) (new : Machine) where
 
   module _ (result : Result Outcome Fault) where
     runs_where : (callable agrees : Bool) (k n : ℕ) (f : Function) (rows : List Row) (s : Store) →
@@ -179,11 +181,11 @@ module _ (old : Machine) (os : List Operand) (ts : List Qual) (event : Event) (n
 
 -- ---- by the code of the call
 -- where it goes by no type
-pub no_type : (old : Machine) (os : List Operand) (ts : List Qual) (event : Event) (new : Machine) (agree : CType → CType → Bool) (o : Option (Bor FuncTy))
+pub no_type : (old : Machine) (os : List Operand) (ts : List Qual) (event : Event) (agree : CType → CType → Bool) (o : Option (Bor FuncTy))
     (found : Option (ℕ × Function)) → ((ty : Bor FuncTy) → o ≡ Some ty → ⊥) →
-    CallsFound old os ts event new (Err (fault.Raise InvalidPointer)) agree (type_of_call o) found
-no_type old os ts event new agree None found none = refl
-no_type old os ts event new agree (Some ty) found none = absurd (none ty refl)
+    CallsFound old os ts event old (Err (fault.Raise InvalidPointer)) agree (type_of_call o) found
+no_type old os ts event agree None found none = (refl, refl)
+no_type old os ts event agree (Some ty) found none = absurd (none ty refl)
 
 -- by its type and the address that its designator gives
 pub by_type : (old : Machine) (os : List Operand) (ts : List Qual) (event : Event) (new : Machine) (result : Result Outcome Fault) (agree : CType → CType → Bool)

@@ -1,6 +1,6 @@
 -- What acts do, from what the calls of memory promise.
 use Rattle.std.proofs.Common.{◌≡◌, Some, sym, ap, ap₂, ◌∙◌, subst}
-use Rattle.std.specs.Prelude.{option_map, Ok, Err}
+use Rattle.std.specs.Prelude.{option_map, Result, Ok, Err, OnErr}
 use Rattle.ub_base.specs.declared.clause.Clause.{Clause}
 use Rattle.ub_base.specs.declared.names.Event.{Event}
 use Rattle.exposure.specs.declared.prov.Prov.{Prov}
@@ -11,6 +11,7 @@ use Rattle.prov_memory.specs.declared.answer.MemFault.{MemFault}
 use Rattle.prov_memory.specs.declared.answer.MemFault.TheVariants as faults
 use Rattle.prov_memory.specs.declared.value.Value.{Value as Kept_value}
 use Rattle.prov_memory.specs.declared.value.Value.TheVariants as kept
+use Rattle.prov_memory.specs.Keeps.{Keeps, RowsStay}
 use Rattle.prov_memory.specs.Loads.{IfRaise}
 use Rattle.prov_memory.specs.Made.{IsMade}
 use Rattle.prov_memory.specs.Memory.{Kept, HasCell, store_of}
@@ -27,6 +28,8 @@ use Rattle.run_state.specs.declared.machine.Machine.{Machine}
 use Rattle.run_state.specs.Operands.{operand_in}
 use Rattle.run_events.specs.Faults.{fault_of}
 use Rattle.run_events.specs.Acts.{given_by, script_in, IsGiven}
+use Rattle.run_events.specs.declared.acts.Outcome.{Outcome}
+use Rattle.run_events.specs.declared.fault.Fault.{Fault}
 use Rattle.run_events.specs.Performs.{store_in, Does}
 
 -- ---- the value of an operand
@@ -100,3 +103,16 @@ copy_made m o v copy g = (copy_of m o v copy g).made
 -- ---- a pointer as a value
 pub pointer_is : (k : Kept) (p : Pointer) (h : Kept_value) → ((k : Kept) → value_in k h ≡ pointer_value (pointer_at p)) → IsMade k p.prov → IsOf k h
 pointer_is k p h seen made = seen_pointer k k h (pointer_at p) (seen k) made
+
+-- ---- rows stay where an act isn't done
+pub rows_kept : (r : Result Outcome Fault) (old new : Kept) → Keeps old new → OnErr r (RowsStay old.rows new.rows)
+rows_kept (Ok outcome) old new keeps = tt
+rows_kept (Err e) old new keeps = keeps.rows
+
+pub rows_same : (r : Result Outcome Fault) (m : Kept) → OnErr r (RowsStay m.rows m.rows)
+rows_same (Ok outcome) m = tt
+rows_same (Err e) m = λ x row at. at
+
+-- where values alone have changed
+pub rows_rest : (r : Result Outcome Fault) (old new : Machine) → new ≡ record old { values = new.values } → OnErr r (RowsStay old.memory.rows new.memory.rows)
+rows_rest r old new rest = subst (λ (k : Kept). OnErr r (RowsStay old.memory.rows k.rows)) (sym (ap (λ (m : Machine). m.memory) rest)) (rows_same r old.memory)

@@ -126,6 +126,14 @@ value_performs rows m new who a r can given gives = go r
     go (Err fault.Unplaced) did = absurd did
     go (Err fault.NoMemory) did = tt
 
+-- ---- the operands of an effect are given
+pub store_given : (m : Machine) (who : Event) (a : Act) (n : ℕ) (place value : Operand) → a ≡ act.Store n place value → AreGiven m who a
+    → IsGiven m place × IsGiven m value
+store_given m who a n place value is given = subst (λ (b : Act). AreGiven m who b) is given
+
+pub fill_given : (m : Machine) (who : Event) (a : Act) (object : Operand) (n : ℕ) → a ≡ act.Fill object n → AreGiven m who a → IsGiven m object
+fill_given m who a object n is given = subst (λ (b : Act). AreGiven m who b) is given
+
 -- ---- what the others are
 pub no_effect : (a : Act) → ((n : ℕ) (place value : Operand) → a ≡ act.Store n place value → ⊥) → ((object : Operand) (n : ℕ) → a ≡ act.Fill object n → ⊥)
     → ((n : ℕ) → a ≡ act.Call n → ⊥) → ((n : ℕ) → a ≡ act.Initialize n → ⊥) → gives_value a ≡ true

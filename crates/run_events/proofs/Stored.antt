@@ -1,6 +1,6 @@
 -- What stores and initializations do.
 use Rattle.std.proofs.Common.{◌≡◌, ◌∙◌, ℕ, zero, suc, refl, sym, ap, ap₂, subst, List, [], ◌∷◌, length, map, slice_get, Option, Some, None}
-use Rattle.std.specs.Prelude.{Result, Ok, Err}
+use Rattle.std.specs.Prelude.{Result, Ok, Err, OnErr}
 use Rattle.std.specs.Borrow.{Bor}
 use Rattle.ub_base.specs.declared.clause.Clause.{Clause}
 use Rattle.ub_base.specs.declared.names.Item.{Item}
@@ -12,7 +12,7 @@ use Rattle.prov_memory.specs.declared.answer.MemFault.{MemFault}
 use Rattle.prov_memory.specs.declared.answer.MemFault.TheVariants as faults
 use Rattle.prov_memory.specs.declared.cell.Via.{Via}
 use Rattle.prov_memory.specs.declared.value.Value.{Value as Kept_value}
-use Rattle.prov_memory.specs.Keeps.{Keeps, IsNumbered}
+use Rattle.prov_memory.specs.Keeps.{Keeps, IsNumbered, RowsStay}
 use Rattle.prov_memory.specs.Loads.{IfRaise}
 use Rattle.prov_memory.specs.Made.{IsMade}
 use Rattle.prov_memory.specs.Memory.{Kept, store_of}
@@ -40,7 +40,7 @@ use Rattle.run_events.specs.declared.fault.Fault.TheVariants as fault
 use Rattle.run_events.specs.Acts.{filled_from, given_by, stored_by, IsGiven}
 use Rattle.run_events.specs.Performs.{store_in, CanAct, Effects}
 use Rattle.run_events.specs.Faults.{fault_of}
-use Rattle.run_events.proofs.Doing.{Of, cell_of, copy_of, given_as, given_copy, pointer_made}
+use Rattle.run_events.proofs.Doing.{Of, cell_of, copy_of, given_as, given_copy, pointer_made, rows_kept}
 
 -- ---- lists that go together
 pub each_at : {A B : Type 0} (P : A → B → Type 0) (xs : List A) (ys : List B) (n : ℕ) (x : A) (y : B) → AreEach P xs ys → slice_get xs n ≡ Some x
@@ -108,6 +108,10 @@ module _ (m : Machine) (number : ℕ) (s : StoreCode) (via : Via) (p : Pointer) 
       (stored_by m.memory.rows (slice_get m.code.now.tables.stores.items number) (pointer_at p) (given_by m o)) (Err f)) (sym is)
       (script_is ∙ raised can_store (type_of s.ty.now) is_via.0 m.streams)
 
+  pub store_rows : (r : Result Outcome Fault) → (IsNumbered (length m.memory.types) via → IsSound m.memory → IsOf m.memory v → Keeps m.memory new)
+      → OnErr r (RowsStay m.memory.rows new.rows)
+  store_rows r keeps = rows_kept r m.memory new (keeps is_via.1 can.sound value_of)
+
 -- the place that an operand gives
 pub stored_at : (old new : Machine) (s : Option StoreCode) (place value : Operand) (p : Pointer) (r : Result Outcome Fault)
     → Of old place pointer_of (pointer_at p) → IsGiven old place
@@ -156,3 +160,6 @@ module _ (m : Machine) (number : ℕ) (fs : List Filling) (o : Operand) (p : Poi
   fill_failed faults.NoMemory e end is raised =
       subst (λ (f : Fault). Effects m end
       (filled_from m.memory.rows (slice_get m.code.now.tables.constants.items number) (pointer_of (given_by m o))) (Err f)) (sym is) tt
+
+  pub fill_rows : (r : Result Outcome Fault) → (AreOf m.memory fs → Keeps m.memory new) → OnErr r (RowsStay m.memory.rows new.rows)
+  fill_rows r keeps = rows_kept r m.memory new (keeps are_bytes.1)

@@ -35,13 +35,13 @@ abbrev pub type_of_call : Option (Bor FuncTy) → Option CType
 type_of_call None = None
 type_of_call (Some ty) = Some (type_by (signature_of ty.now))
 
--- it raises this clause, if memory isn't wanted before
-abbrev pub RaisesOnly : Clause → Result Outcome Fault → Type 0
-RaisesOnly c (Ok outcome) = ⊥
-RaisesOnly c (Err (fault.Raise raised)) = raised ≡ c
-RaisesOnly c (Err (fault.Over cause reached)) = ⊥
-RaisesOnly c (Err fault.Unplaced) = ⊥
-RaisesOnly c (Err fault.NoMemory) = Unit {0}
+-- it raises this clause, if memory isn't wanted before, and leaves the memory
+abbrev pub RaisesOnly : Clause → (old new : Machine) → Result Outcome Fault → Type 0
+RaisesOnly c old new (Ok outcome) = ⊥
+RaisesOnly c old new (Err (fault.Raise raised)) = (raised ≡ c) × (new.memory ≡ old.memory)
+RaisesOnly c old new (Err (fault.Over cause reached)) = ⊥
+RaisesOnly c old new (Err fault.Unplaced) = ⊥
+RaisesOnly c old new (Err fault.NoMemory) = Unit {0}
 
 -- The machine before and after the body of a call with these operands as its arguments, which have these types, and what was answered.
 module _ (old : Machine) (os : List Operand) (ts : List Qual) (event : Event) (new : Machine) (result : Result Outcome Fault) where
@@ -52,14 +52,14 @@ module _ (old : Machine) (os : List Operand) (ts : List Qual) (event : Event) (n
 
   -- a function that is neither defined nor of the library can't be called (6.5.3.2p4), nor one whose type isn't compatible with the call's (6.5.2.2p9)
   abbrev pub RunsWhere : (callable agrees : Bool) → ℕ → Function → Type 0
-  RunsWhere false agrees number f = RaisesOnly InvalidPointer result
-  RunsWhere true false number f = RaisesOnly IncompatibleCall result
+  RunsWhere false agrees number f = RaisesOnly InvalidPointer old new result
+  RunsWhere true false number f = RaisesOnly IncompatibleCall old new result
   RunsWhere true true number f = Runs number f.library
 
   -- no function can be called that isn't there (6.5.3.2p4)
   abbrev pub CallsFound : (agree : CType → CType → Bool) → Option CType → Option (ℕ × Function) → Type 0
-  CallsFound agree None found = RaisesOnly InvalidPointer result
-  CallsFound agree (Some ty) None = RaisesOnly InvalidPointer result
+  CallsFound agree None found = RaisesOnly InvalidPointer old new result
+  CallsFound agree (Some ty) None = RaisesOnly InvalidPointer old new result
   CallsFound agree (Some ty) (Some f) = RunsWhere (is_some f.1.body || is_some f.1.library) (agree f.1.ty ty) f.0 f.1
 
 -- Where these are the functions of the program, types agree that are compatible, and the designator gives a value, the function is called to which the value

@@ -119,8 +119,8 @@ pub record StartsFunction (old : Machine) (number : ℕ) (os : List Operand) (ev
   pub few : old.depth < 100000
   pub counted : new ≡ record opened { depth = old.depth + 1 }
 
--- So it has where fewer than 100,000 frames of functions are open; otherwise the limit is passed, with the number that would be reached (own). There may
--- be want of memory.
+-- So it has where fewer than 100,000 frames of functions are open; otherwise the limit is passed, with the number that would be reached (own), and the
+-- memory stays. There may be want of memory.
 abbrev pub OpensFunction : Machine → ℕ → List Operand → Event → Machine → Result Outcome Fault → Type 0
 OpensFunction old number os event new (Ok outcome.Started) = StartsFunction old number os event new
 OpensFunction old number os event new (Ok outcome.Done) = ⊥
@@ -128,7 +128,8 @@ OpensFunction old number os event new (Ok (outcome.End status)) = ⊥
 OpensFunction old number os event new (Err fault.NoMemory) = Unit {0}
 OpensFunction old number os event new (Err fault.Unplaced) = ⊥
 OpensFunction old number os event new (Err (fault.Raise clause)) = ⊥
-OpensFunction old number os event new (Err (fault.Over cause reached)) = (cause ≡ Depth) × (reached ≡ min (old.depth + 1) (2 ^ 64 - 1)) × (100000 ≤ old.depth)
+OpensFunction old number os event new (Err (fault.Over cause reached)) =
+    (cause ≡ Depth) × (reached ≡ min (old.depth + 1) (2 ^ 64 - 1)) × (100000 ≤ old.depth) × (new.memory ≡ old.memory)
 
 -- 3. A body.
 

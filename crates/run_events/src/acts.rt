@@ -1,10 +1,10 @@
 // The acts of events.
-ghost use Rattle.std.specs.Prelude.{◌≡◌, ◌≢◌, ◌+◌, ◌<◌, ℕ, true, false, not, List, length, slice_get, None, Some, IfOk};
+ghost use Rattle.std.specs.Prelude.{◌≡◌, ◌≢◌, ◌+◌, ◌<◌, ℕ, true, false, not, List, length, slice_get, None, Some, IfOk, OnErr};
 ghost use Rattle.addr_map.specs.declared.map.Row.{Row};
 ghost use Rattle.c_model.specs.Nodes.{bool_value, in_order};
 ghost use Rattle.c_model.specs.Values as model;
 ghost use Rattle.prov_memory.specs.Made.{IsMade};
-ghost use Rattle.prov_memory.specs.Keeps.{Keeps};
+ghost use Rattle.prov_memory.specs.Keeps.{Keeps, RowsStay};
 ghost use Rattle.prov_memory.specs.Memory.{HasCell, Kept};
 ghost use Rattle.prov_memory.specs.Sound.{IsSound};
 ghost use Rattle.run_acts.specs.Kept.{IsOf};
@@ -60,6 +60,7 @@ pub fn perform(machine: &mut Machine, act: &Act, event: Event) -> Result<Outcome
     ensures exact { (rows : List Row) → CanPerform rows machine.old → AreGiven machine.old event act.now → is_body_act act.now ≡ false → Performs rows machine.old machine.new event act.now result }
     ensures changes { is_body_act act.now ≡ false → ChangesOnly machine.old machine.new event.node act.now }
     ensures effect { is_body_act act.now ≡ false → gives_value act.now ≡ false → machine.new.values ≡ machine.old.values }
+    ensures rows { (rows : List Row) → CanPerform rows machine.old → AreGiven machine.old event act.now → is_body_act act.now ≡ false → OnErr result (RowsStay machine.old.memory.rows machine.new.memory.rows) }
     ensures bodies { Opens machine.old act.now event machine.new result }
     ensures calls { (number : ℕ) → act.now ≡ acts.Call number → CallsNumbered number machine.old event machine.new result }
 {
@@ -92,6 +93,7 @@ fn call_of(machine: &mut Machine, number: u32, event: Event) -> Result<Outcome, 
 fn value_act(machine: &mut Machine, act: &Act, event: Event) -> Result<Outcome, Fault>
     ensures exact { CanAct machine.old → AreGiven machine.old event act.now → gives_value act.now ≡ true → Does machine.old machine.new event act.now result }
     ensures changes { ChangesOnly machine.old machine.new event.node act.now }
+    ensures rows { OnErr result (RowsStay machine.old.memory.rows machine.new.memory.rows) }
 {
     match act {
         Act::Load { access, ty, place } => loaded(machine, access, *ty, place, event),
@@ -134,6 +136,7 @@ fn loaded(
 ) -> Result<Outcome, Fault>
     ensures exact { CanAct machine.old → AreGiven machine.old event (acts.Load access.now ty.entry place.now) → Does machine.old machine.new event (acts.Load access.now ty.entry place.now) result }
     ensures changes { ChangesOnly machine.old machine.new event.node (acts.Load access.now ty.entry place.now) }
+    ensures rows { OnErr result (RowsStay machine.old.memory.rows machine.new.memory.rows) }
 {
     match *access {
         Access::Integer(kind) => loaded_integer(machine, kind, ty, place, event),
@@ -153,6 +156,7 @@ fn loaded_integer(
 ) -> Result<Outcome, Fault>
     ensures exact { CanAct machine.old → AreGiven machine.old event (acts.Load (accesses.Integer kind) ty.entry place.now) → Does machine.old machine.new event (acts.Load (accesses.Integer kind) ty.entry place.now) result }
     ensures changes { ChangesOnly machine.old machine.new event.node (acts.Load (accesses.Integer kind) ty.entry place.now) }
+    ensures rows { OnErr result (RowsStay machine.old.memory.rows machine.new.memory.rows) }
 {
     match *place {
         Operand::Local { object, offset } => {
@@ -176,6 +180,7 @@ fn integer_at(
 ) -> Result<Outcome, Fault>
     ensures exact { CanAct machine.old → HasCell machine.old.memory place.prov → (a : ActOf) → kept_room a ≡ None → script_in machine.old.memory.rows machine.old event a ≡ integer_act machine.old.memory.rows kind (pointer_at place) → Does machine.old machine.new event a result }
     ensures changes { (a : ActOf) → ChangesOnly machine.old machine.new event.node a }
+    ensures rows { OnErr result (RowsStay machine.old.memory.rows machine.new.memory.rows) }
 {
     let t = &mut machine.items;
     let number = machine.memory.load_int(kind, place.addr, place.prov, t)?;
@@ -193,6 +198,7 @@ fn loaded_pointer(
 ) -> Result<Outcome, Fault>
     ensures exact { CanAct machine.old → AreGiven machine.old event (acts.Load accesses.Pointer ty.entry place.now) → Does machine.old machine.new event (acts.Load accesses.Pointer ty.entry place.now) result }
     ensures changes { ChangesOnly machine.old machine.new event.node (acts.Load accesses.Pointer ty.entry place.now) }
+    ensures rows { OnErr result (RowsStay machine.old.memory.rows machine.new.memory.rows) }
 {
     let place = machine.pointer(*place);
     let t = &mut machine.items;
@@ -213,6 +219,7 @@ fn loaded_value(
 ) -> Result<Outcome, Fault>
     ensures exact { CanAct machine.old → AreGiven machine.old event (acts.Load access.now ty.entry place.now) → Does machine.old machine.new event (acts.Load access.now ty.entry place.now) result }
     ensures changes { ChangesOnly machine.old machine.new event.node (acts.Load access.now ty.entry place.now) }
+    ensures rows { OnErr result (RowsStay machine.old.memory.rows machine.new.memory.rows) }
 {
     let place = machine.pointer(*place);
     let t = &mut machine.items;
@@ -225,6 +232,7 @@ fn loaded_value(
 fn same(machine: &mut Machine, operand: &Operand, event: Event) -> Result<Outcome, Fault>
     ensures exact { CanAct machine.old → AreGiven machine.old event (acts.Same operand.now) → Does machine.old machine.new event (acts.Same operand.now) result }
     ensures changes { ChangesOnly machine.old machine.new event.node (acts.Same operand.now) }
+    ensures rows { OnErr result (RowsStay machine.old.memory.rows machine.new.memory.rows) }
 {
     let value = machine.value(*operand)?;
     machine.keep(event.node, value);
@@ -242,6 +250,7 @@ fn arithmetic(
 ) -> Result<Outcome, Fault>
     ensures exact { CanAct machine.old → AreGiven machine.old event (acts.Binary op kind left.now right.now) → Does machine.old machine.new event (acts.Binary op kind left.now right.now) result }
     ensures changes { ChangesOnly machine.old machine.new event.node (acts.Binary op kind left.now right.now) }
+    ensures rows { OnErr result (RowsStay machine.old.memory.rows machine.new.memory.rows) }
 {
     let left = machine.integer(*left);
     let right = machine.integer(*right);
@@ -260,6 +269,7 @@ fn converted(
 ) -> Result<Outcome, Fault>
     ensures exact { CanAct machine.old → AreGiven machine.old event (acts.Convert conversion operand.now) → Does machine.old machine.new event (acts.Convert conversion operand.now) result }
     ensures changes { ChangesOnly machine.old machine.new event.node (acts.Convert conversion operand.now) }
+    ensures rows { OnErr result (RowsStay machine.old.memory.rows machine.new.memory.rows) }
 {
     match conversion {
         Conversion::Integer(kind) => converted_integer(machine, kind, operand, event),
@@ -276,6 +286,7 @@ fn converted_integer(
 ) -> Result<Outcome, Fault>
     ensures exact { CanAct machine.old → AreGiven machine.old event (acts.Convert (conversions.Integer kind) operand.now) → Does machine.old machine.new event (acts.Convert (conversions.Integer kind) operand.now) result }
     ensures changes { ChangesOnly machine.old machine.new event.node (acts.Convert (conversions.Integer kind) operand.now) }
+    ensures rows { OnErr result (RowsStay machine.old.memory.rows machine.new.memory.rows) }
 {
     let operand = machine.integer(*operand);
     let number = c_arith::convert(kind, operand);
@@ -292,6 +303,7 @@ fn converted_value(
 ) -> Result<Outcome, Fault>
     ensures exact { CanAct machine.old → AreGiven machine.old event (acts.Convert conversion operand.now) → Does machine.old machine.new event (acts.Convert conversion operand.now) result }
     ensures changes { ChangesOnly machine.old machine.new event.node (acts.Convert conversion operand.now) }
+    ensures rows { OnErr result (RowsStay machine.old.memory.rows machine.new.memory.rows) }
 {
     let operand = machine.value(*operand)?;
     let t = &mut machine.items;
@@ -309,6 +321,7 @@ fn unary_value(
 ) -> Result<Outcome, Fault>
     ensures exact { CanAct machine.old → AreGiven machine.old event (acts.Unary op operand.now) → Does machine.old machine.new event (acts.Unary op operand.now) result }
     ensures changes { ChangesOnly machine.old machine.new event.node (acts.Unary op operand.now) }
+    ensures rows { OnErr result (RowsStay machine.old.memory.rows machine.new.memory.rows) }
 {
     let operand = machine.value(*operand)?;
     let value = unary(op, &operand)?;
@@ -321,6 +334,7 @@ fn unary_value(
 fn pointer_act(machine: &mut Machine, act: &Act, event: Event) -> Result<Outcome, Fault>
     ensures exact { CanAct machine.old → AreGiven machine.old event act.now → is_pointer_act act.now ≡ true → Does machine.old machine.new event act.now result }
     ensures changes { ChangesOnly machine.old machine.new event.node act.now }
+    ensures rows { OnErr result (RowsStay machine.old.memory.rows machine.new.memory.rows) }
 {
     match act {
         Act::Move {
@@ -356,6 +370,7 @@ fn move_by(
 ) -> Result<Outcome, Fault>
     ensures exact { CanAct machine.old → AreGiven machine.old event (acts.Move size subtract pointer.now index.now) → Does machine.old machine.new event (acts.Move size subtract pointer.now index.now) result }
     ensures changes { ChangesOnly machine.old machine.new event.node (acts.Move size subtract pointer.now index.now) }
+    ensures rows { OnErr result (RowsStay machine.old.memory.rows machine.new.memory.rows) }
 {
     let pointer = machine.pointer(*pointer);
     let index = machine.integer(*index);
@@ -374,6 +389,7 @@ fn member_of(
 ) -> Result<Outcome, Fault>
     ensures exact { CanAct machine.old → AreGiven machine.old event (acts.Member offset pointer.now) → Does machine.old machine.new event (acts.Member offset pointer.now) result }
     ensures changes { ChangesOnly machine.old machine.new event.node (acts.Member offset pointer.now) }
+    ensures rows { OnErr result (RowsStay machine.old.memory.rows machine.new.memory.rows) }
 {
     let pointer = machine.pointer(*pointer);
     let t = &mut machine.items;
@@ -392,6 +408,7 @@ fn distance_between(
 ) -> Result<Outcome, Fault>
     ensures exact { CanAct machine.old → AreGiven machine.old event (acts.Distance size left.now right.now) → Does machine.old machine.new event (acts.Distance size left.now right.now) result }
     ensures changes { ChangesOnly machine.old machine.new event.node (acts.Distance size left.now right.now) }
+    ensures rows { OnErr result (RowsStay machine.old.memory.rows machine.new.memory.rows) }
 {
     let left = machine.pointer(*left);
     let right = machine.pointer(*right);
@@ -413,6 +430,7 @@ fn relation(
 ) -> Result<Outcome, Fault>
     ensures exact { CanAct machine.old → AreGiven machine.old event (acts.Related op pointers left.now right.now) → Does machine.old machine.new event (acts.Related op pointers left.now right.now) result }
     ensures changes { ChangesOnly machine.old machine.new event.node (acts.Related op pointers left.now right.now) }
+    ensures rows { OnErr result (RowsStay machine.old.memory.rows machine.new.memory.rows) }
 {
     if pointers {
         pointer_relation(machine, op, left, right, event)
@@ -431,6 +449,7 @@ fn pointer_relation(
 ) -> Result<Outcome, Fault>
     ensures exact { CanAct machine.old → AreGiven machine.old event (acts.Related op true left.now right.now) → Does machine.old machine.new event (acts.Related op true left.now right.now) result }
     ensures changes { ChangesOnly machine.old machine.new event.node (acts.Related op true left.now right.now) }
+    ensures rows { OnErr result (RowsStay machine.old.memory.rows machine.new.memory.rows) }
 {
     let left = machine.pointer(*left);
     let right = machine.pointer(*right);
@@ -452,6 +471,7 @@ fn integer_relation(
 ) -> Result<Outcome, Fault>
     ensures exact { CanAct machine.old → AreGiven machine.old event (acts.Related op false left.now right.now) → Does machine.old machine.new event (acts.Related op false left.now right.now) result }
     ensures changes { ChangesOnly machine.old machine.new event.node (acts.Related op false left.now right.now) }
+    ensures rows { OnErr result (RowsStay machine.old.memory.rows machine.new.memory.rows) }
 {
     let left = machine.integer(*left);
     let right = machine.integer(*right);
@@ -481,6 +501,7 @@ fn equality(
 ) -> Result<Outcome, Fault>
     ensures exact { CanAct machine.old → AreGiven machine.old event (acts.Equal op left.now right.now) → Does machine.old machine.new event (acts.Equal op left.now right.now) result }
     ensures changes { ChangesOnly machine.old machine.new event.node (acts.Equal op left.now right.now) }
+    ensures rows { OnErr result (RowsStay machine.old.memory.rows machine.new.memory.rows) }
 {
     let left = machine.value(*left)?;
     let right = machine.value(*right)?;
@@ -500,6 +521,7 @@ fn part_of(
 ) -> Result<Outcome, Fault>
     ensures exact { CanAct machine.old → AreGiven machine.old event (acts.Part offset access.now whole.now) → Does machine.old machine.new event (acts.Part offset access.now whole.now) result }
     ensures changes { ChangesOnly machine.old machine.new event.node (acts.Part offset access.now whole.now) }
+    ensures rows { OnErr result (RowsStay machine.old.memory.rows machine.new.memory.rows) }
 {
     let alloc = machine.alloc;
     let whole = machine.value(*whole)?;
@@ -527,6 +549,7 @@ fn logical(
 ) -> Result<Outcome, Fault>
     ensures exact { CanAct machine.old → AreGiven machine.old event (acts.Logical either first.now second.now) → Does machine.old machine.new event (acts.Logical either first.now second.now) result }
     ensures changes { ChangesOnly machine.old machine.new event.node (acts.Logical either first.now second.now) }
+    ensures rows { OnErr result (RowsStay machine.old.memory.rows machine.new.memory.rows) }
 {
     let value = number(logical_truth(machine, either, first, second));
     machine.keep(event.node, value);
@@ -553,6 +576,7 @@ fn selected(
 ) -> Result<Outcome, Fault>
     ensures exact { CanAct machine.old → AreGiven machine.old event (acts.Selected test.now yes.now no.now) → Does machine.old machine.new event (acts.Selected test.now yes.now no.now) result }
     ensures changes { ChangesOnly machine.old machine.new event.node (acts.Selected test.now yes.now no.now) }
+    ensures rows { OnErr result (RowsStay machine.old.memory.rows machine.new.memory.rows) }
 {
     if machine.truth(*test) {
         same(machine, yes, event)
@@ -566,6 +590,7 @@ fn selected(
 fn answered(machine: &mut Machine, discarded: bool, event: Event) -> Result<Outcome, Fault>
     ensures exact { CanAct machine.old → AreGiven machine.old event (acts.Answer discarded) → Does machine.old machine.new event (acts.Answer discarded) result }
     ensures changes { ChangesOnly machine.old machine.new event.node (acts.Answer discarded) }
+    ensures rows { OnErr result (RowsStay machine.old.memory.rows machine.new.memory.rows) }
 {
     let left = taken(machine, event.node)?;
     let value = answer(left, discarded)?;
@@ -601,6 +626,7 @@ fn update(
 ) -> Result<Outcome, Fault>
     ensures exact { CanAct machine.old → AreGiven machine.old event (acts.Change change old ty.entry place.now operand.now room) → Does machine.old machine.new event (acts.Change change old ty.entry place.now operand.now room) result }
     ensures changes { ChangesOnly machine.old machine.new event.node (acts.Change change old ty.entry place.now operand.now room) }
+    ensures rows { OnErr result (RowsStay machine.old.memory.rows machine.new.memory.rows) }
 {
     let place = machine.pointer(*place);
     let operand = machine.integer(*operand);
@@ -649,6 +675,7 @@ fn store_value(
 ) -> Result<Outcome, Fault>
     ensures exact { CanAct machine.old → StandsTables machine.old → IsGiven machine.old place.now → IsGiven machine.old value.now → Effects machine.old machine.new (stored_by machine.old.memory.rows (slice_get machine.old.code.now.tables.stores.items number) (model.pointer_of (given_by machine.old place.now)) (given_by machine.old value.now)) result }
     ensures rest { TouchesMemory machine.old machine.new }
+    ensures rows { CanAct machine.old → StandsTables machine.old → IsGiven machine.old place.now → IsGiven machine.old value.now → OnErr result (RowsStay machine.old.memory.rows machine.new.memory.rows) }
 {
     let place = machine.pointer(*place);
     match *value {
@@ -667,6 +694,7 @@ fn store_room(
 ) -> Result<Outcome, Fault>
     ensures exact { CanAct machine.old → StandsTables machine.old → IsMade machine.old.memory place.prov → IsGiven machine.old (operands.Done room) → Effects machine.old machine.new (stored_by machine.old.memory.rows (slice_get machine.old.code.now.tables.stores.items number) (pointer_at place) (given_by machine.old (operands.Done room))) result }
     ensures rest { TouchesMemory machine.old machine.new }
+    ensures rows { CanAct machine.old → StandsTables machine.old → IsMade machine.old.memory place.prov → IsGiven machine.old (operands.Done room) → OnErr result (RowsStay machine.old.memory.rows machine.new.memory.rows) }
 {
     let found = target_of(machine, number)?;
     let (target, via) = found;
@@ -695,6 +723,7 @@ fn store_quiet(
 ) -> Result<Outcome, Fault>
     ensures exact { CanAct machine.old → StandsTables machine.old → IsMade machine.old.memory place.prov → IsGiven machine.old value.now → Effects machine.old machine.new (stored_by machine.old.memory.rows (slice_get machine.old.code.now.tables.stores.items number) (pointer_at place) (given_by machine.old value.now)) result }
     ensures rest { TouchesMemory machine.old machine.new }
+    ensures rows { CanAct machine.old → StandsTables machine.old → IsMade machine.old.memory place.prov → IsGiven machine.old value.now → OnErr result (RowsStay machine.old.memory.rows machine.new.memory.rows) }
 {
     let found = target_of(machine, number)?;
     let (target, via) = found;
@@ -756,6 +785,7 @@ fn fillings_of(fillings: &Vec<Items<Filling>>, number: u32) -> Result<&[Filling]
 fn fill_list(machine: &mut Machine, object: &Operand, constants: u32) -> Result<Outcome, Fault>
     ensures exact { CanAct machine.old → StandsTables machine.old → IsGiven machine.old object.now → Effects machine.old machine.new (filled_from machine.old.memory.rows (slice_get machine.old.code.now.tables.constants.items constants) (model.pointer_of (given_by machine.old object.now))) result }
     ensures rest { TouchesMemory machine.old machine.new }
+    ensures rows { CanAct machine.old → StandsTables machine.old → IsGiven machine.old object.now → OnErr result (RowsStay machine.old.memory.rows machine.new.memory.rows) }
 {
     let object = machine.pointer(*object);
     let fillings = fillings_of(&machine.fillings, constants)?;

@@ -4,7 +4,7 @@ use Rattle.std.specs.Borrow.{Bor}
 use Rattle.ub_base.specs.declared.names.Event.{Event}
 use Rattle.ub_base.specs.declared.names.Item.{Item}
 use Rattle.c_typed.specs.declared.tree.Place.{Place}
-use Rattle.c_model.specs.Runs.{Outcome, State, chosen_pick, step}
+use Rattle.c_model.specs.Runs.{Outcome, State, canonical_pick, chosen_pick, step}
 use Rattle.c_model.specs.Steps.{Begun, Control, Ev}
 use Rattle.c_model.specs.World.{World}
 use Rattle.program_view.specs.Laws.{TreesAreKept}
@@ -26,7 +26,7 @@ use Rattle.run_machine.specs.declared.pick.Pick.{Pick}
 use Rattle.run_machine.specs.declared.pick.Pick.TheVariants as pick
 use Rattle.run_machine.specs.Answering.{Answers}
 use Rattle.run_machine.specs.Picks.{top_of, Follows, TakesCanonical}
-use Rattle.run_machine.specs.Starting.{AnswersBody, AnswersNextBody, AnswersStart, MayStart, StartsIsolated}
+use Rattle.run_machine.specs.Starting.{AnswersBody, AnswersNextBody, AnswersStart, MayStart, MayStartNext, StartsIsolated}
 use Rattle.run_machine.specs.Taking.{at_next, past_event, untouched}
 use Rattle.run_machine.proofs.Answered.{passes_so}
 use Rattle.run_machine.proofs.Onward.{at_ready, came_next, cleared_open, ev_place}
@@ -45,7 +45,7 @@ module _ (trees : TreesAreKept) (starts : StandsAtStart) (d : Due) (now start do
     (p : Result Done_as Fault) (is : start ≡ past_event now) (opens : Opens start d.act who done p) where
   module _ (q : Result Done_as Fault) (same : p ≡ q) (world : World) (meaning : Option ℕ → Meaning) (m : Machine) (st : State) (e : Begun) (s : Stage)
       (t : MayStart world meaning m st e s d now) where
-    opens_so : OpensInitializer (past_event now) t.event.number who done q
+    pub opens_so : OpensInitializer (past_event now) t.event.number who done q
     opens_so =
         subst (λ (r : Result Done_as Fault). OpensInitializer (past_event now) t.event.number who done r) same
         (subst (λ (k : Machine). OpensInitializer k t.event.number who done p) is
@@ -83,29 +83,43 @@ module _ (trees : TreesAreKept) (starts : StandsAtStart) (d : Due) (now start do
       (opens_so (Err x) same world meaning m st e s t))
 
 -- ---- the next event along the canonical way
+-- the machine has gone on to it, and may start its frame
+pub record Comes (world : World) (meaning : Option ℕ → Meaning) (old : Machine) (is : List Item) (st : State) (e : Begun) (s : Stage) (due : Bor Due)
+    (mid : Machine) (u : Place) : Type 0 where
+  pub same : due.now.place ≡ u
+  pub may : MayStart world meaning (untouched old) st e s due.now (record mid { items = is })
+
+pub comes : (old mid : Machine) (is : List Item) (next : Option (Bor Due)) (due : Bor Due) → Follows old mid next → next ≡ Some due → is ≡ [] →
+    TakesCanonical old (place_of next) → (world : World) (meaning : Option ℕ → Meaning) (st : State) (e : Begun) (s : Stage) (u : Place) →
+    MayStartNext world meaning old st e s → canonical_pick world st.top st.top.begun ≡ Ev u → Comes world meaning old is st e s due mid u
+comes old mid is next due f some none canonical world meaning st e s u asks picks =
+    let came = came_next old mid s due old.top.stage (top_of old) asks.straight asks.stage refl (subst (λ (o : Option (Bor Due)). Follows old mid o) some f) in
+    let now : record mid { items = is } ≡ at_next old s came.count =
+    ap (λ (k : List Item). record mid { items = k }) none ∙ ap (λ (k : Machine). record k { items = [] }) came.is in
+    record {
+      same = ev_place due.now.place u
+          (ap (λ (o : Option (Bor Due)). chosen_pick world (place_of o)) (sym some) ∙ canonical world meaning st asks.stood.stands ∙ picks);
+      may = subst (MayStart world meaning (untouched old) st e s due.now) (sym now)
+          (record {
+            stood = cleared_open world meaning old st e asks.stood;
+            within = asks.within;
+            items = refl;
+            stage = asks.stage;
+            end = asks.end;
+            rooms = asks.rooms;
+            few = asks.few;
+            event = asks.each (came.count, due) came.comes;
+            goes = at_ready old s due came.count s.straight asks.straight came.comes;
+          });
+    }
+
 pub next_bodies : (old mid new : Machine) (is : List Item) (next : Option (Bor Due)) (due : Bor Due) (r : Result Pick Halt) → Follows old mid next →
     next ≡ Some due → is ≡ [] → TakesCanonical old (place_of next) → AnswersBody due.now (record mid { items = is }) new r → AnswersNextBody old new r
 next_bodies old mid new is next due r f some none canonical answers = λ world meaning st e s u asks picks.
-    let came = came_next old mid s due old.top.stage (top_of old) asks.straight asks.stage refl (subst (λ (o : Option (Bor Due)). Follows old mid o) some f) in
-    let same : due.now.place ≡ u =
-    ev_place due.now.place u
-    (ap (λ (o : Option (Bor Due)). chosen_pick world (place_of o)) (sym some) ∙ canonical world meaning st asks.stood.stands ∙ picks) in
-    let now : record mid { items = is } ≡ at_next old s came.count =
-    ap (λ (k : List Item). record mid { items = k }) none ∙ ap (λ (k : Machine). record k { items = [] }) came.is in
+    let c = comes old mid is next due f some none canonical world meaning st e s u asks picks in
     subst (λ (v : Place).
-    AnswersStart world meaning (StartsIsolated world (untouched old) st e s v new (step world st (Ev v))) r new (step world st (Ev v))) same
-    (answers world meaning (record old { items = [] }) st e s (subst (MayStart world meaning (record old { items = [] }) st e s due.now) (sym now)
-    (record {
-      stood = cleared_open world meaning old st e asks.stood;
-      within = asks.within;
-      items = refl;
-      stage = asks.stage;
-      end = asks.end;
-      rooms = asks.rooms;
-      few = asks.few;
-      event = asks.each (came.count, due) came.comes;
-      goes = at_ready old s due came.count s.straight asks.straight came.comes;
-    })))
+    AnswersStart world meaning (StartsIsolated world (untouched old) st e s v new (step world st (Ev v))) r new (step world st (Ev v))) c.same
+    (answers world meaning (untouched old) st e s c.may)
 
 pub none_body : (old new : Machine) (next : Option (Bor Due)) (r : Result Pick Halt) → next ≡ None → TakesCanonical old (place_of next) →
     AnswersNextBody old new r

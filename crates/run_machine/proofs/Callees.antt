@@ -60,7 +60,7 @@ use Rattle.c_typed.specs.declared.tree.Place.{Place}
 use Rattle.c_typed.specs.Order.{is_body}
 use Rattle.mem_spec.specs.Script.{Raised, Script, require, run, ◌>>◌}
 use Rattle.c_model.specs.Program.{Function, Stmt}
-use Rattle.c_model.specs.Runs.{Over, Raises, State, chosen_pick, depth_of, entry_of, library_of, step}
+use Rattle.c_model.specs.Runs.{Over, Raises, State, canonical_pick, chosen_pick, depth_of, entry_of, library_of, step}
 use Rattle.c_model.specs.Steps.{
   Begun,
   Control,
@@ -118,6 +118,7 @@ use Rattle.run_machine.specs.Starting.{
   IsCall,
   IsCallOf,
   MayCall,
+  MayCallNext,
   StartsCall,
   function_frame,
   started_state,
@@ -258,21 +259,21 @@ module _ (trees : TreesAreKept) (starts : StandsAtStart) (d : Due) (now start do
         ∙ if_true (is_body d.place.kind) _ _ (ap is_body call.body)
 
     -- either they raise a clause, or a function's frame starts
-    record Raising : Type 0 where
-      clause : Clause
-      ran : run world.rows (event_act world st.top.scene e d.place (at_node 0 e.root d.place.node)) st.store ≡ Raised clause
-      only : RaisesOnly clause q
+    pub record Raising : Type 0 where
+      pub clause : Clause
+      pub ran : run world.rows (event_act world st.top.scene e d.place (at_node 0 e.root d.place.node)) st.store ≡ Raised clause
+      pub only : RaisesOnly clause past done q
 
-    record Opening : Type 0 where
-      number : ℕ
-      body : Stmt
-      has : body_of world (Some number) ≡ Some body
-      is_call : IsCallOf world st.top.scene e d.place number body (later_values values)
-      opens : OpensFunction past number passed who done q
+    pub record Opening : Type 0 where
+      pub number : ℕ
+      pub body : Stmt
+      pub has : body_of world (Some number) ≡ Some body
+      pub is_call : IsCallOf world st.top.scene e d.place number body (later_values values)
+      pub opens : OpensFunction past number passed who done q
 
     raising : (through : Option CType) → function_type (target (first_type call.operands)) ≡ through → (c : Clause) →
         run world.rows (call_through world (event_of world st.top.scene d.place) through (argument_types call.operands) values) st.store ≡ Raised c →
-        RaisesOnly c q → Raising
+        RaisesOnly c past done q → Raising
     raising through typed c ran only = record {
       clause = c;
       ran = ap (λ (x : Script Value). run world.rows x st.store) acts_by
@@ -360,7 +361,7 @@ module _ (trees : TreesAreKept) (starts : StandsAtStart) (d : Due) (now start do
     leads (Some ty) typed (Some found) called runs =
         by_checks ty typed found called (is_some found.1.body || is_some found.1.library) refl (world.agree found.1.ty ty) refl runs
 
-    led : Raising ⊎ Opening
+    pub led : Raising ⊎ Opening
     led = leads (function_type (target (first_type call.operands))) refl (called_by world values) refl found_so
 
     -- ---- a frame has started
@@ -493,7 +494,7 @@ module _ (trees : TreesAreKept) (starts : StandsAtStart) (d : Due) (now start do
     stops fault.Unplaced same (inl r) = absurd r.only
     stops fault.Unplaced same (inr o) = absurd o.opens
     stops (fault.Raise c) same (inl r) =
-        (entry_of world st.top (Ev d.place) [] ∷ st.trace, raises (Err (fault.Raise c)) same world meaning m st e s t r c r.only)
+        (entry_of world st.top (Ev d.place) [] ∷ st.trace, raises (Err (fault.Raise c)) same world meaning m st e s t r c r.only.0)
     stops (fault.Raise c) same (inr o) = absurd o.opens
     stops (fault.Over cause reached) same (inl r) = absurd r.only
     stops (fault.Over cause reached) same (inr o) =
@@ -505,29 +506,43 @@ module _ (trees : TreesAreKept) (starts : StandsAtStart) (d : Due) (now start do
       (stops world meaning m st e s t line x same (led (Err x) same world meaning m st e s t))
 
 -- ---- the next event along the canonical way
+-- the machine has gone on to it, and may call
+pub record Comes (world : World) (meaning : Option ℕ → Meaning) (old : Machine) (is : List Item) (st : State) (e : Begun) (s : Stage) (due : Bor Due)
+    (mid : Machine) (u : Place) : Type 0 where
+  pub same : due.now.place ≡ u
+  pub may : MayCall world meaning (untouched old) st e s due.now (record mid { items = is })
+
+pub comes_next : (old mid : Machine) (is : List Item) (next : Option (Bor Due)) (due : Bor Due) → Follows old mid next → next ≡ Some due → is ≡ [] →
+    TakesCanonical old (place_of next) → (world : World) (meaning : Option ℕ → Meaning) (st : State) (e : Begun) (s : Stage) (u : Place) →
+    MayCallNext world meaning old st e s → canonical_pick world st.top st.top.begun ≡ Ev u → Comes world meaning old is st e s due mid u
+comes_next old mid is next due f some none canonical world meaning st e s u asks picks =
+    let came = came_next old mid s due old.top.stage (top_of old) asks.straight asks.stage refl (subst (λ (o : Option (Bor Due)). Follows old mid o) some f) in
+    let now : record mid { items = is } ≡ at_next old s came.count =
+    ap (λ (k : List Item). record mid { items = k }) none ∙ ap (λ (k : Machine). record k { items = [] }) came.is in
+    record {
+      same = ev_place due.now.place u
+          (ap (λ (o : Option (Bor Due)). chosen_pick world (place_of o)) (sym some) ∙ canonical world meaning st asks.stood.stands ∙ picks);
+      may = subst (MayCall world meaning (untouched old) st e s due.now) (sym now)
+          (record {
+            stood = cleared_open world meaning old st e asks.stood;
+            within = asks.within;
+            items = refl;
+            stage = asks.stage;
+            end = asks.end;
+            rooms = asks.rooms;
+            functions = asks.functions;
+            event = asks.each (came.count, due) came.comes;
+            goes = at_ready old s due came.count s.straight asks.straight came.comes;
+          });
+    }
+
 pub next_calls : (old mid new : Machine) (is : List Item) (next : Option (Bor Due)) (due : Bor Due) (r : Result Pick Halt) → Follows old mid next →
     next ≡ Some due → is ≡ [] → TakesCanonical old (place_of next) → AnswersCall due.now (record mid { items = is }) new r → AnswersNextCall old new r
 next_calls old mid new is next due r f some none canonical answers = λ world meaning st e s u asks picks.
-    let came = came_next old mid s due old.top.stage (top_of old) asks.straight asks.stage refl (subst (λ (o : Option (Bor Due)). Follows old mid o) some f) in
-    let same : due.now.place ≡ u =
-    ev_place due.now.place u
-    (ap (λ (o : Option (Bor Due)). chosen_pick world (place_of o)) (sym some) ∙ canonical world meaning st asks.stood.stands ∙ picks) in
-    let now : record mid { items = is } ≡ at_next old s came.count =
-    ap (λ (k : List Item). record mid { items = k }) none ∙ ap (λ (k : Machine). record k { items = [] }) came.is in
+    let c = comes_next old mid is next due f some none canonical world meaning st e s u asks picks in
     subst (λ (v : Place).
-    AnswersStart world meaning (CallsFunction world meaning (untouched old) st e s v new (step world st (Ev v))) r new (step world st (Ev v))) same
-    (answers world meaning (record old { items = [] }) st e s (subst (MayCall world meaning (record old { items = [] }) st e s due.now) (sym now)
-    (record {
-      stood = cleared_open world meaning old st e asks.stood;
-      within = asks.within;
-      items = refl;
-      stage = asks.stage;
-      end = asks.end;
-      rooms = asks.rooms;
-      functions = asks.functions;
-      event = asks.each (came.count, due) came.comes;
-      goes = at_ready old s due came.count s.straight asks.straight came.comes;
-    })))
+    AnswersStart world meaning (CallsFunction world meaning (untouched old) st e s v new (step world st (Ev v))) r new (step world st (Ev v))) c.same
+    (answers world meaning (untouched old) st e s c.may)
 
 pub none_call : (old new : Machine) (next : Option (Bor Due)) (r : Result Pick Halt) → next ≡ None → TakesCanonical old (place_of next) →
     AnswersNextCall old new r

@@ -539,8 +539,8 @@ bears_there m mid number t u first os ps r is same d =
 module _ (m mid : Machine) (number t reached : ℕ) (c : BlockCode) (os : List ObjectCode) (is : t ≡ min (m.top.turn + 1) (2 ^ 64 - 1))
     (at : slice_get m.code.now.tables.blocks.items (min (m.top.blocks + number) (2 ^ 32 - 1)) ≡ Some c)
     (there : os ≡ part_of m.code.now.tables.objects.items c.objects) (sum : reached ≡ min (m.memory.created + c.created) (2 ^ 62)) where
-  pub enters_over : 2 ^ 26 < reached → Enters m number mid (Err (halt.Over Created reached))
-  enters_over over = (c, at, λ can. (refl, sum, over))
+  pub enters_over : 2 ^ 26 < reached → mid.memory ≡ m.memory → Enters m number mid (Err (halt.Over Created reached))
+  enters_over over same = (c, at, λ can. (refl, sum, over, same))
 
   pub enters_ok : (new : Machine) (ps : List ObjectCode) → reached ≤ 2 ^ 26 → Bears (turned_to m number t) os c.first mid (Ok tt) →
       ps ≡ with_arguments os c.arguments → PassesAll mid ps c.first new → Enters m number new (Ok None)

@@ -34,6 +34,7 @@ mod Raised
 mod Results
 mod Returning
 mod Rooms
+mod RowsNext
 mod RowsStand
 mod RowsTaken
 mod RootValue

@@ -241,14 +241,15 @@ module _ (stands : LibraryStands) (steps : LibrarySteps) (more : CallsMoreRows) 
     pub record Raising : Type 0 where
       pub clause : Clause
       pub ran : run world.rows (event_act world st.top.scene e d.place (at_node 0 e.root d.place.node)) st.store ≡ Raised clause
-      pub only : RaisesOnly clause q
+      pub only : RaisesOnly clause past done q
 
     pub record Calling : Type 0 where
       is_call : IsLibraryCall world st.top.scene e d.place g (types_seen call.code.types) (later_values all)
       does : CallsLibrary past g os call.code.types who done q
 
     raising : (through : Option CType) → function_type (target (first_type call.body.operands)) ≡ through → (c : Clause)
-        → run world.rows (call_through world whom through (argument_types call.body.operands) all) st.store ≡ Raised c → RaisesOnly c q → Raising
+        → run world.rows (call_through world whom through (argument_types call.body.operands) all) st.store ≡ Raised c → RaisesOnly c past done q
+        → Raising
     raising through typed c ran only = record {
       clause = c;
       ran = ap (λ (x : Script Value). run world.rows x st.store) acts_by
@@ -331,7 +332,7 @@ module _ (stands : LibraryStands) (steps : LibrarySteps) (more : CallsMoreRows) 
       made = made;
     }
 
-    memory_is : past.memory ≡ m.memory
+    pub memory_is : past.memory ≡ m.memory
     memory_is = ap (λ (k : Machine). k.memory) past_is
 
     made_in_m : ArgumentsMade m.memory (values_seen hs)
@@ -469,7 +470,7 @@ module _ (stands : LibraryStands) (steps : LibrarySteps) (more : CallsMoreRows) 
     raised_by c same r = (
       entry_of world st.top (Ev d.place) [] ∷ st.trace,
       raises_so world st e d.place r.clause t.stood.begun r.ran
-          ∙ ap (λ (k : Clause). Raises k (entry_of world st.top (Ev d.place) [] ∷ st.trace)) (sym r.only),
+          ∙ ap (λ (k : Clause). Raises k (entry_of world st.top (Ev d.place) [] ∷ st.trace)) (sym r.only.0),
     )
 
     module _ (line : ℕ) where

@@ -1,5 +1,5 @@
 -- Rows of objects stay, by the calls of which a control step consists.
-use Rattle.std.proofs.Common.{◌≡◌, ℕ, refl, sym, ap, ◌∙◌, subst, List, Option, Some, None, Result, Ok, Err}
+use Rattle.std.proofs.Common.{◌≡◌, ◌+◌, ◌-◌, ◌^◌, min, ℕ, refl, sym, ap, ◌∙◌, subst, List, length, slice_get, Option, Some, None, Result, Ok, Err}
 use Rattle.std.specs.Borrow.{Bor}
 use Rattle.c_typed.specs.declared.tree.Place.{Place}
 use Rattle.prov_memory.specs.Keeps.{RowsStay}
@@ -20,9 +20,10 @@ use Rattle.run_machine.specs.declared.pick.Pick.{Pick}
 use Rattle.run_machine.specs.declared.pick.Pick.TheVariants as pick
 use Rattle.run_machine.specs.Answering.{HasTaken}
 use Rattle.run_machine.specs.Ending.{EndsFrame, GoesBack, NotesIn}
-use Rattle.run_machine.specs.Entering.{Enters, EntersWithin, turned}
+use Rattle.run_code.specs.InRange.{part_of}
+use Rattle.run_machine.specs.Entering.{CanBear, Enters, EntersWithin, turned}
 use Rattle.run_machine.specs.Leaving.{LeavesBlock}
-use Rattle.run_machine.specs.Rows.{GrowsByControl, GrowsByStep, KeepsMemory, KeepsRows, KeepsTaken}
+use Rattle.run_machine.specs.Rows.{GrowsByControl, GrowsByStep, KeepsAnswered, KeepsMemory, KeepsRows, KeepsTaken}
 use Rattle.run_machine.proofs.Entered.{IsKnown, known}
 use Rattle.run_machine.proofs.Entering.{passed_rows}
 use Rattle.run_machine.proofs.Keeping.{in_noted}
@@ -39,20 +40,31 @@ rows_same m n is = subst (λ (k : Kept). RowsStay m.memory.rows k.rows) (sym is)
 pub rows_then : (a b c : Machine) → KeepsRows a b → KeepsRows b c → KeepsRows a c
 rows_then a b c first second = λ x r at. second x r (first x r at)
 
--- by what is answered
+-- whatever is answered
+pub rows_answered : {A : Type 0} (m n : Machine) (r : Result A Halt) → KeepsRows m n → KeepsAnswered m n r
+rows_answered m n (Ok a) stay = stay
+rows_answered m n (Err halt.Unplaced) stay = stay
+rows_answered m n (Err (halt.Raised event line clause)) stay = stay
+rows_answered m n (Err (halt.Over cause number)) stay = stay
+rows_answered m n (Err halt.NoMemory) stay = tt
+
+pub answered_then : {A : Type 0} (a b c : Machine) (r : Result A Halt) → KeepsRows a b → KeepsAnswered b c r → KeepsAnswered a c r
+answered_then a b c (Ok x) first second = rows_then a b c first second
+answered_then a b c (Err halt.Unplaced) first second = rows_then a b c first second
+answered_then a b c (Err (halt.Raised event line clause)) first second = rows_then a b c first second
+answered_then a b c (Err (halt.Over cause number)) first second = rows_then a b c first second
+answered_then a b c (Err halt.NoMemory) first second = tt
+
+-- of a control step
 pub taken_same : {A : Type 0} (m n : Machine) (r : Result A Halt) → KeepsMemory m n r → KeepsTaken m n r
-taken_same m n (Ok a) is = rows_same m n is
+taken_same m n (Ok a) is = (rows_same m n is, tt)
 taken_same m n (Err halt.Unplaced) is = absurd (cc)
-taken_same m n (Err (halt.Raised event line clause)) is = tt
-taken_same m n (Err (halt.Over cause number)) is = tt
-taken_same m n (Err halt.NoMemory) is = tt
+taken_same m n (Err (halt.Raised event line clause)) is = absurd (cc)
+taken_same m n (Err (halt.Over cause number)) is = absurd (cc)
+taken_same m n (Err halt.NoMemory) is = (tt, tt)
 
 pub taken_then : {A : Type 0} (a b c : Machine) (r : Result A Halt) → KeepsRows a b → KeepsTaken b c r → KeepsTaken a c r
-taken_then a b c (Ok x) first second = rows_then a b c first second
-taken_then a b c (Err halt.Unplaced) first second = rows_then a b c first second
-taken_then a b c (Err (halt.Raised event line clause)) first second = tt
-taken_then a b c (Err (halt.Over cause number)) first second = tt
-taken_then a b c (Err halt.NoMemory) first second = tt
+taken_then a b c r first second = (answered_then a b c r first second.0, second.1)
 
 -- a machine with the same memory before
 pub memory_then : {A : Type 0} (a b c : Machine) (r : Result A Halt) → b.memory ≡ a.memory → KeepsMemory b c r → KeepsMemory a c r
@@ -77,22 +89,28 @@ within_rows : (world : World) (meaning : Option ℕ → Meaning) (m new : Machin
     (k : IsKnown world meaning m b.now.number (block_of (meaning m.top.function) b.now).number
     ((meaning m.top.function).decls (block_of (meaning m.top.function) b.now).number) st c) → EntersWithin (turned m b.now.number) new c r →
     KeepsTaken m new r
-within_rows world meaning m new b st c (Ok status) h k e = passed_rows world meaning m new b st c h k e.1 (e.2, e.3, e.4)
-within_rows world meaning m new b st c (Err halt.Unplaced) h k e = rows_by m new m.memory e.1.middle.memory refl e.1.same e.1.before.kept.rows
-within_rows world meaning m new b st c (Err (halt.Over cause number)) h k e = tt
-within_rows world meaning m new b st c (Err halt.NoMemory) h k e = tt
-within_rows world meaning m new b st c (Err (halt.Raised event line clause)) h k e = tt
+within_rows world meaning m new b st c (Ok status) h k e = (passed_rows world meaning m new b st c h k e.1 (e.2, e.3, e.4), tt)
+within_rows world meaning m new b st c (Err halt.Unplaced) h k e =
+    (rows_by m new m.memory e.1.middle.memory refl e.1.same e.1.before.kept.rows, tt)
+within_rows world meaning m new b st c (Err (halt.Over cause number)) h k e = (rows_same m new e.3, tt)
+within_rows world meaning m new b st c (Err halt.NoMemory) h k e = (tt, tt)
+within_rows world meaning m new b st c (Err (halt.Raised event line clause)) h k e = absurd e
+
+-- where the code has the block
+there_rows : (m new : Machine) (b : Bor Block) (r : Result (Option ℕ) Halt) (c : BlockCode) →
+    slice_get m.code.now.tables.blocks.items (min (m.top.blocks + b.now.number) (2 ^ 32 - 1)) ≡ Some c →
+    (CanBear (turned m b.now.number) c.first (length (part_of m.code.now.tables.objects.items c.objects)) →
+    EntersWithin (turned m b.now.number) new c r) → GrowsByStep (taking.Enter b) m new r
+there_rows m new b r c at e = λ world meaning st h.
+    let k = known world meaning m b st c h at in
+    within_rows world meaning m new b st c r h k (e k.bears)
 
 enters_rows : (m new : Machine) (b : Bor Block) (r : Result (Option ℕ) Halt) → Enters m b.now.number new r → GrowsByStep (taking.Enter b) m new r
-enters_rows m new b (Ok status) e = λ world meaning st h.
-    let k = known world meaning m b st e.0 h e.1 in
-    within_rows world meaning m new b st e.0 (Ok status) h k (e.2 k.bears)
-enters_rows m new b (Err halt.Unplaced) e = λ world meaning st h.
-    let k = known world meaning m b st e.0 h e.1 in
-    within_rows world meaning m new b st e.0 (Err halt.Unplaced) h k (e.2 k.bears)
-enters_rows m new b (Err (halt.Raised event line clause)) e = λ world meaning st h. tt
-enters_rows m new b (Err (halt.Over cause number)) e = λ world meaning st h. tt
-enters_rows m new b (Err halt.NoMemory) e = λ world meaning st h. tt
+enters_rows m new b (Ok status) e = there_rows m new b (Ok status) e.0 e.1 e.2
+enters_rows m new b (Err halt.Unplaced) e = there_rows m new b (Err halt.Unplaced) e.0 e.1 e.2
+enters_rows m new b (Err (halt.Raised event line clause)) e = there_rows m new b (Err (halt.Raised event line clause)) e.0 e.1 e.2
+enters_rows m new b (Err (halt.Over cause number)) e = there_rows m new b (Err (halt.Over cause number)) e.0 e.1 e.2
+enters_rows m new b (Err halt.NoMemory) e = λ world meaning st h. (tt, tt)
 
 pub entered_rows : (m new : Machine) (s : Step) (b : Bor Block) (number : ℕ) (r : Result (Option ℕ) Halt) → s ≡ taking.Enter b → number ≡ b.now.number →
     Enters m number new r → GrowsByStep s m new r
@@ -117,9 +135,9 @@ status_rows m n status g = λ world meaning st stands goes items. g world meanin
 
 halt_taken : (m n : Machine) (h : Halt) → KeepsTaken {A = Option ℕ} m n (Err h) → KeepsTaken {A = Pick} m n (Err h)
 halt_taken m n halt.Unplaced k = k
-halt_taken m n (halt.Raised event line clause) k = tt
-halt_taken m n (halt.Over cause number) k = tt
-halt_taken m n halt.NoMemory k = tt
+halt_taken m n (halt.Raised event line clause) k = absurd k.1
+halt_taken m n (halt.Over cause number) k = k
+halt_taken m n halt.NoMemory k = k
 
 pub halt_rows : (m n : Machine) (h : Halt) → GrowsByControl {A = Option ℕ} m n (Err h) → GrowsByControl {A = Pick} m n (Err h)
 halt_rows m n h g = λ world meaning st stands goes items. halt_taken m n h (g world meaning st stands goes items)

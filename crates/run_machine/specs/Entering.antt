@@ -175,7 +175,8 @@ EntersWithin old new c (Ok status) =
     (status ≡ None) × (reached_with old c ≤ 2 ^ 26) × (middle : Machine)
     × AreNew old (part_of old.code.now.tables.objects.items c.objects) c.first (length (part_of old.code.now.tables.objects.items c.objects)) middle
     × PassesAll middle (with_arguments (part_of old.code.now.tables.objects.items c.objects) c.arguments) c.first new
-EntersWithin old new c (Err (halt.Over cause number)) = (cause ≡ Created) × (number ≡ reached_with old c) × (2 ^ 26 < number)
+EntersWithin old new c (Err (halt.Over cause number)) =
+    (cause ≡ Created) × (number ≡ reached_with old c) × (2 ^ 26 < number) × (new.memory ≡ old.memory)
 EntersWithin old new c (Err halt.Unplaced) =
     (reached_with old c ≤ 2 ^ 26) × HasNoPlace old (part_of old.code.now.tables.objects.items c.objects) c.first new
 EntersWithin old new c (Err halt.NoMemory) = Unit {0}

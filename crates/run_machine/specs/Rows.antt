@@ -1,8 +1,8 @@
 -- The rows of objects stay whatever a pick does, in any world that the machine stands in before it (own).
-use Rattle.std.specs.Prelude.{◌≡◌, ◌⊎◌, ℕ, List, [], Option, Result, Ok, Err}
+use Rattle.std.specs.Prelude.{◌≡◌, ℕ, [], Option, Result, Ok, Err}
 use Rattle.c_typed.specs.declared.tree.Place.{Place}
 use Rattle.prov_memory.specs.Keeps.{RowsStay}
-use Rattle.c_model.specs.Runs.{Entry, Outcome, Raises, State, canonical_pick, step}
+use Rattle.c_model.specs.Runs.{State, canonical_pick}
 use Rattle.c_model.specs.Steps.{Begun, Ev}
 use Rattle.c_model.specs.World.{World}
 use Rattle.run_control.specs.View.{Meaning}
@@ -17,7 +17,7 @@ use Rattle.run_state.specs.Stands.{Stands}
 use Rattle.run_machine.specs.declared.pick.Pick.{Pick}
 use Rattle.run_machine.specs.Answering.{HasTaken, MayGoOn}
 use Rattle.run_machine.specs.Library.{MayCallLibrary, MayCallLibraryNext}
-use Rattle.run_machine.specs.Starting.{MayCallNext, MayStartNext}
+use Rattle.run_machine.specs.Starting.{MayCall, MayCallNext, MayStart, MayStartNext}
 use Rattle.run_machine.specs.Taking.{MayTake, MayTakeNext}
 
 -- 1. What stays.
@@ -31,28 +31,23 @@ abbrev pub KeepsMemory : {A : Type 0} → (old new : Machine) → Result A Halt 
 KeepsMemory old new (Ok answer) = new.memory ≡ old.memory
 KeepsMemory old new (Err h) = h ≡ halt.NoMemory
 
--- each row, where it is taken, or needs a row that isn't there
+-- each row, whatever is answered but want of memory
+abbrev pub KeepsAnswered : {A : Type 0} → (old new : Machine) → Result A Halt → Type 0
+KeepsAnswered old new (Ok answer) = KeepsRows old new
+KeepsAnswered old new (Err halt.Unplaced) = KeepsRows old new
+KeepsAnswered old new (Err (halt.Raised event line clause)) = KeepsRows old new
+KeepsAnswered old new (Err (halt.Over cause number)) = KeepsRows old new
+KeepsAnswered old new (Err halt.NoMemory) = Unit {0}
+
+-- no clause is raised
+abbrev pub RaisesNone : {A : Type 0} → Result A Halt → Type 0
+RaisesNone (Err (halt.Raised event line clause)) = ⊥
+RaisesNone r = Unit {0}
+
+-- 2. Control steps, which raise no clause.
+
 abbrev pub KeepsTaken : {A : Type 0} → (old new : Machine) → Result A Halt → Type 0
-KeepsTaken old new (Ok answer) = KeepsRows old new
-KeepsTaken old new (Err halt.Unplaced) = KeepsRows old new
-KeepsTaken old new (Err (halt.Raised event line clause)) = Unit {0}
-KeepsTaken old new (Err (halt.Over cause number)) = Unit {0}
-KeepsTaken old new (Err halt.NoMemory) = Unit {0}
-
--- each row, where an event that isn't a call of the library is taken; an act that isn't done needs none
-abbrev pub KeepsDone : (old new : Machine) → Result Pick Halt → Type 0
-KeepsDone old new (Ok pick) = KeepsRows old new
-KeepsDone old new (Err h) = Unit {0}
-
--- Each row, whatever a function of the library answers; where the call raises a clause before it, the definitions raise one in any case.
-abbrev pub KeepsCalled : (old new : Machine) → Outcome → Result Pick Halt → Type 0
-KeepsCalled old new o (Ok pick) = KeepsRows old new
-KeepsCalled old new o (Err (halt.Raised event line clause)) = KeepsRows old new ⊎ ((trace : List Entry) × (o ≡ Raises clause trace))
-KeepsCalled old new o (Err (halt.Over cause number)) = KeepsRows old new
-KeepsCalled old new o (Err halt.Unplaced) = KeepsRows old new
-KeepsCalled old new o (Err halt.NoMemory) = Unit {0}
-
--- 2. Control steps.
+KeepsTaken old new r = KeepsAnswered old new r × RaisesNone r
 
 -- one that was taken off what is left to do
 abbrev pub GrowsByStep : Step → (old new : Machine) → Result (Option ℕ) Halt → Type 0
@@ -65,22 +60,26 @@ GrowsByControl old new r = (world : World) (meaning : Option ℕ → Meaning) (s
 
 -- 3. Events.
 
--- an event to which a machine has gone on, that isn't a body, or is that of a call of a library function
+-- An event to which a machine has gone on: one that isn't a body, the body of a call of a library function, of an isolated initializer, and of a call of a
+-- function that the program defines.
 pub record GrowsAt (d : Due) (now new : Machine) (r : Result Pick Halt) : Type 0 where
   pub events : (world : World) (meaning : Option ℕ → Meaning) (m : Machine) (st : State) (e : Begun) (s : Stage) (laid : Expression)
-      → MayTake world meaning m st e s laid d now → KeepsDone m new r
+      → MayTake world meaning m st e s laid d now → KeepsAnswered m new r
   pub libraries : (world : World) (meaning : Option ℕ → Meaning) (m : Machine) (st : State) (e : Begun) (s : Stage) (laid : Expression)
-      → MayCallLibrary world meaning m st e s laid d now → KeepsCalled m new (step world st (Ev d.place)) r
+      → MayCallLibrary world meaning m st e s laid d now → KeepsAnswered m new r
+  pub bodies : (world : World) (meaning : Option ℕ → Meaning) (m : Machine) (st : State) (e : Begun) (s : Stage)
+      → MayStart world meaning m st e s d now → KeepsAnswered m new r
+  pub calls : (world : World) (meaning : Option ℕ → Meaning) (m : Machine) (st : State) (e : Begun) (s : Stage)
+      → MayCall world meaning m st e s d now → KeepsAnswered m new r
 
--- 4. The canonical pick: a control step, or an event; for a body that starts a frame memory is that of before.
+-- 4. The canonical pick: a control step, or an event.
 pub record GrowsNext (old new : Machine) (r : Result Pick Halt) : Type 0 where
   pub steps : (world : World) (meaning : Option ℕ → Meaning) (st : State) → Stands world meaning old st → MayGoOn world old st → KeepsTaken old new r
   pub events : (world : World) (meaning : Option ℕ → Meaning) (st : State) (e : Begun) (s : Stage) (laid : Expression) (u : Place)
-      → MayTakeNext world meaning old st e s laid → canonical_pick world st.top st.top.begun ≡ Ev u → KeepsDone old new r
+      → MayTakeNext world meaning old st e s laid → canonical_pick world st.top st.top.begun ≡ Ev u → KeepsAnswered old new r
   pub libraries : (world : World) (meaning : Option ℕ → Meaning) (st : State) (e : Begun) (s : Stage) (laid : Expression) (u : Place)
-      → MayCallLibraryNext world meaning old st e s laid → canonical_pick world st.top st.top.begun ≡ Ev u
-      → KeepsCalled old new (step world st (Ev u)) r
+      → MayCallLibraryNext world meaning old st e s laid → canonical_pick world st.top st.top.begun ≡ Ev u → KeepsAnswered old new r
   pub bodies : (world : World) (meaning : Option ℕ → Meaning) (st : State) (e : Begun) (s : Stage) (u : Place)
-      → MayStartNext world meaning old st e s → canonical_pick world st.top st.top.begun ≡ Ev u → KeepsDone old new r
+      → MayStartNext world meaning old st e s → canonical_pick world st.top st.top.begun ≡ Ev u → KeepsAnswered old new r
   pub calls : (world : World) (meaning : Option ℕ → Meaning) (st : State) (e : Begun) (s : Stage) (u : Place)
-      → MayCallNext world meaning old st e s → canonical_pick world st.top st.top.begun ≡ Ev u → KeepsDone old new r
+      → MayCallNext world meaning old st e s → canonical_pick world st.top st.top.begun ≡ Ev u → KeepsAnswered old new r

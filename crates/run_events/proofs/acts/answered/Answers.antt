@@ -8,7 +8,7 @@ use Rattle.run_code.specs.declared.steps.Operand.TheVariants as operand
 use Rattle.run_events.specs.Acts.{given_by}
 use Rattle.run_events.specs.Performs.{store_in}
 use Rattle.run_events.proofs.Valued.{left_of_room, taken_changes, twice_rest, twice_room, twice_others, with_none}
-use Rattle.run_events.proofs.Doing.{by_script, given_value}
+use Rattle.run_events.proofs.Doing.{by_script, given_value, rows_rest}
 use Rattle.run_events.proofs.Rooms.{room_changes, room_done}
 use Rattle.run_events.proofs.acts.answered.Goals as goal
 
@@ -68,3 +68,9 @@ returns-clause-changes c =
     c.in_ok-value.value c.in_ok-left.ensures.rest c.in_ok-left.ensures.others c.in_ok-left.ensures.count
     c.keep.ensures.rest c.keep.ensures.room c.keep.ensures.others)
     (act.Answer c.args.discarded)
+
+pub returns-in_err-left-clause-rows : goal.returns-in_err-left-clause-rows
+returns-in_err-left-clause-rows c = rows_rest c.from_residual.result c.args.machine.now c.taken.new.machine c.in_err-left.ensures.rest
+
+pub returns-in_err-value-clause-rows : goal.returns-in_err-value-clause-rows
+returns-in_err-value-clause-rows c = rows_rest c.from_residual-in_err-value.result c.args.machine.now c.taken.new.machine c.in_ok-left.ensures.rest

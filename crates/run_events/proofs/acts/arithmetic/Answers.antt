@@ -12,7 +12,7 @@ use Rattle.prov_memory.proofs.KeepLemmas.{keeps_none}
 use Rattle.run_events.specs.Acts.{given_by}
 use Rattle.run_events.specs.Performs.{store_in}
 use Rattle.run_events.proofs.Valued.{int_of, unworked, worked}
-use Rattle.run_events.proofs.Doing.{given_as}
+use Rattle.run_events.proofs.Doing.{given_as, rows_same}
 use Rattle.run_events.proofs.Rooms.{room_changes, room_done, touches_all}
 use Rattle.run_events.proofs.acts.arithmetic.Goals as goal
 
@@ -56,3 +56,6 @@ returns-clause-changes c =
     room_changes m m.memory m.items m.spare c.keep.new.self c.args.event.node (kept.Int (to_z w128 (of_z w128 c.in_ok-number.number)))
     c.keep.ensures.rest c.keep.ensures.room c.keep.ensures.others
     (act.Binary c.args.op c.args.kind c.args.left.now c.args.right.now)
+
+pub returns-in_err-number-clause-rows : goal.returns-in_err-number-clause-rows
+returns-in_err-number-clause-rows c = rows_same c.from_residual.result c.args.machine.now.memory

@@ -3,7 +3,7 @@ use Rattle.std.proofs.lemmas.Result.{err_from_is_err_and}
 use Rattle.c_model.specs.Nodes as nodes
 use Rattle.run_code.specs.declared.steps.Act.TheVariants as act
 use Rattle.run_acts.specs.Views.{value_in}
-use Rattle.run_events.proofs.Doing.{by_script, copy_made, copy_same, mem_fails}
+use Rattle.run_events.proofs.Doing.{by_script, copy_made, copy_same, mem_fails, rows_same, rows_kept}
 use Rattle.run_events.proofs.Rooms.{room_changes, room_done, touches_all}
 use Rattle.run_events.proofs.acts.converted_value.Goals as goal
 
@@ -49,3 +49,9 @@ returns-clause-changes c =
     room_changes m c.convert.new.m c.convert.new.t m.spare c.keep.new.self c.args.event.node c.in_ok-value.value c.keep.ensures.rest
     c.keep.ensures.room c.keep.ensures.others
     (act.Convert c.args.conversion c.args.operand.now)
+
+pub returns-in_err-operand-clause-rows : goal.returns-in_err-operand-clause-rows
+returns-in_err-operand-clause-rows c = rows_same c.from_residual.result c.args.machine.now.memory
+
+pub returns-in_err-value-clause-rows : goal.returns-in_err-value-clause-rows
+returns-in_err-value-clause-rows c = rows_kept c.from_residual-in_err-value.result c.args.machine.now.memory c.convert.new.m c.in_err-value.ensures.kept

@@ -3,7 +3,7 @@ use Rattle.std.proofs.lemmas.Result.{err_from_is_err_and}
 use Rattle.c_model.specs.Nodes as nodes
 use Rattle.run_code.specs.declared.steps.Act.TheVariants as act
 use Rattle.run_acts.specs.Views.{pointer_at}
-use Rattle.run_events.proofs.Doing.{by_script, places_same, pointer_made}
+use Rattle.run_events.proofs.Doing.{by_script, places_same, pointer_made, rows_kept}
 use Rattle.run_events.proofs.Rooms.{room_changes, room_done, touches_all}
 use Rattle.run_events.proofs.acts.distance_between.Goals as goal
 
@@ -46,3 +46,6 @@ returns-clause-changes c =
     room_changes m c.distance.new.m c.distance.new.t m.spare c.keep.new.self c.args.event.node c.in_ok-value.value c.keep.ensures.rest
     c.keep.ensures.room c.keep.ensures.others
     (act.Distance c.args.size c.args.left.now c.args.right.now)
+
+pub returns-in_err-value-clause-rows : goal.returns-in_err-value-clause-rows
+returns-in_err-value-clause-rows c = rows_kept c.from_residual.result c.args.machine.now.memory c.distance.new.m c.in_err-value.ensures.kept

@@ -7,7 +7,7 @@ use Rattle.mem_spec.specs.Script.{Give}
 use Rattle.prov_memory.proofs.KeepLemmas.{keeps_none}
 use Rattle.run_events.specs.Acts.{given_by}
 use Rattle.run_events.proofs.Valued.{at_once, equal_int, int_of}
-use Rattle.run_events.proofs.Doing.{given_copy}
+use Rattle.run_events.proofs.Doing.{given_copy, rows_same}
 use Rattle.run_events.proofs.Rooms.{room_changes, room_done, touches_all}
 use Rattle.run_events.proofs.acts.equality.Goals as goal
 
@@ -48,3 +48,9 @@ returns-clause-changes c =
     room_changes m m.memory m.items m.spare c.keep.new.self c.args.event.node c.equal-value.result c.keep.ensures.rest c.keep.ensures.room
     c.keep.ensures.others
     (act.Equal c.args.op c.args.left.now c.args.right.now)
+
+pub returns-in_err-left-clause-rows : goal.returns-in_err-left-clause-rows
+returns-in_err-left-clause-rows c = rows_same c.from_residual.result c.args.machine.now.memory
+
+pub returns-in_err-right-clause-rows : goal.returns-in_err-right-clause-rows
+returns-in_err-right-clause-rows c = rows_same c.from_residual-in_err-right.result c.args.machine.now.memory

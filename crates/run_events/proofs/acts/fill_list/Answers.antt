@@ -1,7 +1,8 @@
 use Rattle.std.proofs.Common.{refl}
 use Rattle.std.proofs.lemmas.Result.{err_from_is_err_and}
 use Rattle.run_events.specs.Faults.{fault_of}
-use Rattle.run_events.proofs.Stored.{fill_done, fill_failed}
+use Rattle.run_events.proofs.Doing.{rows_same}
+use Rattle.run_events.proofs.Stored.{fill_done, fill_failed, fill_rows}
 use Rattle.run_events.proofs.acts.fill_list.Goals as goal
 
 pub returns-in_err-fillings-clause-exact : goal.returns-in_err-fillings-clause-exact
@@ -23,3 +24,12 @@ returns-clause-exact c = λ can tables given.
     let m = c.args.machine.now in
     fill_done m c.args.constants c.in_ok-fillings.fillings.now c.args.object.now c.pointer-object.result c.fill.new.m c.fill.new.t c.fill.new.spare can
     tables c.in_ok-fillings.ensures c.pointer-object.ensures given c.in_ok-fill.ensures.exact c.in_ok-fill.ensures.kept
+
+pub returns-in_err-fillings-clause-rows : goal.returns-in_err-fillings-clause-rows
+returns-in_err-fillings-clause-rows c = λ can tables given. rows_same c.from_residual.result c.args.machine.now.memory
+
+pub returns-in_err-fill-clause-rows : goal.returns-in_err-fill-clause-rows
+returns-in_err-fill-clause-rows c = λ can tables given.
+    let m = c.args.machine.now in
+    fill_rows m c.args.constants c.in_ok-fillings.fillings.now c.args.object.now c.pointer-object.result c.fill.new.m c.fill.new.t c.fill.new.spare can
+    tables c.in_ok-fillings.ensures c.pointer-object.ensures given c.from_residual-in_err-fill.result c.in_err-fill.ensures.kept

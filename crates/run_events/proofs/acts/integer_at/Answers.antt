@@ -12,7 +12,7 @@ use Rattle.run_acts.specs.Views.{pointer_at}
 use Rattle.run_acts.proofs.Acts.{done_give, raised_give}
 use Rattle.run_events.specs.Acts.{script_in}
 use Rattle.run_events.specs.Performs.{store_in}
-use Rattle.run_events.proofs.Doing.{by_script}
+use Rattle.run_events.proofs.Doing.{by_script, rows_kept}
 use Rattle.run_events.proofs.Rooms.{room_changes, room_done, touches_all}
 use Rattle.run_events.proofs.Valued.{int_of}
 use Rattle.run_events.proofs.acts.integer_at.Goals as goal
@@ -52,3 +52,6 @@ pub returns-clause-changes : goal.returns-clause-changes
 returns-clause-changes c = λ a.
     room_changes c.args.machine.now c.load_int.new.self c.load_int.new.t c.args.machine.now.spare c.keep.new.self c.args.event.node
     (kept.Int (to_z w128 (of_z w128 c.in_ok-number.number))) c.keep.ensures.rest c.keep.ensures.room c.keep.ensures.others a
+
+pub returns-in_err-number-clause-rows : goal.returns-in_err-number-clause-rows
+returns-in_err-number-clause-rows c = rows_kept c.from_residual.result c.args.machine.now.memory c.load_int.new.self c.in_err-number.ensures.kept

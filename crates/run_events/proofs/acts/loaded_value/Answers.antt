@@ -4,7 +4,7 @@ use Rattle.c_model.specs.Nodes as nodes
 use Rattle.run_code.specs.declared.steps.Act.TheVariants as act
 use Rattle.c_types.specs.Types.{type_of}
 use Rattle.run_acts.specs.Views.{pointer_at}
-use Rattle.run_events.proofs.Doing.{by_script, cell_of, mem_fails, place_same, pointer_made}
+use Rattle.run_events.proofs.Doing.{by_script, cell_of, mem_fails, place_same, pointer_made, rows_kept}
 use Rattle.run_events.proofs.Rooms.{room_changes, room_done, touches_all}
 use Rattle.run_events.proofs.acts.loaded_value.Goals as goal
 
@@ -44,3 +44,6 @@ returns-clause-changes c =
     room_changes m c.load.new.m c.load.new.t m.spare c.keep.new.self c.args.event.node c.in_ok-value.value c.keep.ensures.rest c.keep.ensures.room
     c.keep.ensures.others
     (act.Load c.args.access.now c.args.ty c.args.place.now)
+
+pub returns-in_err-value-clause-rows : goal.returns-in_err-value-clause-rows
+returns-in_err-value-clause-rows c = rows_kept c.from_residual.result c.args.machine.now.memory c.load.new.m c.in_err-value.ensures.kept

@@ -6,7 +6,7 @@ use Rattle.run_acts.specs.Views.{pointer_at}
 use Rattle.mem_spec.specs.Script.{Done}
 use Rattle.prov_memory.specs.Memory.{store_of}
 use Rattle.c_model.specs.Values.{Value}
-use Rattle.run_events.proofs.Doing.{by_script, place_same, pointer_is, pointer_made}
+use Rattle.run_events.proofs.Doing.{by_script, place_same, pointer_is, pointer_made, rows_kept}
 use Rattle.run_events.proofs.Rooms.{room_changes, room_done, touches_all}
 use Rattle.run_events.proofs.acts.member_of.Goals as goal
 
@@ -45,3 +45,6 @@ returns-clause-changes c =
     room_changes m c.member.new.m c.member.new.t m.spare c.keep.new.self c.args.event.node c.value.result c.keep.ensures.rest c.keep.ensures.room
     c.keep.ensures.others
     (act.Member c.args.offset c.args.pointer.now)
+
+pub returns-in_err-member-clause-rows : goal.returns-in_err-member-clause-rows
+returns-in_err-member-clause-rows c = rows_kept c.from_residual.result c.args.machine.now.memory c.member.new.m c.in_err-member.ensures.kept

@@ -12,7 +12,7 @@ use Rattle.std.proofs.lemmas.Int.{to_z-of_z}
 use Rattle.c_model.specs.Values.{integer_of, pointer_of}
 use Rattle.run_acts.specs.Updates.{IsNear}
 use Rattle.run_events.specs.Acts.{given_by}
-use Rattle.run_events.proofs.Doing.{by_script, given_as, pointer_is, pointer_made}
+use Rattle.run_events.proofs.Doing.{by_script, given_as, pointer_is, pointer_made, rows_kept}
 use Rattle.run_events.proofs.Rooms.{room_changes, room_done, touches_all}
 use Rattle.run_events.proofs.acts.move_by.Goals as goal
 
@@ -64,3 +64,6 @@ returns-clause-changes c =
     room_changes m c.moved.new.m c.moved.new.t m.spare c.keep.new.self c.args.event.node c.value.result c.keep.ensures.rest c.keep.ensures.room
     c.keep.ensures.others
     (act.Move c.args.size c.args.subtract c.args.pointer.now c.args.index.now)
+
+pub returns-in_err-moved-clause-rows : goal.returns-in_err-moved-clause-rows
+returns-in_err-moved-clause-rows c = rows_kept c.from_residual.result c.args.machine.now.memory c.moved.new.m c.in_err-moved.ensures.kept

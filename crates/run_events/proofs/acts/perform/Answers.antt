@@ -5,7 +5,7 @@ use Rattle.run_events.specs.Calling.{CallsNumbered}
 use Rattle.run_events.specs.Opens.{Opens}
 use Rattle.run_events.specs.Performs.{gives_value}
 use Rattle.run_events.proofs.Opening.{opens_none}
-use Rattle.run_events.proofs.Performing.{fill_performs, no_effect, store_performs, value_performs}
+use Rattle.run_events.proofs.Performing.{fill_given, fill_performs, no_effect, store_given, store_performs, value_performs}
 use Rattle.run_events.proofs.Rooms.{touches_all}
 use Rattle.run_events.proofs.acts.perform.Goals as goal
 
@@ -104,3 +104,23 @@ returns-in-Initialize-clause-calls c = λ n is. absurd (let e = c.in-Initialize.
 
 pub returns-in_default-clause-calls : goal.returns-in_default-clause-calls
 returns-in_default-clause-calls c = λ n is. absurd (c.in_default.not-Call n is)
+
+pub returns-in-Store-clause-rows : goal.returns-in-Store-clause-rows
+returns-in-Store-clause-rows c = λ rows can given plain.
+    let g = store_given c.args.machine.now c.args.event c.args.act.now c.in-Store.store c.in-Store.place c.in-Store.value c.in-Store.is given in
+    c.store_value.ensures.rows can.can can.tables g.0 g.1
+
+pub returns-in-Fill-clause-rows : goal.returns-in-Fill-clause-rows
+returns-in-Fill-clause-rows c = λ rows can given plain.
+    c.fill_list.ensures.rows can.can can.tables
+    (fill_given c.args.machine.now c.args.event c.args.act.now c.in-Fill.object c.in-Fill.constants c.in-Fill.is given)
+
+pub returns-in-Call-clause-rows : goal.returns-in-Call-clause-rows
+returns-in-Call-clause-rows c = λ rows can given plain. absurd (let e : is_body_act c.args.act.now ≡ true = ap is_body_act c.in-Call.is in cc)
+
+pub returns-in-Initialize-clause-rows : goal.returns-in-Initialize-clause-rows
+returns-in-Initialize-clause-rows c = λ rows can given plain.
+    absurd (let e : is_body_act c.args.act.now ≡ true = ap is_body_act c.in-Initialize.is in cc)
+
+pub returns-in_default-clause-rows : goal.returns-in_default-clause-rows
+returns-in_default-clause-rows c = λ rows can given plain. c.value_act.ensures.rows

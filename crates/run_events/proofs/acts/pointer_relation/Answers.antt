@@ -5,7 +5,7 @@ use Rattle.c_model.specs.Values.{Value}
 use Rattle.run_code.specs.declared.steps.Act.TheVariants as act
 use Rattle.run_acts.specs.Scripts.{less_act}
 use Rattle.run_acts.specs.Views.{value_in}
-use Rattle.run_events.proofs.Doing.{by_script, places_same, pointer_is, pointer_made}
+use Rattle.run_events.proofs.Doing.{by_script, places_same, pointer_is, pointer_made, rows_kept}
 use Rattle.run_events.proofs.Rooms.{room_changes, room_done, touches_all}
 use Rattle.run_events.proofs.acts.pointer_relation.Goals as goal
 
@@ -54,3 +54,6 @@ returns-clause-changes c =
     room_changes m c.related.new.m c.related.new.t m.spare c.keep.new.self c.args.event.node c.in_ok-value.value c.keep.ensures.rest
     c.keep.ensures.room c.keep.ensures.others
     (act.Related c.args.op true c.args.left.now c.args.right.now)
+
+pub returns-in_err-value-clause-rows : goal.returns-in_err-value-clause-rows
+returns-in_err-value-clause-rows c = rows_kept c.from_residual.result c.args.machine.now.memory c.related.new.m c.in_err-value.ensures.kept

@@ -7,7 +7,7 @@ use Rattle.run_acts.specs.Views.{value_in}
 use Rattle.prov_memory.proofs.KeepLemmas.{keeps_none}
 use Rattle.run_events.specs.Acts.{given_by}
 use Rattle.run_events.proofs.Valued.{at_once}
-use Rattle.run_events.proofs.Doing.{copy_of, given_copy}
+use Rattle.run_events.proofs.Doing.{copy_of, given_copy, rows_same}
 use Rattle.run_events.proofs.Rooms.{room_changes, room_done, touches_all}
 use Rattle.run_events.proofs.acts.same.Goals as goal
 
@@ -35,3 +35,6 @@ returns-clause-changes c =
     room_changes m m.memory m.items m.spare c.keep.new.self c.args.event.node c.in_ok-value.value c.keep.ensures.rest c.keep.ensures.room
     c.keep.ensures.others
     (act.Same c.args.operand.now)
+
+pub returns-in_err-value-clause-rows : goal.returns-in_err-value-clause-rows
+returns-in_err-value-clause-rows c = rows_same c.from_residual.result c.args.machine.now.memory

@@ -1,7 +1,8 @@
 use Rattle.std.proofs.Common.{refl}
 use Rattle.std.proofs.lemmas.Result.{err_from_is_err_and}
 use Rattle.run_events.specs.declared.fault.Fault.TheVariants as fault
-use Rattle.run_events.proofs.Stored.{store_done, store_raised}
+use Rattle.run_events.proofs.Doing.{rows_same}
+use Rattle.run_events.proofs.Stored.{store_done, store_raised, store_rows}
 use Rattle.run_events.proofs.acts.store_quiet.Goals as goal
 
 pub returns-in_err-found-clause-exact : goal.returns-in_err-found-clause-exact
@@ -30,3 +31,16 @@ returns-clause-exact c = λ can tables made given.
     store_done m c.args.number c.in_ok-found.found.0 c.in_ok-found.found.1 c.args.place c.in_ok-value.value c.args.value.now c.store.new.m c.store.new.t
     can tables c.in_ok-found.ensures.store c.in_ok-found.ensures.via made given c.in_ok-value.ensures
     c.in_ok-store.ensures.exact c.in_ok-store.ensures.kept
+
+pub returns-in_err-found-clause-rows : goal.returns-in_err-found-clause-rows
+returns-in_err-found-clause-rows c = λ can tables made given. rows_same c.from_residual.result c.args.machine.now.memory
+
+pub returns-in_err-value-clause-rows : goal.returns-in_err-value-clause-rows
+returns-in_err-value-clause-rows c = λ can tables made given. rows_same c.from_residual-in_err-value.result c.args.machine.now.memory
+
+pub returns-in_err-store-clause-rows : goal.returns-in_err-store-clause-rows
+returns-in_err-store-clause-rows c = λ can tables made given.
+    let m = c.args.machine.now in
+    store_rows m c.args.number c.in_ok-found.found.0 c.in_ok-found.found.1 c.args.place c.in_ok-value.value c.args.value.now c.store.new.m c.store.new.t
+    can tables c.in_ok-found.ensures.store c.in_ok-found.ensures.via made given c.in_ok-value.ensures
+    c.from_residual-in_err-store.result c.in_err-store.ensures.kept

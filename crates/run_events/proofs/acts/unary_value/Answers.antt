@@ -7,7 +7,7 @@ use Rattle.prov_memory.proofs.KeepLemmas.{keeps_none}
 use Rattle.run_events.specs.Acts.{given_by}
 use Rattle.run_events.specs.Performs.{store_in}
 use Rattle.run_events.proofs.Valued.{int_of, unary_int, with_none}
-use Rattle.run_events.proofs.Doing.{by_script, copy_same}
+use Rattle.run_events.proofs.Doing.{by_script, copy_same, rows_same}
 use Rattle.run_events.proofs.Rooms.{room_changes, room_done, touches_all}
 use Rattle.run_events.proofs.acts.unary_value.Goals as goal
 
@@ -50,3 +50,9 @@ returns-clause-changes c =
     room_changes m m.memory m.items m.spare c.keep.new.self c.args.event.node c.in_ok-value.value c.keep.ensures.rest c.keep.ensures.room
     c.keep.ensures.others
     (act.Unary c.args.op c.args.operand.now)
+
+pub returns-in_err-operand-clause-rows : goal.returns-in_err-operand-clause-rows
+returns-in_err-operand-clause-rows c = rows_same c.from_residual.result c.args.machine.now.memory
+
+pub returns-in_err-value-clause-rows : goal.returns-in_err-value-clause-rows
+returns-in_err-value-clause-rows c = rows_same c.from_residual-in_err-value.result c.args.machine.now.memory

@@ -9,6 +9,7 @@ use Rattle.run_events.specs.declared.acts.Outcome.TheVariants as outcome
 use Rattle.run_events.specs.Performs.{ChangesOnly, Does}
 use Rattle.run_events.proofs.Valued.{both_change, both_done, update_did, update_fails}
 use Rattle.run_events.proofs.Rooms.{room_changes, room_done, touches_all}
+use Rattle.run_events.proofs.Doing.{rows_kept}
 use Rattle.run_events.proofs.acts.update.Goals as goal
 
 pub returns-in_err-both-clause-exact : goal.returns-in_err-both-clause-exact
@@ -80,3 +81,6 @@ returns-else-old-clause-changes c =
     (room_changes m c.changed.new.m c.changed.new.t c.changed.new.spare c.keep-else-old.new.self c.args.event.node c.in_ok-both.both.1
     c.keep-else-old.ensures.rest
     c.keep-else-old.ensures.room c.keep-else-old.ensures.others (act.Change c.args.change false c.args.ty c.args.place.now c.args.operand.now c.args.room))
+
+pub returns-in_err-both-clause-rows : goal.returns-in_err-both-clause-rows
+returns-in_err-both-clause-rows c = rows_kept c.from_residual.result c.args.machine.now.memory c.changed.new.m c.in_err-both.ensures.kept

@@ -12,7 +12,7 @@ use Rattle.run_events.proofs.frames.call.Goals as goal
 pub returns-in_default : goal.returns-in_default
 returns-in_default c = record {
   calls = λ fs agree h few are agrees given.
-      no_type c.args.machine.now c.args.call.now.arguments.items c.args.call.now.types c.args.event c.args.machine.now agree c.args.call.now.ty _ c.in_default.not-Some;
+      no_type c.args.machine.now c.args.call.now.arguments.items c.args.call.now.types c.args.event agree c.args.call.now.ty _ c.in_default.not-Some;
 }
 
 pub returns-in_err-address : goal.returns-in_err-address
@@ -33,7 +33,7 @@ returns-in_err-number c =
           by_type m c.args.call.now.arguments.items c.args.call.now.types c.args.event m (Err (fault.Raise c.in_err-number.field-0.0)) agree c.args.call.now.ty ty fs
           c.in_ok-address.address _ c.in-Some.is
           (c.in_ok-address.ensures h given m.memory)
-          (refused m c.args.call.now.arguments.items c.args.call.now.types c.args.event m agree (type_by (signature_of ty.now)) (function_of fs 0 c.in_ok-address.address)
+          (refused m c.args.call.now.arguments.items c.args.call.now.types c.args.event agree (type_by (signature_of ty.now)) (function_of fs 0 c.in_ok-address.address)
           c.in_err-number.field-0.0 m.memory.rows (store_in m) (c.in_err-number.ensures few fs are agree agrees m.memory.rows (store_in m)));
     })
 

@@ -1,4 +1,4 @@
-use Rattle.std.proofs.Common.{arith}
+use Rattle.std.proofs.Common.{arith, refl}
 use Rattle.std.proofs.lemmas.Result.{err_from_is_err_and}
 use Rattle.run_machine.proofs.Entering.{enters_not, enters_ok, enters_over, reached_so}
 use Rattle.run_machine.proofs.Keeping.{fills_then, stays_entered}
@@ -8,7 +8,7 @@ pub returns-then-reached-gt-MOST_CREATED-clause-enters : goal.returns-then-reach
 returns-then-reached-gt-MOST_CREATED-clause-enters c =
     enters_over c.args.machine.now c.args.machine.now c.args.number c.saturating_add-machine.result c.total-reached.result _ _ c.saturating_add-machine.ensures
     c.in_ok-block.ensures.at c.in_ok-block.ensures.objects (reached_so _ _ _ _ c.total-reached.ensures c.created.ensures)
-    (omega (arith, c.if-reached-gt-MOST_CREATED.true))
+    (omega (arith, c.if-reached-gt-MOST_CREATED.true)) refl
 
 pub returns-in_err-create_objects-clause-enters : goal.returns-in_err-create_objects-clause-enters
 returns-in_err-create_objects-clause-enters c =

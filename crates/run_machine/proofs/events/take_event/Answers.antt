@@ -7,6 +7,7 @@ use Rattle.run_machine.proofs.Callees.{call_done, call_ended, call_started, call
 use Rattle.run_machine.proofs.LibraryCompletes.{completed_called}
 use Rattle.run_machine.proofs.LibraryTaken.{called_done, called_ended, called_started, called_stopped}
 use Rattle.run_machine.proofs.Raised.{finished_raises, raised_by}
+use Rattle.run_machine.proofs.RowsNext as next
 use Rattle.run_machine.proofs.RowsTaken as rows
 use Rattle.run_machine.proofs.events.take_event.Goals as goal
 
@@ -166,11 +167,18 @@ returns-in-Err-clause-raised c = raised_by c.args.machine.now c.args.due.now c.i
 pub returns-in-Ok-Done-clause-rows : goal.returns-in-Ok-Done-clause-rows
 returns-in-Ok-Done-clause-rows c = record {
   events = rows.rows_done c.law_events.ensures.steps c.args.due.now c.args.machine.now c.pass_event.new.machine c.perform.new.machine
-      c.finish_event.new.machine c.perform.result c.finish_event.result c.pass_event.ensures (c.perform.ensures.exact, c.perform.ensures.changes, c.perform.ensures.effect)
+      c.finish_event.new.machine c.perform.result c.finish_event.result c.pass_event.ensures
+      (c.perform.ensures.exact, c.perform.ensures.changes, c.perform.ensures.effect)
       (c.in-Ok-Done.is ∙ ap Ok c.in-Ok-Done.field-0-is) c.finish_event.ensures.memory;
   libraries = rows.called_done c.law_bodies.ensures.stands c.law_bodies.ensures.steps c.law_library.ensures.rows c.law_library.ensures.steps c.args.due.now
       c.args.machine.now c.pass_event.new.machine c.perform.new.machine c.perform.result c.pass_event.ensures c.perform.ensures.calls
       (c.in-Ok-Done.is ∙ ap Ok c.in-Ok-Done.field-0-is) c.finish_event.new.machine c.finish_event.result c.finish_event.ensures.memory;
+  bodies = next.body_done c.law_view.ensures.trees c.law_cursor.ensures.starts c.args.due.now c.args.machine.now c.pass_event.new.machine
+      c.perform.new.machine (event_at c.args.machine.now c.args.due.now.place) refl c.perform.result c.pass_event.ensures c.perform.ensures.bodies
+      c.finish_event.new.machine c.finish_event.result (c.in-Ok-Done.is ∙ ap Ok c.in-Ok-Done.field-0-is);
+  calls = next.call_done c.law_view.ensures.trees c.law_cursor.ensures.starts c.args.due.now c.args.machine.now c.pass_event.new.machine
+      c.perform.new.machine (event_at c.args.machine.now c.args.due.now.place) refl c.perform.result c.pass_event.ensures c.perform.ensures.calls
+      c.finish_event.new.machine c.finish_event.result (c.in-Ok-Done.is ∙ ap Ok c.in-Ok-Done.field-0-is);
 }
 
 pub returns-in-Ok-Started-clause-rows : goal.returns-in-Ok-Started-clause-rows
@@ -180,6 +188,12 @@ returns-in-Ok-Started-clause-rows c = record {
       (c.perform.ensures.exact, c.perform.ensures.changes, c.perform.ensures.effect) (c.in-Ok-Started.is ∙ ap Ok c.in-Ok-Started.field-0-is);
   libraries = rows.called_started c.law_bodies.ensures.stands c.law_bodies.ensures.steps c.law_library.ensures.rows c.law_library.ensures.steps c.args.due.now
       c.args.machine.now c.pass_event.new.machine c.perform.new.machine c.perform.result c.pass_event.ensures c.perform.ensures.calls
+      (c.in-Ok-Started.is ∙ ap Ok c.in-Ok-Started.field-0-is) (event_at c.args.machine.now c.args.due.now.place);
+  bodies = next.body_started c.law_view.ensures.trees c.law_cursor.ensures.starts c.args.due.now c.args.machine.now c.pass_event.new.machine
+      c.perform.new.machine (event_at c.args.machine.now c.args.due.now.place) refl c.perform.result c.pass_event.ensures c.perform.ensures.bodies
+      (c.in-Ok-Started.is ∙ ap Ok c.in-Ok-Started.field-0-is) (event_at c.args.machine.now c.args.due.now.place);
+  calls = next.call_started c.law_view.ensures.trees c.law_cursor.ensures.starts c.args.due.now c.args.machine.now c.pass_event.new.machine
+      c.perform.new.machine (event_at c.args.machine.now c.args.due.now.place) refl c.perform.result c.pass_event.ensures c.perform.ensures.calls
       (c.in-Ok-Started.is ∙ ap Ok c.in-Ok-Started.field-0-is) (event_at c.args.machine.now c.args.due.now.place);
 }
 
@@ -192,12 +206,26 @@ returns-in-Ok-End-clause-rows c = record {
       c.args.machine.now c.pass_event.new.machine c.perform.new.machine c.perform.result c.pass_event.ensures c.perform.ensures.calls
       _ (c.in-Ok-End.is ∙ ap Ok c.in-Ok-End.field-0-is) c.finish_event-in-Ok-End.new.machine c.finish_event-in-Ok-End.result
       c.finish_event-in-Ok-End.ensures.memory;
+  bodies = next.body_ended c.law_view.ensures.trees c.law_cursor.ensures.starts c.args.due.now c.args.machine.now c.pass_event.new.machine
+      c.perform.new.machine (event_at c.args.machine.now c.args.due.now.place) refl c.perform.result c.pass_event.ensures c.perform.ensures.bodies
+      c.finish_event-in-Ok-End.new.machine c.finish_event-in-Ok-End.result _ (c.in-Ok-End.is ∙ ap Ok c.in-Ok-End.field-0-is);
+  calls = next.call_ended c.law_view.ensures.trees c.law_cursor.ensures.starts c.args.due.now c.args.machine.now c.pass_event.new.machine
+      c.perform.new.machine (event_at c.args.machine.now c.args.due.now.place) refl c.perform.result c.pass_event.ensures c.perform.ensures.calls
+      c.finish_event-in-Ok-End.new.machine c.finish_event-in-Ok-End.result _ (c.in-Ok-End.is ∙ ap Ok c.in-Ok-End.field-0-is);
 }
 
 pub returns-in-Err-clause-rows : goal.returns-in-Err-clause-rows
 returns-in-Err-clause-rows c = record {
-  events = λ world meaning m st e s laid t. tt;
+  events = rows.rows_stopped c.law_events.ensures.steps c.args.due.now c.args.machine.now c.pass_event.new.machine c.perform.new.machine
+      c.perform.new.machine c.perform.result (Err c.of.result) c.pass_event.ensures
+      (c.perform.ensures.exact, c.perform.ensures.changes, c.perform.ensures.effect) c.in-Err.fault c.of.result c.in-Err.is c.perform.ensures.rows;
   libraries = rows.called_stopped c.law_bodies.ensures.stands c.law_bodies.ensures.steps c.law_library.ensures.rows c.law_library.ensures.steps c.args.due.now
       c.args.machine.now c.pass_event.new.machine c.perform.new.machine c.perform.result c.pass_event.ensures c.perform.ensures.calls
+      c.in-Err.fault c.args.due.now.line c.of.result c.in-Err.is c.of.ensures;
+  bodies = next.body_stopped c.law_view.ensures.trees c.law_cursor.ensures.starts c.args.due.now c.args.machine.now c.pass_event.new.machine
+      c.perform.new.machine (event_at c.args.machine.now c.args.due.now.place) refl c.perform.result c.pass_event.ensures c.perform.ensures.bodies
+      c.in-Err.fault c.args.due.now.line c.of.result c.in-Err.is c.of.ensures;
+  calls = next.call_stopped c.law_view.ensures.trees c.law_cursor.ensures.starts c.args.due.now c.args.machine.now c.pass_event.new.machine
+      c.perform.new.machine (event_at c.args.machine.now c.args.due.now.place) refl c.perform.result c.pass_event.ensures c.perform.ensures.calls
       c.in-Err.fault c.args.due.now.line c.of.result c.in-Err.is c.of.ensures;
 }

@@ -8,7 +8,7 @@ use Rattle.run_machine.proofs.Keeping.{event_kept, step_kept}
 use Rattle.run_machine.proofs.LibraryNext.{next_completed, next_library, none_completed, none_library}
 use Rattle.run_machine.proofs.Onward.{next_answers, next_completes, none_completes, none_next}
 use Rattle.run_machine.proofs.Raised.{next_raises, none_raises}
-use Rattle.run_machine.proofs.RowsTaken.{next_grows, step_grows}
+use Rattle.run_machine.proofs.RowsNext.{next_grows, step_grows}
 use Rattle.run_machine.proofs.Staying.{event_untold, followed, step_told, steps_taken}
 use Rattle.run_machine.proofs.Taken.{event_taken}
 use Rattle.run_machine.proofs.picks.canonical.Goals as goal
@@ -49,13 +49,7 @@ returns-in-Some c = record {
       c.in_ok-next.ensures.frame.0 c.in_ok-next.ensures.frame.1 c.take_event.ensures.raised;
   rows = next_grows c.law_picks.ensures.next c.law_picks.ensures.follows c.args.machine.now c.follow.new.machine c.take_event.new.machine c.clear.new.self
       c.in_ok-next.next c.in-Some.due c.take_event.result c.in_ok-next.ensures.follows c.in-Some.is c.clear.ensures
-      (c.law_picks.ensures.follows c.args.machine.now c.follow.new.machine c.in_ok-next.next c.in_ok-next.ensures.follows) c.take_event.ensures.rows
-      (next_bodies c.args.machine.now c.follow.new.machine c.take_event.new.machine c.clear.new.self c.in_ok-next.next c.in-Some.due
-      c.take_event.result c.in_ok-next.ensures.follows c.in-Some.is c.clear.ensures
-      (c.law_picks.ensures.follows c.args.machine.now c.follow.new.machine c.in_ok-next.next c.in_ok-next.ensures.follows) c.take_event.ensures.bodies)
-      (next_calls c.args.machine.now c.follow.new.machine c.take_event.new.machine c.clear.new.self c.in_ok-next.next c.in-Some.due
-      c.take_event.result c.in_ok-next.ensures.follows c.in-Some.is c.clear.ensures
-      (c.law_picks.ensures.follows c.args.machine.now c.follow.new.machine c.in_ok-next.next c.in_ok-next.ensures.follows) c.take_event.ensures.calls);
+      (c.law_picks.ensures.follows c.args.machine.now c.follow.new.machine c.in_ok-next.next c.in_ok-next.ensures.follows) c.take_event.ensures.rows;
 }
 
 pub returns-in-None : goal.returns-in-None
