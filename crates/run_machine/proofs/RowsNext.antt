@@ -188,7 +188,7 @@ module _ (old mid new : Machine) (next : Option (Bor Due)) (is : List Item) (r :
 -- ---- want of memory
 pub wanted_grows : (old new : Machine) (h : Halt) → h ≡ halt.NoMemory → GrowsNext old new (Err h)
 wanted_grows old new h is = subst (λ (k : Halt). GrowsNext old new (Err k)) (sym is) (record {
-  steps = λ world meaning st stands goes. (tt, tt);
+  steps = λ world meaning st stands goes. tt;
   events = λ world meaning st e s laid u asks picks. tt;
   libraries = λ world meaning st e s laid u asks picks. tt;
   bodies = λ world meaning st e s u asks picks. tt;

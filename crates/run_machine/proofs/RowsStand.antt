@@ -57,14 +57,18 @@ answered_then a b c (Err halt.NoMemory) first second = tt
 
 -- of a control step
 pub taken_same : {A : Type 0} (m n : Machine) (r : Result A Halt) → KeepsMemory m n r → KeepsTaken m n r
-taken_same m n (Ok a) is = (rows_same m n is, tt)
+taken_same m n (Ok a) is = rows_same m n is
 taken_same m n (Err halt.Unplaced) is = absurd (cc)
 taken_same m n (Err (halt.Raised event line clause)) is = absurd (cc)
 taken_same m n (Err (halt.Over cause number)) is = absurd (cc)
-taken_same m n (Err halt.NoMemory) is = (tt, tt)
+taken_same m n (Err halt.NoMemory) is = tt
 
 pub taken_then : {A : Type 0} (a b c : Machine) (r : Result A Halt) → KeepsRows a b → KeepsTaken b c r → KeepsTaken a c r
-taken_then a b c r first second = (answered_then a b c r first second.0, second.1)
+taken_then a b c (Ok x) first second = rows_then a b c first second
+taken_then a b c (Err halt.Unplaced) first second = rows_then a b c first second
+taken_then a b c (Err (halt.Raised event line clause)) first second = absurd second
+taken_then a b c (Err (halt.Over cause number)) first second = rows_then a b c first second
+taken_then a b c (Err halt.NoMemory) first second = tt
 
 -- a machine with the same memory before
 pub memory_then : {A : Type 0} (a b c : Machine) (r : Result A Halt) → b.memory ≡ a.memory → KeepsMemory b c r → KeepsMemory a c r
@@ -89,11 +93,10 @@ within_rows : (world : World) (meaning : Option ℕ → Meaning) (m new : Machin
     (k : IsKnown world meaning m b.now.number (block_of (meaning m.top.function) b.now).number
     ((meaning m.top.function).decls (block_of (meaning m.top.function) b.now).number) st c) → EntersWithin (turned m b.now.number) new c r →
     KeepsTaken m new r
-within_rows world meaning m new b st c (Ok status) h k e = (passed_rows world meaning m new b st c h k e.1 (e.2, e.3, e.4), tt)
-within_rows world meaning m new b st c (Err halt.Unplaced) h k e =
-    (rows_by m new m.memory e.1.middle.memory refl e.1.same e.1.before.kept.rows, tt)
-within_rows world meaning m new b st c (Err (halt.Over cause number)) h k e = (rows_same m new e.3, tt)
-within_rows world meaning m new b st c (Err halt.NoMemory) h k e = (tt, tt)
+within_rows world meaning m new b st c (Ok status) h k e = passed_rows world meaning m new b st c h k e.1 (e.2, e.3, e.4)
+within_rows world meaning m new b st c (Err halt.Unplaced) h k e = rows_by m new m.memory e.1.middle.memory refl e.1.same e.1.before.kept.rows
+within_rows world meaning m new b st c (Err (halt.Over cause number)) h k e = rows_same m new e.3
+within_rows world meaning m new b st c (Err halt.NoMemory) h k e = tt
 within_rows world meaning m new b st c (Err (halt.Raised event line clause)) h k e = absurd e
 
 -- where the code has the block
@@ -110,7 +113,7 @@ enters_rows m new b (Ok status) e = there_rows m new b (Ok status) e.0 e.1 e.2
 enters_rows m new b (Err halt.Unplaced) e = there_rows m new b (Err halt.Unplaced) e.0 e.1 e.2
 enters_rows m new b (Err (halt.Raised event line clause)) e = there_rows m new b (Err (halt.Raised event line clause)) e.0 e.1 e.2
 enters_rows m new b (Err (halt.Over cause number)) e = there_rows m new b (Err (halt.Over cause number)) e.0 e.1 e.2
-enters_rows m new b (Err halt.NoMemory) e = λ world meaning st h. (tt, tt)
+enters_rows m new b (Err halt.NoMemory) e = λ world meaning st h. tt
 
 pub entered_rows : (m new : Machine) (s : Step) (b : Bor Block) (number : ℕ) (r : Result (Option ℕ) Halt) → s ≡ taking.Enter b → number ≡ b.now.number →
     Enters m number new r → GrowsByStep s m new r
@@ -135,9 +138,9 @@ status_rows m n status g = λ world meaning st stands goes items. g world meanin
 
 halt_taken : (m n : Machine) (h : Halt) → KeepsTaken {A = Option ℕ} m n (Err h) → KeepsTaken {A = Pick} m n (Err h)
 halt_taken m n halt.Unplaced k = k
-halt_taken m n (halt.Raised event line clause) k = absurd k.1
+halt_taken m n (halt.Raised event line clause) k = absurd k
 halt_taken m n (halt.Over cause number) k = k
-halt_taken m n halt.NoMemory k = k
+halt_taken m n halt.NoMemory k = tt
 
 pub halt_rows : (m n : Machine) (h : Halt) → GrowsByControl {A = Option ℕ} m n (Err h) → GrowsByControl {A = Pick} m n (Err h)
 halt_rows m n h g = λ world meaning st stands goes items. halt_taken m n h (g world meaning st stands goes items)

@@ -39,15 +39,15 @@ KeepsAnswered old new (Err (halt.Raised event line clause)) = KeepsRows old new
 KeepsAnswered old new (Err (halt.Over cause number)) = KeepsRows old new
 KeepsAnswered old new (Err halt.NoMemory) = Unit {0}
 
--- no clause is raised
-abbrev pub RaisesNone : {A : Type 0} → Result A Halt → Type 0
-RaisesNone (Err (halt.Raised event line clause)) = ⊥
-RaisesNone r = Unit {0}
+-- .. and no clause is raised
+abbrev pub KeepsTaken : {A : Type 0} → (old new : Machine) → Result A Halt → Type 0
+KeepsTaken old new (Err (halt.Raised event line clause)) = ⊥
+KeepsTaken old new (Ok answer) = KeepsRows old new
+KeepsTaken old new (Err halt.Unplaced) = KeepsRows old new
+KeepsTaken old new (Err (halt.Over cause number)) = KeepsRows old new
+KeepsTaken old new (Err halt.NoMemory) = Unit {0}
 
 -- 2. Control steps, which raise no clause.
-
-abbrev pub KeepsTaken : {A : Type 0} → (old new : Machine) → Result A Halt → Type 0
-KeepsTaken old new r = KeepsAnswered old new r × RaisesNone r
 
 -- one that was taken off what is left to do
 abbrev pub GrowsByStep : Step → (old new : Machine) → Result (Option ℕ) Halt → Type 0

@@ -9,4 +9,4 @@ returns-clause-answers c =
     c.unwrite.ensures.exact
 
 pub returns-clause-rows : goal.returns-clause-rows
-returns-clause-rows c = (c.unwrite.ensures.kept.rows, tt)
+returns-clause-rows c = c.unwrite.ensures.kept.rows
