@@ -24,7 +24,7 @@ use Rattle.run_code.specs.Roots.{AreInBlocks, HaveCode, IsNumberedBy, code_trees
 use Rattle.code_view.specs.Known.{AreInOrder}
 use Rattle.code_view.specs.Laws.{TreesAreFormed}
 use Rattle.mem_laws.specs.MoreRows.{Extends}
-use Rattle.c_model.specs.Runs.{Entry}
+use Rattle.c_model.specs.Runs.{State}
 use Rattle.c_model.specs.World.{World, profile_limits}
 use Rattle.run_facts.specs.SetUp.{IsItsCode, IsProfile, IsItsWorld, IsSetUp, IsWhole}
 use Rattle.run_state.specs.Begins.{BeginsAsDefined, CountsAsDefined, HoldsGiven, IsUnstarted, KeepsLabels}
@@ -36,7 +36,8 @@ use Rattle.canonical_laws.specs.Begins.{GoingIsAlong}
 use Rattle.start_laws.specs.Bytes.{LawfulHasBytes}
 use Rattle.start_laws.specs.Starts.{IsMadeReady, IsStartCount, StartsGoing}
 use Rattle.core_run.specs.Calls.{Heard}
-use Rattle.core_run.specs.Canonical.{IsAt, IsMap, ToldBy, none, world_in}
+use Rattle.core_run.specs.Canonical.{IsAt, IsMap, world_in}
+use Rattle.core_run.specs.ToldPicks.{ToldBy, none}
 use Rattle.core_run.specs.Whole.{HasTerms}
 
 -- what a run is made of: a lawful program, its code, and a machine that was made ready for these arguments and this input, with all that they count
@@ -68,9 +69,9 @@ its_world p strings rows number is = record {
   ends = is.ends;
 }
 
-told_none : (world : World) (heard : Option Heard) → ToldBy world heard heard []
-told_none world None = tt
-told_none world (Some hs) = none
+told_none : (world : World) (first : State) (heard : Option Heard) → ToldBy world first heard heard 0 first
+told_none world first None = tt
+told_none world first (Some hs) = none
 
 pub begins_at : StartsGoing → GoingIsAlong → LawfulWorldsKeepSmall → MainIsPlaced → LawfulHasBytes → (p : Program) (strings : List (List ℕ))
     (input : List ℕ) (numbers : Numbers) (heard : Option Heard) (m : Machine) (count : ℕ) → IsMade p strings input numbers m count
@@ -96,7 +97,7 @@ begins_at starts goes keeps placed small p strings input numbers heard m count m
       runs = refl;
       along = begins.along;
       listed = begins.listed [];
-      told = subst (λ (t : List Entry). ToldBy world heard heard t) (sym begins.trace) (told_none world heard);
+      told = told_none world going.0 heard;
     }
 
 -- ---- the code

@@ -1,9 +1,8 @@
 -- A run tells the picks of the canonical order of its program, each with its items, and ends as the definitions of runs say (own).
-use Rattle.std.specs.Prelude.{◌≡◌, ◌⊎◌, ◌+◌, ◌-◌, ◌<◌, ℕ, suc, List, [], ◌∷◌, Option, Some, None, slice_get}
+use Rattle.std.specs.Prelude.{◌≡◌, ◌⊎◌, ◌+◌, ◌-◌, ◌<◌, ℕ, suc, List, ◌∷◌, Option, Some, None, slice_get}
 use Rattle.std.specs.List.{All}
 use Rattle.ub_base.specs.declared.names.Event.{Event}
 use Rattle.ub_base.specs.declared.names.Frame.{Frame}
-use Rattle.ub_base.specs.declared.names.Item.{Item}
 use Rattle.ub_base.specs.Frames.{IsFrameList, Path, Row as Started_frame}
 use Rattle.addr_map.specs.Sound.{AreApart}
 use Rattle.addr_map.specs.declared.map.Row.{Row}
@@ -24,34 +23,17 @@ use Rattle.run_machine.specs.Passing.{RowsAreLawful}
 use Rattle.run_machine.specs.Starting.{numbered}
 use Rattle.value_facts.specs.Small.{EndInTime}
 use Rattle.canonical_laws.specs.Along.{IsAlong}
-use Rattle.canonical_laws.specs.Listed.{NumbersAre, TellsEntry, TopIsListed}
-use Rattle.core_run.specs.Calls.{Call, Heard, node_done, operands_done, picked, row_by}
+use Rattle.canonical_laws.specs.Listed.{NumbersAre, TopIsListed}
+use Rattle.core_run.specs.Calls.{Heard, row_by}
+use Rattle.core_run.specs.ToldPicks.{LastToldBy, ToldBy}
 use Rattle.core_run.specs.declared.watch.Go.{Go}
+use Rattle.core_run.specs.declared.watch.Go.TheVariants as go
 use Rattle.core_run.specs.declared.watch.Ran.{Ran}
 use Rattle.core_run.specs.declared.watch.Ran.TheVariants.{Ended, Raised, Stopped, OutOfSteps, Outside}
 use Rattle.core_run.specs.declared.canonical.Next.{Next}
 use Rattle.core_run.specs.declared.canonical.Next.TheVariants.{On, End}
 
--- 1. What was told.
-
--- a call that tells what a pick completed
-abbrev pub IsNote : Call → Type 0
-IsNote (picked event items) = ⊥
-IsNote (node_done frame turn node) = Unit {0}
-IsNote (operands_done frame turn node) = Unit {0}
-
--- since these calls, the picks that were told are those of the trace, in order, each with its items
-pub data Told (world : World) (before : Heard) : Heard → List Entry → Type 0 where
-  none : Told world before before []
-  noted : (call : Call) (go : Go) (hs : Heard) (trace : List Entry) → IsNote call → Told world before hs trace → Told world before ((call, go) ∷ hs) trace
-  told : (event : Option Event) (items : List Item) (go : Go) (hs : Heard) (e : Entry) (trace : List Entry) → TellsEntry world event items e
-      → Told world before hs trace → Told world before ((picked event items, go) ∷ hs) (e ∷ trace)
-
--- .. where they are kept
-abbrev pub ToldBy : World → Option Heard → Option Heard → List Entry → Type 0
-ToldBy world None after trace = Unit {0}
-ToldBy world (Some before) None trace = ⊥
-ToldBy world (Some before) (Some hs) trace = Told world before hs trace
+-- 1. What was told of the picks stands in specs/ToldPicks.antt.
 
 -- 2. The worlds of a run: those of the program that are open in where objects stand and how frames are numbered.
 abbrev pub world_in : Program → List (List ℕ) → List Row → (Path → ℕ) → World
@@ -74,22 +56,29 @@ pub record Suits (pasts : List (List Row)) (frames : List Started_frame) (rows :
 module _ (world : World) (first : State) (before after : Option Heard) (output : Outputs) where
   -- after so many picks it goes on, and wrote this
   abbrev pub IsAfter : ℕ → Type 0
-  IsAfter picks = (st : State) × (canonical_after world picks first ≡ Running st) × (st.store.output ≡ output) × ToldBy world before after st.trace
+  IsAfter picks = (st : State) × (canonical_after world picks first ≡ Running st) × (st.store.output ≡ output) × ToldBy world first before after picks st
 
-  -- after so many picks it has ended with this status, and wrote this
-  abbrev pub HasEnded : (status picks : ℕ) → Type 0
-  HasEnded status picks = (trace : List Entry) × (canonical_after world picks first ≡ Ends status output trace) × ToldBy world before after trace
+  -- .. and is stopped at the last of them
+  abbrev pub IsStoppedAfter : ℕ → Type 0
+  IsStoppedAfter picks = (st : State) × (canonical_after world picks first ≡ Running st) × (st.store.output ≡ output)
+      × LastToldBy world first before after go.Stop picks (Running st)
+
+  -- after so many picks it has ended with this status, and wrote this; the last call was answered so
+  abbrev pub HasEnded : Go → (status picks : ℕ) → Type 0
+  HasEnded last status picks = (trace : List Entry) × (canonical_after world picks first ≡ Ends status output trace)
+      × LastToldBy world first before after last picks (Ends status output trace)
 
   -- as is answered: that it has ended; that the last of the picks raised a clause, and wasn't told; that the watch stopped it, behind its last pick too;
   -- that there are no picks left; or that the next pick passes a limit
   abbrev pub RunsTo : Ran → Type 0
-  RunsTo (Ended status picks) = HasEnded status picks
+  RunsTo (Ended status picks) = HasEnded go.On status picks
   RunsTo (Raised event line clause picks) =
-      (e : Entry) × (trace : List Entry) × (canonical_after world picks first ≡ Raises clause (e ∷ trace)) × ToldBy world before after trace
-  RunsTo (Stopped picks) = IsAfter picks ⊎ ((status : ℕ) × HasEnded status picks)
+      (e : Entry) × (st : State) × (canonical_after world (picks - 1) first ≡ Running st)
+      × (canonical_after world picks first ≡ Raises clause (e ∷ st.trace)) × ToldBy world first before after (picks - 1) st
+  RunsTo (Stopped picks) = IsStoppedAfter picks ⊎ ((status : ℕ) × HasEnded go.Stop status picks)
   RunsTo (OutOfSteps picks) = IsAfter picks
   RunsTo (Outside cause number picks) = (canonical_after world (suc picks) first ≡ Over cause number)
-      × ((st : State) × (canonical_after world picks first ≡ Running st) × ToldBy world before after st.trace)
+      × ((st : State) × (canonical_after world picks first ≡ Running st) × ToldBy world first before after picks st)
 
 -- 4. The run so far.
 module _ (p : Program) (strings : List (List ℕ)) (input : List ℕ) (before after : Option Heard) where
@@ -112,7 +101,7 @@ module _ (p : Program) (strings : List (List ℕ)) (input : List ℕ) (numbers :
     pub runs : canonical_after world n first ≡ Running st
     pub along : IsAlong world p numbers m st n
     pub listed : TopIsListed frames st
-    pub told : ToldBy world before after st.trace
+    pub told : ToldBy world first before after n st
 
   -- .. in each world that suits the rows of the memory now and before, and the frames so far
   abbrev pub IsAt : Machine → ℕ → List Started_frame → List (List Row) → Type 0

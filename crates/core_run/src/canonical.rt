@@ -217,7 +217,7 @@ fn tell_completed<W: Watch>(
     }
 }
 
-// Tells a pick of this event with what it touched.
+// Tells a pick with what it touched, and what it completes: an event that ends the run, as a call of `exit`, nothing.
 fn tell<W: Watch>(
     machine: &Machine,
     frames: &Frames,
@@ -232,8 +232,10 @@ fn tell<W: Watch>(
     let view = machine.view(frames);
     match told {
         Pick::Step(_) => watch.pick(&view, None, &machine.items),
-        Pick::Starts(event) => watch.pick(&view, Some(event), &machine.items),
-        Pick::Event(event, completed, _) => {
+        Pick::Starts(event) | Pick::Event(event, _, Some(_)) => {
+            watch.pick(&view, Some(event), &machine.items)
+        }
+        Pick::Event(event, completed, None) => {
             match watch.pick(&view, Some(event), &machine.items)? {
                 Go::Stop => Ok(Go::Stop),
                 Go::On => tell_completed(&view, event, completed, watch),

@@ -24,6 +24,8 @@ returns-in-Stop-clause-canonical g c = λ p strings input numbers before earlier
       bodies = c.canonical.ensures.bodies;
       calls = c.canonical.ensures.calls;
       libraries = c.canonical.ensures.libraries;
+      completes = c.canonical.ensures.completes;
+      completes_libraries = c.canonical.ensures.completes_libraries;
       keeps = c.canonical.ensures.keeps;
     })) c.in_ok-start_frame.ensures.numbered c.in_ok-start_frame.ensures.rows
     (subst (λ (z : Go). Tells (calls_of c.in-Ok.told c.start_frame.new.machine.items) z (g.W.Watch.heard c.args.watch.now)
@@ -41,6 +43,8 @@ returns-in-On-clause-canonical g c = λ p strings input numbers before earlier a
       bodies = c.canonical.ensures.bodies;
       calls = c.canonical.ensures.calls;
       libraries = c.canonical.ensures.libraries;
+      completes = c.canonical.ensures.completes;
+      completes_libraries = c.canonical.ensures.completes_libraries;
       keeps = c.canonical.ensures.keeps;
     })) c.in_ok-start_frame.ensures.numbered c.in_ok-start_frame.ensures.rows
     (subst (λ (z : Go). Tells (calls_of c.in-Ok.told c.start_frame.new.machine.items) z (g.W.Watch.heard c.args.watch.now)
@@ -57,5 +61,7 @@ returns-in-Err-clause-canonical g c = λ p strings input numbers before earlier 
       bodies = c.canonical.ensures.bodies;
       calls = c.canonical.ensures.calls;
       libraries = c.canonical.ensures.libraries;
+      completes = c.canonical.ensures.completes;
+      completes_libraries = c.canonical.ensures.completes_libraries;
       keeps = c.canonical.ensures.keeps;
     })) c.in_ok-ended_by-in-Err.ensures.ended
