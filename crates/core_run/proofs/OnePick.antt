@@ -18,8 +18,13 @@ use Rattle.run_state.specs.declared.halt.Halt.TheVariants as halt
 use Rattle.run_state.specs.declared.machine.Machine.{Machine}
 use Rattle.run_machine.specs.declared.pick.Pick.{Pick}
 use Rattle.run_machine.specs.declared.pick.Pick.TheVariants as pick
+use Rattle.run_machine.specs.Raising.{RaisesNext}
+use Rattle.run_machine.specs.Rows.{GrowsNext}
 use Rattle.run_machine.specs.Starting.{numbered}
 use Rattle.c_model.specs.Completions.{Incomplete}
+use Rattle.control_laws.specs.Asked.{ArgumentsAreAsked}
+use Rattle.control_laws.specs.Control.{ControlGoesOn}
+use Rattle.pick_facts.specs.Asked.{EventIsAsked}
 use Rattle.canonical_laws.specs.Along.{AnswersAll, IsAlong}
 use Rattle.canonical_laws.specs.Completes.{completed_told}
 use Rattle.canonical_laws.specs.Comes.{AlongComes, ComesAlong, GoesTo}
@@ -35,6 +40,7 @@ use Rattle.core_run.specs.declared.watch.Go.{Go}
 use Rattle.core_run.specs.declared.watch.Go.TheVariants.{On, Stop}
 use Rattle.core_run.specs.declared.watch.Ran.{Ran}
 use Rattle.core_run.specs.declared.watch.Ran.TheVariants.{OutOfSteps, Stopped}
+use Rattle.core_run.proofs.Raised.{raised_entry}
 use Rattle.core_run.proofs.OneMore.{grown_numbers, less_one, one_more, plus_one, rows_of_both, suits_before, suits_same}
 
 module _ (comes : AlongComes) (stay : NumbersStay) (starts_numbered : StartedIsNumbered) (p : Program) (strings : List (List ℕ)) (input : List ℕ)
@@ -259,36 +265,41 @@ module _ (comes : AlongComes) (stay : NumbersStay) (starts_numbered : StartedIsN
       (subst (λ (m : Machine). Tells (calls_of (pick.Starts event) m.items) Stop heard told_now) is.2 tells))
 
 -- ---- no pick more
-module _ (comes : AlongComes) (p : Program) (strings : List (List ℕ)) (input : List ℕ) (numbers : Numbers) (before heard : Option Heard) (old new : Machine)
-    (n : ℕ) (frames : List Started_frame) (earlier : List (List Row)) (at : IsAt p strings input numbers before heard old n frames earlier)
-    (few : suc n < 2 ^ 32) where
-  pub ends_by : (h : Halt) (ran : Ran) → AnswersAll old new (Err h) → IsEndedBy h n ran
+module _ (comes : AlongComes) (asked : EventIsAsked) (goes : ControlGoesOn) (asks : ArgumentsAreAsked) (p : Program) (strings : List (List ℕ))
+    (input : List ℕ) (numbers : Numbers) (before heard : Option Heard) (old new : Machine) (n : ℕ) (frames : List Started_frame)
+    (earlier : List (List Row)) (at : IsAt p strings input numbers before heard old n frames earlier) (few : suc n < 2 ^ 32) where
+  pub ends_by : (h : Halt) (ran : Ran) → AnswersAll old new (Err h) → GrowsNext old new (Err h) → RaisesNext old (Err h) → IsEndedBy h n ran
       → GoesOnAt p strings input numbers before heard new n frames (old.memory.rows ∷ earlier) (End ran)
-  ends_by (halt.Raised event line clause) ran x is =
+  ends_by (halt.Raised event line clause) ran x grows raises is =
       subst (λ (z : Ran). GoesOnAt p strings input numbers before heard new n frames (old.memory.rows ∷ earlier) (End z)) (sym is)
       (λ rows number s.
       let w = world_in p strings rows number in
       let d = at rows number (suits_same new.memory.rows (old.memory.rows ∷ earlier) frames rows number s) in
-      let c = comes w p numbers old new d.st n (Err (halt.Raised event line clause)) d.along x (rows_of_both old new earlier frames rows number s) few in (
+      let both = rows_of_both old new earlier frames rows number s in
+      let c = comes w p numbers old new d.st n (Err (halt.Raised event line clause)) d.along x both few in
+      let own = raised_entry asked goes asks w p numbers old new d.st n d.along few both.before both.apart event line clause grows raises c.0 c.1 in (
         d.first,
         d.starts,
-        (
-          c.0,
-          d.st,
-          subst (λ (k : ℕ). canonical_after w k d.first ≡ Running d.st) (less_one n) d.runs,
-          subst (λ (k : ℕ). canonical_after w k d.first ≡ Raises clause (c.0 ∷ d.st.trace)) (sym (plus_one n)) (one_more w n d.first d.st d.runs ∙ c.1),
-          subst (λ (k : ℕ). ToldBy w d.first before heard k d.st) (less_one n) d.told,
-        ),
+        record {
+          st = d.st;
+          runs = subst (λ (k : ℕ). canonical_after w k d.first ≡ Running d.st) (less_one n) d.runs;
+          entry = c.0;
+          raises =
+              subst (λ (k : ℕ). canonical_after w k d.first ≡ Raises clause (c.0 ∷ d.st.trace)) (sym (plus_one n)) (one_more w n d.first d.st d.runs ∙ c.1);
+          event_is = own.event_is;
+          line_is = own.line_is;
+          told = subst (λ (k : ℕ). ToldBy w d.first before heard k d.st) (less_one n) d.told;
+        },
       ))
-  ends_by (halt.Over cause number) ran x is =
+  ends_by (halt.Over cause number) ran x grows raises is =
       subst (λ (z : Ran). GoesOnAt p strings input numbers before heard new n frames (old.memory.rows ∷ earlier) (End z)) (sym is)
       (λ rows count s.
       let w = world_in p strings rows count in
       let d = at rows count (suits_same new.memory.rows (old.memory.rows ∷ earlier) frames rows count s) in
       let c = comes w p numbers old new d.st n (Err (halt.Over cause number)) d.along x (rows_of_both old new earlier frames rows count s) few in
       (d.first, d.starts, (one_more w n d.first d.st d.runs ∙ c, (d.st, d.runs, d.told))))
-  ends_by halt.Unplaced ran x is = absurd is
-  ends_by halt.NoMemory ran x is = absurd is
+  ends_by halt.Unplaced ran x grows raises is = absurd is
+  ends_by halt.NoMemory ran x grows raises is = absurd is
 
 -- ---- no picks are left
 pub ends_here : (p : Program) (strings : List (List ℕ)) (input : List ℕ) (numbers : Numbers) (before heard : Option Heard) (m : Machine) (n : ℕ)

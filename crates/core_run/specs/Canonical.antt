@@ -1,29 +1,28 @@
 -- A run tells the picks of the canonical order of its program, each with its items, and ends as the definitions of runs say (own).
 use Rattle.std.specs.Prelude.{◌≡◌, ◌⊎◌, ◌+◌, ◌-◌, ◌<◌, ℕ, suc, List, ◌∷◌, Option, Some, None, slice_get}
 use Rattle.std.specs.List.{All}
+use Rattle.ub_base.specs.declared.clause.Clause.{Clause}
 use Rattle.ub_base.specs.declared.names.Event.{Event}
 use Rattle.ub_base.specs.declared.names.Frame.{Frame}
 use Rattle.ub_base.specs.Frames.{IsFrameList, Path, Row as Started_frame}
-use Rattle.addr_map.specs.Sound.{AreApart}
+use Rattle.addr_map.specs.Sound.{AreApart, IsMap}
 use Rattle.addr_map.specs.declared.map.Row.{Row}
 use Rattle.c_typed.specs.declared.program.Program.{Program}
 use Rattle.mem_laws.specs.MoreRows.{Extends}
 use Rattle.mem_spec.specs.Streams.{Outputs}
+use Rattle.prov_memory.specs.Keeps.{RowsStay}
 use Rattle.c_model.specs.Runs.{Ends, Entry, Over, Raises, Running, State, canonical_after, start}
 use Rattle.c_model.specs.World.{World, profile_limits}
 use Rattle.program_view.specs.View.{main_values, world_of}
 use Rattle.run_statements.specs.declared.numbers.Numbers.{Numbers}
-use Rattle.run_state.specs.Operands.{AreAddresses}
 use Rattle.run_state.specs.declared.halt.Halt.{Halt}
 use Rattle.run_state.specs.declared.halt.Halt.TheVariants as halt
 use Rattle.run_state.specs.declared.machine.Machine.{Machine}
 use Rattle.run_machine.specs.declared.pick.Pick.{Pick}
 use Rattle.run_machine.specs.declared.pick.Pick.TheVariants as pick
-use Rattle.run_machine.specs.Passing.{RowsAreLawful}
 use Rattle.run_machine.specs.Starting.{numbered}
-use Rattle.value_facts.specs.Small.{EndInTime}
 use Rattle.canonical_laws.specs.Along.{IsAlong}
-use Rattle.canonical_laws.specs.Listed.{NumbersAre, TopIsListed}
+use Rattle.canonical_laws.specs.Listed.{NumbersAre, TopIsListed, event_of}
 use Rattle.core_run.specs.Calls.{Heard, row_by}
 use Rattle.core_run.specs.ToldPicks.{LastToldBy, ToldBy}
 use Rattle.core_run.specs.declared.watch.Go.{Go}
@@ -39,18 +38,23 @@ use Rattle.core_run.specs.declared.canonical.Next.TheVariants.{On, End}
 abbrev pub world_in : Program → List (List ℕ) → List Row → (Path → ℕ) → World
 world_in p strings rows number = world_of p strings rows number profile_limits
 
--- rows keep the rules of an address map
-pub record IsMap (rows : List Row) : Type 0 where
-  pub apart : AreApart rows
-  pub lawful : RowsAreLawful rows
-  pub addresses : AreAddresses rows
-  pub ends : EndInTime rows
+-- Rows that keep the rules of an address map and have each row of this one, and numbers of frames that are those of the list. So it is of the map itself, with
+-- the numbers of the list (`number_by` of frame_numbers).
+pub record Fits (placed : List Row) (frames : List Started_frame) (rows : List Row) (number : Path → ℕ) : Type 0 where
+  pub rules : IsMap rows
+  pub has : RowsStay placed rows
+  pub numbers : NumbersAre number frames
 
--- rows that extend those that the memory had after each pick, and numbers of frames that are those of the list
+-- .. that extend those that the memory had after each pick so far
 pub record Suits (pasts : List (List Row)) (frames : List Started_frame) (rows : List Row) (number : Path → ℕ) : Type 0 where
   pub map : IsMap rows
   pub has : All (λ past. Extends past rows) pasts
   pub numbers : NumbersAre number frames
+
+-- each of these stands apart, and has its rows among those
+abbrev pub AreAmong : (pasts : List (List Row)) → List Row → Type 0
+AreAmong [] rows = Unit {0}
+AreAmong (past ∷ pasts) rows = (AreApart past × RowsStay past rows) × AreAmong pasts rows
 
 -- 3. How a run ends, from the state in which the definitions begin.
 module _ (world : World) (first : State) (before after : Option Heard) (output : Outputs) where
@@ -68,13 +72,21 @@ module _ (world : World) (first : State) (before after : Option Heard) (output :
   HasEnded last status picks = (trace : List Entry) × (canonical_after world picks first ≡ Ends status output trace)
       × LastToldBy world first before after last picks (Ends status output trace)
 
+  -- the last of these picks raised the clause: an event, whose node stands in this line; what was told was so before it
+  pub record HasRaised (event : Event) (line : ℕ) (clause : Clause) (picks : ℕ) : Type 0 where
+    pub st : State
+    pub runs : canonical_after world (picks - 1) first ≡ Running st
+    pub entry : Entry
+    pub raises : canonical_after world picks first ≡ Raises clause (entry ∷ st.trace)
+    pub event_is : event_of world entry ≡ Some event
+    pub line_is : entry.line ≡ line
+    pub told : ToldBy world first before after (picks - 1) st
+
   -- as is answered: that it has ended; that the last of the picks raised a clause, and wasn't told; that the watch stopped it, behind its last pick too;
   -- that there are no picks left; or that the next pick passes a limit
   abbrev pub RunsTo : Ran → Type 0
   RunsTo (Ended status picks) = HasEnded go.On status picks
-  RunsTo (Raised event line clause picks) =
-      (e : Entry) × (st : State) × (canonical_after world (picks - 1) first ≡ Running st)
-      × (canonical_after world picks first ≡ Raises clause (e ∷ st.trace)) × ToldBy world first before after (picks - 1) st
+  RunsTo (Raised event line clause picks) = HasRaised event line clause picks
   RunsTo (Stopped picks) = IsStoppedAfter picks ⊎ ((status : ℕ) × HasEnded go.Stop status picks)
   RunsTo (OutOfSteps picks) = IsAfter picks
   RunsTo (Outside cause number picks) = (canonical_after world (suc picks) first ≡ Over cause number)
@@ -82,15 +94,19 @@ module _ (world : World) (first : State) (before after : Option Heard) (output :
 
 -- 4. The run so far.
 module _ (p : Program) (strings : List (List ℕ)) (input : List ℕ) (before after : Option Heard) where
-  -- it has ended so, and wrote this
-  abbrev pub EndsIn : Outputs → List Started_frame → List (List Row) → Ran → Type 0
-  EndsIn output frames pasts ran = (rows : List Row) (number : Path → ℕ) → Suits pasts frames rows number → (first : State)
-      × (start (world_in p strings rows number) input (main_values p (world_in p strings rows number) strings) ≡ Running first)
-      × RunsTo (world_in p strings rows number) first before after output ran
+  -- in this world it started, has ended so, and wrote this
+  abbrev pub EndsAs : World → Outputs → Ran → Type 0
+  EndsAs world output ran = (first : State) × (start world input (main_values p world strings) ≡ Running first) × RunsTo world first before after output ran
 
-  -- .. with some such rows
-  abbrev pub EndsSome : Outputs → List Started_frame → Ran → Type 0
-  EndsSome output frames ran = (pasts : List (List Row)) × EndsIn output frames pasts ran
+  -- .. in each world whose rows have those of this map
+  abbrev pub EndsOver : Outputs → List Started_frame → (placed : List Row) → Ran → Type 0
+  EndsOver output frames placed ran =
+      (rows : List Row) (number : Path → ℕ) → Fits placed frames rows number → EndsAs (world_in p strings rows number) output ran
+
+  -- .. in each world whose rows extend those that the memory had after each pick
+  abbrev pub EndsIn : Outputs → List Started_frame → List (List Row) → Ran → Type 0
+  EndsIn output frames pasts ran =
+      (rows : List Row) (number : Path → ℕ) → Suits pasts frames rows number → EndsAs (world_in p strings rows number) output ran
 
 module _ (p : Program) (strings : List (List ℕ)) (input : List ℕ) (numbers : Numbers) (before after : Option Heard) where
   -- in a world: the definitions start, after so many picks it is this state, along which the machine is, and the picks were told
