@@ -1,12 +1,12 @@
 -- The rows of a sound map stand apart, and each is the one of its name.
-use Rattle.std.proofs.Common.{◌≡◌, ℕ, ◌+◌, ◌<◌, ◌≤◌, Bool, true, false, refl, sym, ◌∙◌, subst, arith, List, [], ◌∷◌, Option, Some}
+use Rattle.std.proofs.Common.{◌≡◌, ℕ, ◌+◌, ◌<◌, ◌≤◌, Bool, true, false, cond, refl, sym, ◌∙◌, subst, arith, List, [], ◌∷◌, Option, Some}
 use Rattle.std.specs.BTreeMap.{BTreeMap}
 use Rattle.ub_base.specs.declared.names.ObjName.{ObjName}
 use Rattle.ub_base.specs.Names.{same_object}
 use Rattle.ub_base.proofs.NameLemmas.{same_object_is, same_object_refl}
 use Rattle.addr_map.specs.declared.map.Row.{Row}
-use Rattle.addr_map.specs.Rows.{row_of}
-use Rattle.addr_map.specs.Sound.{rows_in, Above, Apart, EachHeld, EachFound, AreApart, IsSound}
+use Rattle.addr_map.specs.Rows.{is_lawful, row_of}
+use Rattle.addr_map.specs.Sound.{rows_in, Above, Apart, EachHeld, EachFound, AreApart, IsMap, IsSound}
 use Rattle.addr_map.proofs.RowLists.{size_of_lawful}
 use Rattle.addr_map.proofs.Last.{sized_of_held}
 
@@ -49,3 +49,17 @@ apart_rows rows bases free s = record {
   sized = sized_of_held bases (rows_in rows.entries) s.held;
   named = each_found bases (rows_in rows.entries) s.apart s.held;
 }
+
+-- each row that has a name keeps its own rules
+lawful_if : (same : Bool) (s r : Row) (rest : Option Row) → is_lawful s ≡ true → (rest ≡ Some r → is_lawful r ≡ true) → cond same (Some s) rest ≡ Some r →
+    is_lawful r ≡ true
+lawful_if true s r rest own below at = let same : s ≡ r = cc (at) in subst (λ (z : Row). is_lawful z ≡ true) same own
+lawful_if false s r rest own below at = below at
+
+lawful_of_held : (bases : ObjName → Option ℕ) (rs : List Row) → EachHeld bases rs → (x : ObjName) (r : Row) → row_of rs x ≡ Some r → is_lawful r ≡ true
+lawful_of_held bases [] held x r at = absurd (cc (at))
+lawful_of_held bases (s ∷ rs) held x r at =
+    lawful_if (same_object s.name x) s r (row_of rs x) held.0.1 (lawful_of_held bases rs held.1 x r) at
+
+pub is_map : (rows : BTreeMap ℕ Row) (bases : ObjName → Option ℕ) (free : ℕ) → IsSound rows bases free → IsMap (rows_in rows.entries)
+is_map rows bases free s = record { apart = apart_rows rows bases free s; lawful = lawful_of_held bases (rows_in rows.entries) s.held }

@@ -46,6 +46,11 @@ pub record AreApart (rows : List Row) : Type 0 where
   pub sized : AllSized rows
   pub named : EachFound rows rows
 
+-- rows keep the rules of an address map: they stand apart, and each keeps its own rules
+pub record IsMap (rows : List Row) : Type 0 where
+  pub apart : AreApart rows
+  pub lawful : (x : ObjName) (r : Row) → row_of rows x ≡ Some r → is_lawful r ≡ true
+
 -- the last row whose base passes the test
 abbrev pub last_row : (ℕ → Bool) → List Row → Option Row
 last_row test [] = None

@@ -1,7 +1,7 @@
 // The address map: rows in an ordered map by base, and their bases in a hash map by name.
 ghost use Rattle.std.specs.Prelude.{◌≡◌, ◌+◌, ◌-◌, ◌*◌, ◌/◌, ◌≤◌, ◌<◌, ◌^◌, ◌↔◌, [], None, Ok, true, false, not, is_some, nat_le, nat_lt, IsTrue, IfOk, OnOk, OnErr, IfSome, ◌%◌};
 ghost use Rattle.addr_map.specs.Rows.{row_of, first_row, covers, past, overlaps, IsRoomFor, is_power, is_lawful, base_of, round_up, insert_row, breaks, free_of, row_at};
-ghost use Rattle.addr_map.specs.Sound.{last_row, Apart, AllSized, AreApart};
+ghost use Rattle.addr_map.specs.Sound.{last_row, Apart, AllSized, AreApart, IsMap};
 
 use std::alloc::Global;
 use std::collections::{BTreeMap, HashMap};
@@ -97,6 +97,14 @@ impl AddrMap {
         let base = self.bases.get(&name).copied()?;
         let row = self.rows.get(&base).copied()?;
         if row.name == name { Some(row) } else { None }
+    }
+
+    /// The rows of each map keep its rules (own): they stand apart, and each is a multiple of its alignment and lies between
+    /// 16,777,216 and 2^47.
+    pub fn law_rows(&self)
+        ensures { IsMap self.now }
+    {
+        let _free = self.free;
     }
 
     /// The row with the least base that isn't below `from`.

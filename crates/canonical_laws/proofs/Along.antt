@@ -8,8 +8,10 @@ use Rattle.ub_base.specs.declared.names.Item.{Item}
 use Rattle.c_types.specs.declared.library.LibFunc.{LibFunc}
 use Rattle.c_typed.specs.declared.program.Program.{Program}
 use Rattle.c_typed.specs.declared.tree.Place.{Place}
+use Rattle.c_model.specs.Completions.{Incomplete}
+use Rattle.c_model.specs.Libraries.{result}
 use Rattle.c_model.specs.Runs.{Entry, Raises, Running, State, canonical_pick, entry_of, step}
-use Rattle.c_model.specs.Steps.{Begun, Control, Ev, Pick as Model_pick, event_of}
+use Rattle.c_model.specs.Steps.{Begun, Control, Ev, Pick as Model_pick, event_of, with_given}
 use Rattle.c_model.specs.World.{World}
 use Rattle.run_statements.specs.declared.numbers.Numbers.{Numbers}
 use Rattle.run_control.specs.View.{Meaning}
@@ -19,9 +21,11 @@ use Rattle.run_state.specs.declared.halt.Halt.{Halt}
 use Rattle.run_state.specs.declared.halt.Halt.TheVariants as halt
 use Rattle.run_state.specs.declared.machine.Machine.{Machine}
 use Rattle.run_state.specs.declared.machine.Stage.{Stage}
+use Rattle.run_machine.specs.declared.pick.Completed.{Completed}
 use Rattle.run_machine.specs.declared.pick.Pick.{Pick}
 use Rattle.run_machine.specs.declared.pick.Pick.TheVariants as pick
 use Rattle.run_machine.specs.Answering.{newest_items}
+use Rattle.run_machine.specs.Completing.{CompletesIn, completed_seen}
 use Rattle.run_machine.specs.Library.{MayCallLibraryNext}
 use Rattle.run_machine.specs.Picks.{IsPick}
 use Rattle.run_machine.specs.Starting.{MayCallNext, MayStartNext, numbered}
@@ -36,6 +40,7 @@ use Rattle.pick_facts.specs.Asked.{EventIsAsked, IsEventNext, MayPickNext, call,
 use Rattle.pick_facts.specs.Held.{StepsHoldOneMore}
 use Rattle.pick_facts.specs.Idle.{CallLeavesNone, EventLeavesNone, InitializerLeavesNone, IsIdle, LibraryLeavesNone, StepStaysIdle}
 use Rattle.canonical_laws.specs.Along.{AnswersAll, HasRowsOf, IsAlong}
+use Rattle.canonical_laws.specs.Completes.{completed_at, completed_in}
 use Rattle.canonical_laws.specs.Comes.{AlongComes, ComesAlong, ControlMay, Starts}
 use Rattle.canonical_laws.specs.Listed.{HasItems, TellsNewest}
 use Rattle.canonical_laws.proofs.Listed.{goes_listed, same_listed}
@@ -79,18 +84,26 @@ module _ (laws : Laws) (world : World) (p : Program) (numbers : Numbers) (old ne
   }
 
   -- ---- what tells an entry
-  tells_control : (is : List Item) (trace : List Entry) → trace ≡ entry_of world st.top Control is ∷ st.trace → newest_items trace ≡ new.items
+  abbrev tells_control : (is : List Item) (trace : List Entry) → trace ≡ entry_of world st.top Control is ∷ st.trace → newest_items trace ≡ new.items
       → TellsNewest world None new.items st.trace trace
   tells_control is trace t items =
       (entry_of world st.top Control is, t, record { event_is = refl; items_are = inl (sym items ∙ ap newest_items t) })
 
-  tells_event : (u : Place) (event : Event) (is : List Item) (trace : List Entry) → event ≡ event_of world st.top.scene u
+  abbrev tells_event : (u : Place) (event : Event) (is : List Item) (trace : List Entry) → event ≡ event_of world st.top.scene u
       → trace ≡ entry_of world st.top (Ev u) is ∷ st.trace → HasItems new.items (newest_items trace) → TellsNewest world (Some event) new.items st.trace trace
   tells_event u event is trace e t items = (
     entry_of world st.top (Ev u) is,
     t,
     record { event_is = ap Some e; items_are = subst (λ (z : List Entry). HasItems new.items (newest_items z)) t items },
   )
+
+  -- ---- what it completes
+  completes_open : (u : Place) (completed : Completed) (after : State) (first : Begun) → after.top.begun ≡ Some first → CompletesIn world completed u after
+      → completed_seen completed ≡ completed_at world after (Some u)
+  completes_open u completed after first q says = says first q ∙ sym (ap (λ b. completed_in world after.top b u) q)
+
+  completes_none : (u : Place) (after : State) → after.top.begun ≡ None → Incomplete ≡ completed_at world after (Some u)
+  completes_none u after q = sym (ap (λ b. completed_in world after.top b u) q)
 
   raised_at : (q : Model_pick) (clause : Clause) (trace : List Entry) → step world st q ≡ Raises clause trace
       → (e : Entry) × (step world st q ≡ Raises clause (e ∷ st.trace))
@@ -105,6 +118,7 @@ module _ (laws : Laws) (world : World) (p : Program) (numbers : Numbers) (old ne
         c.1,
         record {
           tells = tells_control g.0 c.0.trace g.1.0 c.2;
+          completes = refl;
           along = along_at new c.0 Control c.1 c.3 (laws.step_idle world p numbers old new st n a.going a.unresulted a.idle x.keeps);
           listed = goes_listed world (meaning_of p numbers old.code.now) old st c.0 a.going.stands g.1.1;
         },
@@ -129,14 +143,17 @@ module _ (laws : Laws) (world : World) (p : Program) (numbers : Numbers) (old ne
         → Comes world p numbers n new r (step world st (Ev u)) → ComesAlong world p numbers st n new r (step world st (Ev u))
     by_plain (Ok (pick.Event event completed None)) x of may c =
         let t = x.events world meaning st e s laid u may is h.behind.rows in
-        let k = step_trace world st (Ev u) c.0 c.1 in (
+        let k = step_trace world st (Ev u) c.0 c.1 in
+        let same = same_state c.0 _ (sym c.1 ∙ t.4) in (
           c.0,
           c.1,
           record {
             tells = tells_event u event k.0 c.0.trace of k.1 (inl (sym c.2));
+            completes = completes_open u completed c.0 (with_given e u t.1) (ap (λ (z : State). z.top.begun) same)
+                (x.completes world meaning st e s laid u may is h.behind.rows c.0 c.1);
             along = along_at new c.0 (Ev u) c.1 c.3
                 (λ own. laws.event_idle world meaning old new st e s laid u event completed x.events may is h.behind.rows);
-            listed = same_listed st c.0 (ap (λ (z : State). z.top.scene.path) (same_state c.0 _ (sym c.1 ∙ t.4)));
+            listed = same_listed st c.0 (ap (λ (z : State). z.top.scene.path) same);
           },
         )
     by_plain (Ok (pick.Event event completed (Some status))) x of may c = absurd (x.events world meaning st e s laid u may is)
@@ -154,14 +171,17 @@ module _ (laws : Laws) (world : World) (p : Program) (numbers : Numbers) (old ne
     by_library f (Ok (pick.Event event completed None)) x of may c =
         let t = x.libraries world meaning st e s laid u may is in
         let w = t.answers h.behind in
-        let k = step_trace world st (Ev u) c.0 c.1 in (
+        let k = step_trace world st (Ev u) c.0 c.1 in
+        let same = same_state c.0 _ (sym c.1 ∙ w.steps.steps) in (
           c.0,
           c.1,
           record {
             tells = tells_event u event k.0 c.0.trace of k.1 (inr (f, c.2));
+            completes = completes_open u completed c.0 (with_given e t.due.place (result w.value)) (ap (λ (z : State). z.top.begun) same)
+                (x.completes_libraries world meaning st e s laid u may is h.behind c.0 c.1);
             along = along_at new c.0 (Ev u) c.1 c.3
                 (λ own. laws.library_idle world meaning old new st e s laid u event completed x.libraries may is h.behind);
-            listed = same_listed st c.0 (ap (λ (z : State). z.top.scene.path) (same_state c.0 _ (sym c.1 ∙ w.steps.steps)));
+            listed = same_listed st c.0 (ap (λ (z : State). z.top.scene.path) same);
           },
         )
     by_library f (Ok (pick.Event event completed (Some status))) x of may c =
@@ -182,12 +202,14 @@ module _ (laws : Laws) (world : World) (p : Program) (numbers : Numbers) (old ne
 
     -- a body that starts a frame
     starts_so : (event : Event) (after : State) → step world st (Ev u) ≡ Running after → event ≡ event_of world st.top.scene u
-        → newest_items after.trace ≡ new.items → after.top.scene.path ≡ (st.top.scene.turn, u.node) ∷ st.top.scene.path → new.left ≡ None
+        → newest_items after.trace ≡ new.items → after.top.scene.path ≡ (st.top.scene.turn, u.node) ∷ st.top.scene.path → after.top.begun ≡ None
+        → new.left ≡ None
         → ((frame : Frame) → frame.0 ≡ world.number after.top.scene.path → IsGoing world p numbers (numbered new frame) after (suc n))
         → Starts world p numbers st n new event after
-    starts_so event after steps of items path none goes =
+    starts_so event after steps of items path unbegun none goes =
         let k = step_trace world st (Ev u) after steps in record {
           tells = tells_event u event k.0 after.trace of k.1 (inl (sym items));
+          completes = completes_none u after unbegun;
           frame = ap (λ (z : Event). z.frame.0) of;
           path = path ∙ sym (ap (λ (z : Event). (z.turn, z.node) ∷ st.top.scene.path) of);
           along = λ number same. along_at (numbered new number) after (Ev u) steps (goes number same) (λ own. none);
@@ -196,10 +218,11 @@ module _ (laws : Laws) (world : World) (p : Program) (numbers : Numbers) (old ne
     by_initializer : (r : Result Pick Halt) → AnswersAll old new r → IfOk r (IsPick world st (Ev u)) → MayStartNext world meaning old st e s
         → Comes world p numbers n new r (step world st (Ev u)) → ComesAlong world p numbers st n new r (step world st (Ev u))
     by_initializer (Ok (pick.Starts event)) x of may c =
-        let t = x.bodies world meaning st e s u may is in (
+        let t = x.bodies world meaning st e s u may is in
+        let same = same_state c.0 _ (sym c.1 ∙ t.1.comes) in (
           c.0,
           c.1,
-          starts_so event c.0 c.1 of c.2 (ap (λ (z : State). z.top.scene.path) (same_state c.0 _ (sym c.1 ∙ t.1.comes)))
+          starts_so event c.0 c.1 of c.2 (ap (λ (z : State). z.top.scene.path) same) (ap (λ (z : State). z.top.begun) same)
               (laws.initializer_idle world meaning old new st e s u event x.bodies may is) c.3,
         )
     by_initializer (Ok (pick.Event event completed status)) x of may c = absurd (x.bodies world meaning st e s u may is)
@@ -212,10 +235,11 @@ module _ (laws : Laws) (world : World) (p : Program) (numbers : Numbers) (old ne
     by_call : (r : Result Pick Halt) → AnswersAll old new r → IfOk r (IsPick world st (Ev u)) → MayCallNext world meaning old st e s
         → Comes world p numbers n new r (step world st (Ev u)) → ComesAlong world p numbers st n new r (step world st (Ev u))
     by_call (Ok (pick.Starts event)) x of may c =
-        let t = x.calls world meaning st e s u may is in (
+        let t = x.calls world meaning st e s u may is in
+        let same = same_state c.0 _ (sym c.1 ∙ t.1.comes) in (
           c.0,
           c.1,
-          starts_so event c.0 c.1 of c.2 (ap (λ (z : State). z.top.scene.path) (same_state c.0 _ (sym c.1 ∙ t.1.comes)))
+          starts_so event c.0 c.1 of c.2 (ap (λ (z : State). z.top.scene.path) same) (ap (λ (z : State). z.top.begun) same)
               (laws.call_idle world meaning old new st e s u event x.calls may is) c.3,
         )
     by_call (Ok (pick.Event event completed status)) x of may c = absurd (x.calls world meaning st e s u may is)

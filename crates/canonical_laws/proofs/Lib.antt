@@ -1,4 +1,4 @@
-mod Steps
+pub mod Steps
 mod Listed
 mod Along
 mod Control

@@ -13,8 +13,10 @@ use Rattle.run_state.specs.Stands.{Stands}
 use Rattle.run_control.specs.View.{Meaning}
 use Rattle.run_machine.specs.declared.pick.Pick.{Pick}
 use Rattle.run_machine.specs.Answering.{AnswersCanonical}
+use Rattle.run_machine.specs.Completing.{CompletesNext}
 use Rattle.run_machine.specs.Keeping.{KeepsPick}
 use Rattle.run_machine.specs.Library.{AnswersNextLibrary}
+use Rattle.run_machine.specs.LibraryCompletes.{CompletesNextLibrary}
 use Rattle.run_machine.specs.Picks.{IsPick}
 use Rattle.run_machine.specs.Starting.{AnswersNextBody, AnswersNextCall}
 use Rattle.run_machine.specs.Taking.{AnswersNext}
@@ -49,6 +51,8 @@ pub record AnswersAll (old new : Machine) (r : Result Pick Halt) : Type 0 where
   pub bodies : AnswersNextBody old new r
   pub calls : AnswersNextCall old new r
   pub libraries : AnswersNextLibrary old new r
+  pub completes : CompletesNext old new r
+  pub completes_libraries : CompletesNextLibrary old new r
   pub keeps : KeepsPick old new r
 
 -- The rows of the machine before the pick and behind it are among these, which stand apart, as an address map has them.

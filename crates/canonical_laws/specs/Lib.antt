@@ -1,4 +1,5 @@
 pub mod Listed
 pub mod Along
+pub mod Completes
 pub mod Begins
 pub mod Comes

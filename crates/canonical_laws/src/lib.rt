@@ -13,8 +13,9 @@ use pick_laws::law_pick;
 use value_facts::{law_placed_values, law_unresulted};
 
 /// What run_machine promises of a canonical pick comes, of each machine along a run, to the outcome of the definitions' step: the run goes on and the machine
-/// is along it again, its newest entry told by the pick's event and items; or it ends with its status and what was written, raises the clause, or passes the
-/// limit. So it is in each world whose rows have those of the machine before the pick and behind it. What is asked of picks is there.
+/// is along it again, its newest entry told by the pick's event and items, and what that completes by what the pick says; or it ends with its status and what
+/// was written, raises the clause, or passes the limit. So it is in each world whose rows have those of the machine before the pick and behind it. What is
+/// asked of picks is there.
 pub fn law_along()
     ensures { AlongComes }
 {

@@ -1,5 +1,5 @@
 -- What a pick more leaves of a run, and of the worlds that suit it.
-use Rattle.std.proofs.Common.{◌≡◌, ◌+◌, ℕ, suc, zero, arith, refl, sym, ap, subst, List, [], ◌∷◌, inl, inr, Some}
+use Rattle.std.proofs.Common.{◌≡◌, ◌+◌, ◌-◌, ℕ, suc, zero, arith, refl, sym, ap, subst, List, [], ◌∷◌, inl, inr, Some}
 use Rattle.std.proofs.lemmas.List.Elements.{All-head, All-tail}
 use Rattle.ub_base.specs.Frames.{Path, Row as Started_frame}
 use Rattle.addr_map.specs.declared.map.Row.{Row}
@@ -83,3 +83,6 @@ rows_of_both old new earlier frames rows number s = record {
 
 pub plus_one : (n : ℕ) → n + 1 ≡ suc n
 plus_one n = omega arith
+
+pub less_one : (n : ℕ) → n ≡ (n + 1) - 1
+less_one n = omega arith

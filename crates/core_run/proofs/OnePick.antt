@@ -18,21 +18,30 @@ use Rattle.run_state.specs.declared.halt.Halt.TheVariants as halt
 use Rattle.run_state.specs.declared.machine.Machine.{Machine}
 use Rattle.run_machine.specs.declared.pick.Pick.{Pick}
 use Rattle.run_machine.specs.declared.pick.Pick.TheVariants as pick
+use Rattle.run_machine.specs.Raising.{RaisesNext}
+use Rattle.run_machine.specs.Rows.{GrowsNext}
 use Rattle.run_machine.specs.Starting.{numbered}
+use Rattle.c_model.specs.Completions.{Incomplete}
+use Rattle.control_laws.specs.Asked.{ArgumentsAreAsked}
+use Rattle.control_laws.specs.Control.{ControlGoesOn}
+use Rattle.pick_facts.specs.Asked.{EventIsAsked}
 use Rattle.canonical_laws.specs.Along.{AnswersAll, IsAlong}
+use Rattle.canonical_laws.specs.Completes.{completed_told}
 use Rattle.canonical_laws.specs.Comes.{AlongComes, ComesAlong, GoesTo}
 use Rattle.canonical_laws.specs.Listed.{TellsNewest, TopIsListed, event_told}
-use Rattle.core_run.specs.Calls.{Heard, Tells, calls_of, row_by}
-use Rattle.core_run.specs.Canonical.{EndsIn, Follows, GoesOnAt, HasEnded, HasRow, IsAt, IsEndedBy, IsNumbered, RunsTo, StandsAt, Suits, ToldBy, world_in}
+use Rattle.core_run.specs.Calls.{Call, Heard, Tells, calls_of, row_by}
+use Rattle.core_run.specs.Canonical.{EndsIn, Follows, GoesOnAt, HasEnded, HasRow, IsAt, IsEndedBy, IsNumbered, RunsTo, StandsAt, Suits, world_in}
+use Rattle.core_run.specs.ToldPicks.{TellsPick, ToldBy}
 use Rattle.core_run.specs.Steps.{Grows}
-use Rattle.core_run.proofs.Told.{pick_told}
+use Rattle.core_run.proofs.Told.{pick_tells, told_last, told_on}
 use Rattle.core_run.specs.declared.canonical.Next.{Next}
 use Rattle.core_run.specs.declared.canonical.Next.TheVariants.{End}
 use Rattle.core_run.specs.declared.watch.Go.{Go}
 use Rattle.core_run.specs.declared.watch.Go.TheVariants.{On, Stop}
 use Rattle.core_run.specs.declared.watch.Ran.{Ran}
 use Rattle.core_run.specs.declared.watch.Ran.TheVariants.{OutOfSteps, Stopped}
-use Rattle.core_run.proofs.OneMore.{grown_numbers, one_more, plus_one, rows_of_both, suits_before, suits_same}
+use Rattle.core_run.proofs.Raised.{raised_entry}
+use Rattle.core_run.proofs.OneMore.{grown_numbers, less_one, one_more, plus_one, rows_of_both, suits_before, suits_same}
 
 module _ (comes : AlongComes) (stay : NumbersStay) (starts_numbered : StartedIsNumbered) (p : Program) (strings : List (List ℕ)) (input : List ℕ)
     (numbers : Numbers) (before heard told_now : Option Heard) (old : Machine) (n : ℕ) (frames grown : List Started_frame) (earlier : List (List Row))
@@ -41,53 +50,55 @@ module _ (comes : AlongComes) (stay : NumbersStay) (starts_numbered : StartedIsN
   Before world = StandsAt p strings input numbers before heard world old n frames
 
   -- ---- the run goes on
-  record Went (world : World) (d : Before world) (new : Machine) : Type 0 where
+  record Went (world : World) (d : Before world) (new : Machine) (calls : List Call) : Type 0 where
     after : State
     steps : step world d.st (canonical_pick world d.st.top d.st.top.begun) ≡ Running after
     along : IsAlong world p numbers new after (suc n)
     listed : TopIsListed grown after
-    tells : ToldBy world before told_now after.trace
+    tells : TellsPick world d.st (Running after) calls
 
-  on_of : (world : World) (d : Before world) (new : Machine) → Went world d new → StandsAt p strings input numbers before told_now world new (suc n) grown
-  on_of world d new w = record {
+  on_of : (world : World) (d : Before world) (new : Machine) (calls : List Call) → Went world d new calls → Tells calls On heard told_now
+      → StandsAt p strings input numbers before told_now world new (suc n) grown
+  on_of world d new calls w t = record {
     first = d.first;
     st = w.after;
     starts = d.starts;
     runs = one_more world n d.first d.st d.runs ∙ w.steps;
     along = w.along;
     listed = w.listed;
-    told = w.tells;
+    told = told_on world d.first n d.st calls before heard told_now w.after d.told w.tells t;
   }
 
   abbrev Ends_at : World → Outputs → Ran → Type 0
   Ends_at world output ran = (first : State) × (start world input (main_values p world strings) ≡ Running first)
       × RunsTo world first before told_now output ran
 
-  stop_of : (world : World) (d : Before world) (new : Machine) → Went world d new → Ends_at world new.streams.output (Stopped (n + 1))
-  stop_of world d new w = (
+  stop_of : (world : World) (d : Before world) (new : Machine) (calls : List Call) → Went world d new calls → Tells calls Stop heard told_now
+      → Ends_at world new.streams.output (Stopped (n + 1))
+  stop_of world d new calls w t = (
     d.first,
     d.starts,
     inl (
       w.after,
       subst (λ (k : ℕ). canonical_after world k d.first ≡ Running w.after) (sym (plus_one n)) (one_more world n d.first d.st d.runs ∙ w.steps),
       ap (λ (s : Store). s.output) w.along.going.stands.memory.store,
-      w.tells,
+      told_last world d.first n d.st calls before heard told_now Stop (Running w.after) d.told w.tells t,
     ),
   )
 
   -- ---- or it has ended
-  record Over_with (world : World) (d : Before world) (new : Machine) (status : ℕ) : Type 0 where
+  record Over_with (world : World) (d : Before world) (new : Machine) (status : ℕ) (calls : List Call) : Type 0 where
     trace : List Entry
     ends : step world d.st (canonical_pick world d.st.top d.st.top.begun) ≡ Ends status new.streams.output trace
-    tells : ToldBy world before told_now trace
+    tells : TellsPick world d.st (Ends status new.streams.output trace) calls
 
-  ended_of : (world : World) (d : Before world) (new : Machine) (status : ℕ) → Over_with world d new status
-      → HasEnded world d.first before told_now new.streams.output status (n + 1)
-  ended_of world d new status w = (
+  ended_of : (world : World) (d : Before world) (new : Machine) (status : ℕ) (calls : List Call) (go : Go) → Over_with world d new status calls
+      → Tells calls go heard told_now → HasEnded world d.first before told_now new.streams.output go status (n + 1)
+  ended_of world d new status calls go w t = (
     w.trace,
     subst (λ (k : ℕ). canonical_after world k d.first ≡ Ends status new.streams.output w.trace) (sym (plus_one n))
         (one_more world n d.first d.st d.runs ∙ w.ends),
-    w.tells,
+    told_last world d.first n d.st calls before heard told_now go (Ends status new.streams.output w.trace) d.told w.tells t,
   )
 
   -- ---- by the pick that was taken
@@ -108,28 +119,30 @@ module _ (comes : AlongComes) (stay : NumbersStay) (starts_numbered : StartedIsN
     listed_grown : (st : State) → grown ≡ frames → TopIsListed frames st → TopIsListed grown st
     listed_grown st g q = subst (λ (z : List Started_frame). TopIsListed z st) (sym g) q
 
-    went_to : (t : Pick) (go : Go) (d : Before world) (after : State) → step world d.st (canonical_pick world d.st.top d.st.top.begun) ≡ Running after
-        → GoesTo world p numbers d.st n new (event_told t) after → grown ≡ frames → Tells (calls_of t new.items) go heard told_now → Went world d new
-    went_to t go d after steps g same tells = record {
+    went_to : (t : Pick) (d : Before world) (after : State) → step world d.st (canonical_pick world d.st.top d.st.top.begun) ≡ Running after
+        → GoesTo world p numbers d.st n new (event_told t) (completed_told t) after → grown ≡ frames → Went world d new (calls_of t new.items)
+    went_to t d after steps g same = record {
       after = after;
       steps = steps;
       along = g.along;
       listed = g.listed grown (listed_grown d.st same d.listed);
-      tells = pick_told world before t new.items go heard told_now d.st.trace after.trace tells g.tells d.told;
+      tells = pick_tells world d.st (Running after) t new.items g.tells.0 steps g.tells.1 g.tells.2 g.completes;
     }
 
-    over_with : (t : Pick) (go : Go) (d : Before world) (status : ℕ) (trace : List Entry)
+    over_with : (t : Pick) (d : Before world) (status : ℕ) (trace : List Entry)
         → step world d.st (canonical_pick world d.st.top d.st.top.begun) ≡ Ends status new.streams.output trace
-        → TellsNewest world (event_told t) new.items d.st.trace trace → Tells (calls_of t new.items) go heard told_now → Over_with world d new status
-    over_with t go d status trace ends is tells =
-        record { trace = trace; ends = ends; tells = pick_told world before t new.items go heard told_now d.st.trace trace tells is d.told }
+        → TellsNewest world (event_told t) new.items d.st.trace trace → completed_told t ≡ Incomplete → Over_with world d new status (calls_of t new.items)
+    over_with t d status trace ends is none = record {
+      trace = trace;
+      ends = ends;
+      tells = pick_tells world d.st (Ends status new.streams.output trace) t new.items is.0 ends is.1 is.2 none;
+    }
 
   -- a frame has started, and has its number
-  went_start : (mid : Machine) (event : Event) (go : Go) (f : Frame) → HasRow grown f event → IsFrameList grown → Grows (pick.Starts event) frames grown
-      → AnswersAll old mid (Ok (pick.Starts event)) → Tells (calls_of (pick.Starts event) mid.items) go heard told_now
-      → (rows : List Row) (number : Path → ℕ) (s : Fits mid rows number) (d : Before (world_in p strings rows number))
-      → Went (world_in p strings rows number) d (numbered mid f)
-  went_start mid event go f row list grows x tells rows number s d =
+  went_start : (mid : Machine) (event : Event) (f : Frame) → HasRow grown f event → IsFrameList grown → Grows (pick.Starts event) frames grown
+      → AnswersAll old mid (Ok (pick.Starts event)) → (rows : List Row) (number : Path → ℕ) (s : Fits mid rows number)
+      (d : Before (world_in p strings rows number)) → Went (world_in p strings rows number) d (numbered mid f) (calls_of (pick.Starts event) mid.items)
+  went_start mid event f row list grows x rows number s d =
       let w = world_in p strings rows number in
       let c = came mid rows number s d (Ok (pick.Starts event)) x in
       let g = c.2 in
@@ -144,7 +157,7 @@ module _ (comes : AlongComes) (stay : NumbersStay) (starts_numbered : StartedIsN
         steps = c.1;
         along = g.along f number_is;
         listed = ap is_some there;
-        tells = pick_told w before (pick.Starts event) mid.items go heard told_now d.st.trace c.0.trace tells g.tells d.told;
+        tells = pick_tells w d.st (Running c.0) (pick.Starts event) mid.items g.tells.0 c.1 g.tells.1 g.tells.2 g.completes;
       }
     where
       some_in : (o : Option ℕ) → is_some o ≡ true → (k : ℕ) × (o ≡ Some k)
@@ -164,7 +177,7 @@ module _ (comes : AlongComes) (stay : NumbersStay) (starts_numbered : StartedIsN
       let y = subst (λ (m : Machine). AnswersAll old m (Ok (pick.Step None))) (sym is) x in
       let d = at rows number (earlier_suits new rows number s (pick.Step None) g) in
       let c = came new rows number s d (Ok (pick.Step None)) y in
-      on_of (world_in p strings rows number) d new (went_to new rows number s (pick.Step None) On d c.0 c.1 c.2 g tells))
+      on_of (world_in p strings rows number) d new (calls_of (pick.Step None) new.items) (went_to new rows number s (pick.Step None) d c.0 c.1 c.2 g) tells)
   goes_on (pick.Step (Some status)) mid new next x is g tells follows =
       subst (GoesOnAt p strings input numbers before told_now new n grown (old.memory.rows ∷ earlier)) (sym follows)
       (λ rows number s.
@@ -173,7 +186,8 @@ module _ (comes : AlongComes) (stay : NumbersStay) (starts_numbered : StartedIsN
       let c = came new rows number s d (Ok (pick.Step (Some status))) y in (
         d.first,
         d.starts,
-        ended_of (world_in p strings rows number) d new status (over_with new rows number s (pick.Step (Some status)) On d status c.0 c.1 c.2 tells),
+        ended_of (world_in p strings rows number) d new status (calls_of (pick.Step (Some status)) new.items) On
+            (over_with new rows number s (pick.Step (Some status)) d status c.0 c.1 c.2 refl) tells,
       ))
   goes_on (pick.Event event completed None) mid new next x is g tells follows =
       subst (GoesOnAt p strings input numbers before told_now new n grown (old.memory.rows ∷ earlier)) (sym follows)
@@ -181,7 +195,8 @@ module _ (comes : AlongComes) (stay : NumbersStay) (starts_numbered : StartedIsN
       let y = subst (λ (m : Machine). AnswersAll old m (Ok (pick.Event event completed None))) (sym is) x in
       let d = at rows number (earlier_suits new rows number s (pick.Event event completed None) g) in
       let c = came new rows number s d (Ok (pick.Event event completed None)) y in
-      on_of (world_in p strings rows number) d new (went_to new rows number s (pick.Event event completed None) On d c.0 c.1 c.2 g tells))
+      on_of (world_in p strings rows number) d new (calls_of (pick.Event event completed None) new.items)
+      (went_to new rows number s (pick.Event event completed None) d c.0 c.1 c.2 g) tells)
   goes_on (pick.Event event completed (Some status)) mid new next x is g tells follows =
       subst (GoesOnAt p strings input numbers before told_now new n grown (old.memory.rows ∷ earlier)) (sym follows)
       (λ rows number s.
@@ -190,17 +205,17 @@ module _ (comes : AlongComes) (stay : NumbersStay) (starts_numbered : StartedIsN
       let c = came new rows number s d (Ok (pick.Event event completed (Some status))) y in (
         d.first,
         d.starts,
-        ended_of (world_in p strings rows number) d new status
-            (over_with new rows number s (pick.Event event completed (Some status)) On d status c.0 c.1 c.2 tells),
+        ended_of (world_in p strings rows number) d new status (calls_of (pick.Event event completed (Some status)) new.items) On
+            (over_with new rows number s (pick.Event event completed (Some status)) d status c.0 c.1 c.2 refl) tells,
       ))
   goes_on (pick.Starts event) mid new next x is g tells follows =
       subst (λ (m : Machine). GoesOnAt p strings input numbers before told_now m n grown (old.memory.rows ∷ earlier) next) (sym is.2)
       (subst (GoesOnAt p strings input numbers before told_now (numbered mid is.0) n grown (old.memory.rows ∷ earlier)) (sym follows)
       (λ rows number s.
       let d = at rows number (earlier_suits mid rows number s (pick.Starts event) g) in
-      on_of (world_in p strings rows number) d (numbered mid is.0)
-      (went_start mid event On is.0 is.1 is.3 g x (subst (λ (m : Machine). Tells (calls_of (pick.Starts event) m.items) On heard told_now) is.2 tells) rows
-      number s d)))
+      on_of (world_in p strings rows number) d (numbered mid is.0) (calls_of (pick.Starts event) mid.items)
+      (went_start mid event is.0 is.1 is.3 g x rows number s d)
+      (subst (λ (m : Machine). Tells (calls_of (pick.Starts event) m.items) On heard told_now) is.2 tells)))
 
   -- ---- where the watch stops it
   pub stops : (t : Pick) (mid new : Machine) → AnswersAll old mid (Ok t) → IsNumbered t mid new grown → Grows t frames grown
@@ -210,7 +225,7 @@ module _ (comes : AlongComes) (stay : NumbersStay) (starts_numbered : StartedIsN
       let y = subst (λ (m : Machine). AnswersAll old m (Ok (pick.Step None))) (sym is) x in
       let d = at rows number (earlier_suits new rows number s (pick.Step None) g) in
       let c = came new rows number s d (Ok (pick.Step None)) y in
-      stop_of (world_in p strings rows number) d new (went_to new rows number s (pick.Step None) Stop d c.0 c.1 c.2 g tells)
+      stop_of (world_in p strings rows number) d new (calls_of (pick.Step None) new.items) (went_to new rows number s (pick.Step None) d c.0 c.1 c.2 g) tells
   stops (pick.Step (Some status)) mid new x is g tells = λ rows number s.
       let y = subst (λ (m : Machine). AnswersAll old m (Ok (pick.Step (Some status)))) (sym is) x in
       let d = at rows number (earlier_suits new rows number s (pick.Step (Some status)) g) in
@@ -219,15 +234,16 @@ module _ (comes : AlongComes) (stay : NumbersStay) (starts_numbered : StartedIsN
         d.starts,
         inr (
           status,
-          ended_of (world_in p strings rows number) d new status
-              (over_with new rows number s (pick.Step (Some status)) Stop d status c.0 c.1 c.2 tells),
+          ended_of (world_in p strings rows number) d new status (calls_of (pick.Step (Some status)) new.items) Stop
+              (over_with new rows number s (pick.Step (Some status)) d status c.0 c.1 c.2 refl) tells,
         ),
       )
   stops (pick.Event event completed None) mid new x is g tells = λ rows number s.
       let y = subst (λ (m : Machine). AnswersAll old m (Ok (pick.Event event completed None))) (sym is) x in
       let d = at rows number (earlier_suits new rows number s (pick.Event event completed None) g) in
       let c = came new rows number s d (Ok (pick.Event event completed None)) y in
-      stop_of (world_in p strings rows number) d new (went_to new rows number s (pick.Event event completed None) Stop d c.0 c.1 c.2 g tells)
+      stop_of (world_in p strings rows number) d new (calls_of (pick.Event event completed None) new.items)
+      (went_to new rows number s (pick.Event event completed None) d c.0 c.1 c.2 g) tells
   stops (pick.Event event completed (Some status)) mid new x is g tells = λ rows number s.
       let y = subst (λ (m : Machine). AnswersAll old m (Ok (pick.Event event completed (Some status)))) (sym is) x in
       let d = at rows number (earlier_suits new rows number s (pick.Event event completed (Some status)) g) in
@@ -236,48 +252,54 @@ module _ (comes : AlongComes) (stay : NumbersStay) (starts_numbered : StartedIsN
         d.starts,
         inr (
           status,
-          ended_of (world_in p strings rows number) d new status
-              (over_with new rows number s (pick.Event event completed (Some status)) Stop d status c.0 c.1 c.2 tells),
+          ended_of (world_in p strings rows number) d new status (calls_of (pick.Event event completed (Some status)) new.items) Stop
+              (over_with new rows number s (pick.Event event completed (Some status)) d status c.0 c.1 c.2 refl) tells,
         ),
       )
   stops (pick.Starts event) mid new x is g tells =
       subst (λ (m : Machine). GoesOnAt p strings input numbers before told_now m n grown (old.memory.rows ∷ earlier) (End (Stopped (n + 1)))) (sym is.2)
       (λ rows number s.
       let d = at rows number (earlier_suits mid rows number s (pick.Starts event) g) in
-      stop_of (world_in p strings rows number) d (numbered mid is.0)
-      (went_start mid event Stop is.0 is.1 is.3 g x (subst (λ (m : Machine). Tells (calls_of (pick.Starts event) m.items) Stop heard told_now) is.2 tells) rows
-      number s d))
+      stop_of (world_in p strings rows number) d (numbered mid is.0) (calls_of (pick.Starts event) mid.items)
+      (went_start mid event is.0 is.1 is.3 g x rows number s d)
+      (subst (λ (m : Machine). Tells (calls_of (pick.Starts event) m.items) Stop heard told_now) is.2 tells))
 
 -- ---- no pick more
-module _ (comes : AlongComes) (p : Program) (strings : List (List ℕ)) (input : List ℕ) (numbers : Numbers) (before heard : Option Heard) (old new : Machine)
-    (n : ℕ) (frames : List Started_frame) (earlier : List (List Row)) (at : IsAt p strings input numbers before heard old n frames earlier)
-    (few : suc n < 2 ^ 32) where
-  pub ends_by : (h : Halt) (ran : Ran) → AnswersAll old new (Err h) → IsEndedBy h n ran
+module _ (comes : AlongComes) (asked : EventIsAsked) (goes : ControlGoesOn) (asks : ArgumentsAreAsked) (p : Program) (strings : List (List ℕ))
+    (input : List ℕ) (numbers : Numbers) (before heard : Option Heard) (old new : Machine) (n : ℕ) (frames : List Started_frame)
+    (earlier : List (List Row)) (at : IsAt p strings input numbers before heard old n frames earlier) (few : suc n < 2 ^ 32) where
+  pub ends_by : (h : Halt) (ran : Ran) → AnswersAll old new (Err h) → GrowsNext old new (Err h) → RaisesNext old (Err h) → IsEndedBy h n ran
       → GoesOnAt p strings input numbers before heard new n frames (old.memory.rows ∷ earlier) (End ran)
-  ends_by (halt.Raised event line clause) ran x is =
+  ends_by (halt.Raised event line clause) ran x grows raises is =
       subst (λ (z : Ran). GoesOnAt p strings input numbers before heard new n frames (old.memory.rows ∷ earlier) (End z)) (sym is)
       (λ rows number s.
       let w = world_in p strings rows number in
       let d = at rows number (suits_same new.memory.rows (old.memory.rows ∷ earlier) frames rows number s) in
-      let c = comes w p numbers old new d.st n (Err (halt.Raised event line clause)) d.along x (rows_of_both old new earlier frames rows number s) few in (
+      let both = rows_of_both old new earlier frames rows number s in
+      let c = comes w p numbers old new d.st n (Err (halt.Raised event line clause)) d.along x both few in
+      let own = raised_entry asked goes asks w p numbers old new d.st n d.along few both.before both.apart event line clause grows raises c.0 c.1 in (
         d.first,
         d.starts,
-        (
-          c.0,
-          d.st.trace,
-          subst (λ (k : ℕ). canonical_after w k d.first ≡ Raises clause (c.0 ∷ d.st.trace)) (sym (plus_one n)) (one_more w n d.first d.st d.runs ∙ c.1),
-          d.told,
-        ),
+        record {
+          st = d.st;
+          runs = subst (λ (k : ℕ). canonical_after w k d.first ≡ Running d.st) (less_one n) d.runs;
+          entry = c.0;
+          raises =
+              subst (λ (k : ℕ). canonical_after w k d.first ≡ Raises clause (c.0 ∷ d.st.trace)) (sym (plus_one n)) (one_more w n d.first d.st d.runs ∙ c.1);
+          event_is = own.event_is;
+          line_is = own.line_is;
+          told = subst (λ (k : ℕ). ToldBy w d.first before heard k d.st) (less_one n) d.told;
+        },
       ))
-  ends_by (halt.Over cause number) ran x is =
+  ends_by (halt.Over cause number) ran x grows raises is =
       subst (λ (z : Ran). GoesOnAt p strings input numbers before heard new n frames (old.memory.rows ∷ earlier) (End z)) (sym is)
       (λ rows count s.
       let w = world_in p strings rows count in
       let d = at rows count (suits_same new.memory.rows (old.memory.rows ∷ earlier) frames rows count s) in
       let c = comes w p numbers old new d.st n (Err (halt.Over cause number)) d.along x (rows_of_both old new earlier frames rows count s) few in
       (d.first, d.starts, (one_more w n d.first d.st d.runs ∙ c, (d.st, d.runs, d.told))))
-  ends_by halt.Unplaced ran x is = absurd is
-  ends_by halt.NoMemory ran x is = absurd is
+  ends_by halt.Unplaced ran x grows raises is = absurd is
+  ends_by halt.NoMemory ran x grows raises is = absurd is
 
 -- ---- no picks are left
 pub ends_here : (p : Program) (strings : List (List ℕ)) (input : List ℕ) (numbers : Numbers) (before heard : Option Heard) (m : Machine) (n : ℕ)

@@ -1,70 +1,87 @@
 -- What is told of the picks of a run.
-use Rattle.std.proofs.Common.{sym, subst, List, [], ◌∷◌, inl, inr, Option, Some, None}
-use Rattle.ub_base.specs.declared.names.Event.{Event}
+use Rattle.std.proofs.Common.{◌≡◌, ◌+◌, ℕ, suc, refl, ap, ◌∙◌, List, [], ◌∷◌, inl, inr, Option, Some, None}
 use Rattle.ub_base.specs.declared.names.Item.{Item}
-use Rattle.c_model.specs.Runs.{Entry}
+use Rattle.c_model.specs.Completions.{Completed as Model_completed}
+use Rattle.c_model.specs.Runs.{Entry, Outcome, Running, State, canonical_after, canonical_pick, step, trace_of}
 use Rattle.c_model.specs.World.{World}
-use Rattle.run_machine.specs.declared.pick.Completed.{Completed}
 use Rattle.run_machine.specs.declared.pick.Completed.TheVariants as completion
 use Rattle.run_machine.specs.declared.pick.Pick.{Pick}
 use Rattle.run_machine.specs.declared.pick.Pick.TheVariants as pick
-use Rattle.canonical_laws.specs.Listed.{TellsEntry, TellsNewest, event_told}
-use Rattle.core_run.specs.Calls.{Call, Heard, Tells, calls_of, completions, noted as noted_call, picked}
-use Rattle.core_run.specs.Canonical.{IsNote, ToldBy, noted, told}
+use Rattle.canonical_laws.specs.Completes.{completed_told, completed_with}
+use Rattle.canonical_laws.specs.Listed.{TellsEntry, event_told}
+use Rattle.core_run.specs.Calls.{Call, Heard, Tells, calls_of, picked}
+use Rattle.core_run.specs.ToldPicks.{LastToldBy, TellsPick, Told, ToldBy, ToldIsCanonical, heard_with, none, notes_of, told}
 use Rattle.core_run.specs.declared.watch.Go.{Go}
-use Rattle.core_run.specs.declared.watch.Go.TheVariants.{On, Stop}
+use Rattle.core_run.specs.declared.watch.Go.TheVariants.{On}
+use Rattle.core_run.proofs.OneMore.{one_more, plus_one}
 
--- ---- what is told of it
-module _ (world : World) (before : Option Heard) where
-  told_note : (call : Call) (go : Go) (hs : Option Heard) (trace : List Entry) → IsNote call → ToldBy world before hs trace
-      → ToldBy world before (noted_call call go hs) trace
-  told_note call go hs trace is t = by before hs t
-    where
-      by : (b h : Option Heard) → ToldBy world b h trace → ToldBy world b (noted_call call go h) trace
-      by None h t = tt
-      by (Some b) None t = absurd t
-      by (Some b) (Some h) t = noted call go h trace is t
+-- ---- the calls of a pick
+-- they are the pick and what it says that it completes
+calls_are : (p : Pick) (items : List Item) → calls_of p items ≡ picked (event_told p) items ∷ notes_of (event_told p) (completed_told p)
+calls_are (pick.Step status) items = refl
+calls_are (pick.Starts event) items = refl
+calls_are (pick.Event event completion.Nothing None) items = refl
+calls_are (pick.Event event completion.Node None) items = refl
+calls_are (pick.Event event (completion.Operands above) None) items = refl
+calls_are (pick.Event event completed (Some status)) items = refl
 
-  told_pick : (event : Option Event) (items : List Item) (go : Go) (hs : Option Heard) (e : Entry) (trace : List Entry) → TellsEntry world event items e
-      → ToldBy world before hs trace → ToldBy world before (noted_call (picked event items) go hs) (e ∷ trace)
-  told_pick event items go hs e trace is t = by before hs t
-    where
-      by : (b h : Option Heard) → ToldBy world b h trace → ToldBy world b (noted_call (picked event items) go h) (e ∷ trace)
-      by None h t = tt
-      by (Some b) None t = absurd t
-      by (Some b) (Some h) t = told event items go h e trace is t
+-- so they tell the newest entry and what it completes
+pub pick_tells : (world : World) (st : State) (o : Outcome) (p : Pick) (items : List Item) (e : Entry)
+    → step world st (canonical_pick world st.top st.top.begun) ≡ o → trace_of o ≡ e ∷ st.trace → TellsEntry world (event_told p) items e
+    → completed_told p ≡ completed_with world e o → TellsPick world st o (calls_of p items)
+pick_tells world st o p items e steps newest tells completes = record {
+  steps = steps;
+  entry = e;
+  newest = newest;
+  event = event_told p;
+  items = items;
+  tells = tells;
+  by = calls_are p items ∙ ap (λ (c : Model_completed). picked (event_told p) items ∷ notes_of (event_told p) c) completes;
+}
 
-  abbrev AreNotes : List Call → Type 0
-  AreNotes [] = Unit {0}
-  AreNotes (c ∷ cs) = IsNote c × AreNotes cs
+-- ---- calls that were heard
+-- where the last one was answered by On, each was
+each_heard : (calls : List Call) (old new : Heard) → Tells calls On (Some old) (Some new) → new ≡ heard_with calls old
+each_heard [] old new t = some_heard new old t.1
+  where
+    kept : Option Heard → Heard → Heard
+    kept None other = other
+    kept (Some hs) other = hs
 
-  notes_told : (calls : List Call) (go : Go) (old new : Option Heard) (trace : List Entry) → AreNotes calls → Tells calls go old new
-      → ToldBy world before old trace → ToldBy world before new trace
-  notes_told [] go old new trace are t k = subst (λ (z : Option Heard). ToldBy world before z trace) (sym t.1) k
-  notes_told (c ∷ cs) go old new trace are (inl w) k =
-      subst (λ (z : Option Heard). ToldBy world before z trace) (sym w.1) (told_note c Stop old trace are.0 k)
-  notes_told (c ∷ cs) go old new trace are (inr w) k = notes_told cs go (noted_call c On old) new trace are.1 w (told_note c On old trace are.0 k)
+    some_heard : (a b : Heard) → Some a ≡ Some b → a ≡ b
+    some_heard a b q = ap (λ (z : Option Heard). kept z a) q
+each_heard (c ∷ cs) old new (inl w) = absurd (cc (w.0))
+each_heard (c ∷ cs) old new (inr w) = each_heard cs ((c, On) ∷ old) new w
 
-  completions_note : (event : Event) (completed : Completed) → AreNotes (completions event completed)
-  completions_note event completion.Nothing = tt
-  completions_note event completion.Node = (tt, tt)
-  completions_note event (completion.Operands above) = (tt, (tt, tt))
+-- they are kept where those before are
+still_kept : (calls : List Call) (go : Go) (old : Heard) → Tells calls go (Some old) None → ⊥
+still_kept [] go old t = absurd (cc (t.1))
+still_kept (c ∷ cs) go old (inl w) = absurd (cc (w.1))
+still_kept (c ∷ cs) go old (inr w) = still_kept cs go ((c, On) ∷ old) w
 
-  calls_told : (event : Option Event) (items : List Item) (notes : List Call) (go : Go) (old new : Option Heard) (e : Entry) (trace : List Entry)
-      → AreNotes notes → Tells (picked event items ∷ notes) go old new → TellsEntry world event items e → ToldBy world before old trace
-      → ToldBy world before new (e ∷ trace)
-  calls_told event items notes go old new e trace are (inl w) is k =
-      subst (λ (z : Option Heard). ToldBy world before z (e ∷ trace)) (sym w.1) (told_pick event items Stop old e trace is k)
-  calls_told event items notes go old new e trace are (inr w) is k =
-      notes_told notes go (noted_call (picked event items) On old) new (e ∷ trace) are w (told_pick event items On old e trace is k)
+-- ---- one pick more was told
+module _ (world : World) (first : State) (n : ℕ) (st : State) (calls : List Call) where
+  -- behind which the run goes on
+  pub told_on : (before old new : Option Heard) (after : State) → ToldBy world first before old n st → TellsPick world st (Running after) calls
+      → Tells calls On old new → ToldBy world first before new (suc n) after
+  told_on None old new after k is t = tt
+  told_on (Some before) None new after k is t = absurd k
+  told_on (Some before) (Some old) None after k is t = absurd (still_kept calls On old t)
+  told_on (Some before) (Some old) (Some new) after k is t = told n st after old new calls k is (each_heard calls old new t)
 
-  -- a pick that was told tells the newest entry
-  pub pick_told : (p : Pick) (items : List Item) (go : Go) (old new : Option Heard) (trace after : List Entry) → Tells (calls_of p items) go old new
-      → TellsNewest world (event_told p) items trace after → ToldBy world before old trace → ToldBy world before new after
-  pick_told (pick.Step status) items go old new trace after t is k =
-      subst (ToldBy world before new) (sym is.1) (calls_told None items [] go old new is.0 trace tt t is.2 k)
-  pick_told (pick.Starts event) items go old new trace after t is k =
-      subst (ToldBy world before new) (sym is.1) (calls_told (Some event) items [] go old new is.0 trace tt t is.2 k)
-  pick_told (pick.Event event completed status) items go old new trace after t is k =
-      subst (ToldBy world before new) (sym is.1)
-      (calls_told (Some event) items (completions event completed) go old new is.0 trace (completions_note event completed) t is.2 k)
+  -- which is the last
+  pub told_last : (before old new : Option Heard) (go : Go) (o : Outcome) → ToldBy world first before old n st → TellsPick world st o calls
+      → Tells calls go old new → LastToldBy world first before new go (n + 1) o
+  told_last None old new go o k is t = tt
+  told_last (Some before) None new go o k is t = absurd k
+  told_last (Some before) (Some old) None go o k is t = absurd (still_kept calls go old t)
+  told_last (Some before) (Some old) (Some new) go o k is t =
+      record { earlier = n; all = plus_one n; st = st; until = old; so_far = k; calls = calls; tells = is; last = t }
+
+-- ---- the states on the way
+pub told_canonical : ToldIsCanonical
+told_canonical world first before n st heard t = from n st heard t
+  where
+    from : (n : ℕ) (st : State) (heard : Heard) → Told world first before n st heard → canonical_after world n first ≡ Running st
+    from _ _ _ none = refl
+    from _ _ _ (told k earlier later old new calls t is q) = one_more world k first earlier (from k earlier old t) ∙ is.steps

@@ -7,7 +7,7 @@ use Rattle.addr_map.specs.declared.map.Row.{Row}
 use Rattle.std.specs.Prelude.{flat_map}
 use Rattle.std.specs.Borrow.{Bor}
 use Rattle.addr_map.specs.declared.map.Mode.{Mode}
-use Rattle.addr_map.specs.Sound.{Above}
+use Rattle.addr_map.specs.Sound.{Above, IsMap}
 use Rattle.c_typed.specs.declared.program.Program.{Program}
 use Rattle.core_ir.specs.declared.term.Core.{Core}
 use Rattle.core_ir.specs.declared.term.CoreProgram.{CoreProgram}
@@ -24,7 +24,7 @@ use Rattle.run_code.specs.Roots.{AreInBlocks, HaveCode, IsNumberedBy, code_trees
 use Rattle.code_view.specs.Known.{AreInOrder}
 use Rattle.code_view.specs.Laws.{TreesAreFormed}
 use Rattle.mem_laws.specs.MoreRows.{Extends}
-use Rattle.c_model.specs.Runs.{Entry}
+use Rattle.c_model.specs.Runs.{State}
 use Rattle.c_model.specs.World.{World, profile_limits}
 use Rattle.run_facts.specs.SetUp.{IsItsCode, IsProfile, IsItsWorld, IsSetUp, IsWhole}
 use Rattle.run_state.specs.Begins.{BeginsAsDefined, CountsAsDefined, HoldsGiven, IsUnstarted, KeepsLabels}
@@ -36,8 +36,10 @@ use Rattle.canonical_laws.specs.Begins.{GoingIsAlong}
 use Rattle.start_laws.specs.Bytes.{LawfulHasBytes}
 use Rattle.start_laws.specs.Starts.{IsMadeReady, IsStartCount, StartsGoing}
 use Rattle.core_run.specs.Calls.{Heard}
-use Rattle.core_run.specs.Canonical.{IsAt, IsMap, ToldBy, none, world_in}
+use Rattle.core_run.specs.Canonical.{IsAt, world_in}
+use Rattle.core_run.specs.ToldPicks.{ToldBy, none}
 use Rattle.core_run.specs.Whole.{HasTerms}
+use Rattle.core_run.proofs.Rows.{are_addresses, end_in_time}
 
 -- what a run is made of: a lawful program, its code, and a machine that was made ready for these arguments and this input, with all that they count
 pub record IsMade (p : Program) (strings : List (List ℕ)) (input : List ℕ) (numbers : Numbers) (m : Machine) (count : ℕ) : Type 0 where
@@ -64,13 +66,13 @@ its_world p strings rows number is = record {
   program = record { functions = refl; main = refl; agree = refl; library = refl };
   limits = profile;
   rows = is.lawful;
-  addresses = is.addresses;
-  ends = is.ends;
+  addresses = are_addresses rows is;
+  ends = end_in_time rows is;
 }
 
-told_none : (world : World) (heard : Option Heard) → ToldBy world heard heard []
-told_none world None = tt
-told_none world (Some hs) = none
+told_none : (world : World) (first : State) (heard : Option Heard) → ToldBy world first heard heard 0 first
+told_none world first None = tt
+told_none world first (Some hs) = none
 
 pub begins_at : StartsGoing → GoingIsAlong → LawfulWorldsKeepSmall → MainIsPlaced → LawfulHasBytes → (p : Program) (strings : List (List ℕ))
     (input : List ℕ) (numbers : Numbers) (heard : Option Heard) (m : Machine) (count : ℕ) → IsMade p strings input numbers m count
@@ -87,8 +89,8 @@ begins_at starts goes keeps placed small p strings input numbers heard m count m
     let going = starts p numbers strings input m rows number profile_limits count set_up made.ready extends.rows (suits.numbers [] 0 refl)
     made.counts made.within in
     let begins = goes world p numbers strings input m going.0
-    (keeps p strings rows number profile_limits made.whole.lawful (small p strings made.whole.lawful made.words) suits.map.ends few_written)
-    (placed p world strings suits.map.ends (omega (arith, made.few))) made.bytes going.1 going.2 made.ready.unstarted.left in
+    (keeps p strings rows number profile_limits made.whole.lawful (small p strings made.whole.lawful made.words) (end_in_time rows suits.map) few_written)
+    (placed p world strings (end_in_time rows suits.map) (omega (arith, made.few))) made.bytes going.1 going.2 made.ready.unstarted.left in
     record {
       first = going.0;
       st = going.0;
@@ -96,7 +98,7 @@ begins_at starts goes keeps placed small p strings input numbers heard m count m
       runs = refl;
       along = begins.along;
       listed = begins.listed [];
-      told = subst (λ (t : List Entry). ToldBy world heard heard t) (sym begins.trace) (told_none world heard);
+      told = told_none world going.0 heard;
     }
 
 -- ---- the code

@@ -83,11 +83,12 @@ completions e Nothing = []
 completions e Node = node_done e.frame e.turn e.node ∷ []
 completions e (Operands above) = node_done e.frame e.turn e.node ∷ operands_done e.frame e.turn above ∷ []
 
--- the calls by which a pick with these items is told
+-- the calls by which a pick with these items is told; behind an event that ends the run nothing is complete (7.22.4.4)
 abbrev pub calls_of : Pick → List Item → List Call
 calls_of (Step status) items = picked None items ∷ []
 calls_of (Starts e) items = picked (Some e) items ∷ []
-calls_of (EventPick e completed status) items = picked (Some e) items ∷ completions e completed
+calls_of (EventPick e completed None) items = picked (Some e) items ∷ completions e completed
+calls_of (EventPick e completed (Some status)) items = picked (Some e) items ∷ []
 
 -- a run that stopped was answered by Stop, and every other run by On at last
 abbrev pub AnswersEnd : Ran → Option Heard → Type 0

@@ -1,107 +1,112 @@
 -- A run tells the picks of the canonical order of its program, each with its items, and ends as the definitions of runs say (own).
-use Rattle.std.specs.Prelude.{◌≡◌, ◌⊎◌, ◌+◌, ◌-◌, ◌<◌, ℕ, suc, List, [], ◌∷◌, Option, Some, None, slice_get}
+use Rattle.std.specs.Prelude.{◌≡◌, ◌⊎◌, ◌+◌, ◌-◌, ◌<◌, ℕ, suc, List, ◌∷◌, Option, Some, None, slice_get}
 use Rattle.std.specs.List.{All}
+use Rattle.ub_base.specs.declared.clause.Clause.{Clause}
 use Rattle.ub_base.specs.declared.names.Event.{Event}
 use Rattle.ub_base.specs.declared.names.Frame.{Frame}
-use Rattle.ub_base.specs.declared.names.Item.{Item}
 use Rattle.ub_base.specs.Frames.{IsFrameList, Path, Row as Started_frame}
-use Rattle.addr_map.specs.Sound.{AreApart}
+use Rattle.addr_map.specs.Sound.{AreApart, IsMap}
 use Rattle.addr_map.specs.declared.map.Row.{Row}
 use Rattle.c_typed.specs.declared.program.Program.{Program}
 use Rattle.mem_laws.specs.MoreRows.{Extends}
 use Rattle.mem_spec.specs.Streams.{Outputs}
+use Rattle.prov_memory.specs.Keeps.{RowsStay}
 use Rattle.c_model.specs.Runs.{Ends, Entry, Over, Raises, Running, State, canonical_after, start}
 use Rattle.c_model.specs.World.{World, profile_limits}
 use Rattle.program_view.specs.View.{main_values, world_of}
 use Rattle.run_statements.specs.declared.numbers.Numbers.{Numbers}
-use Rattle.run_state.specs.Operands.{AreAddresses}
 use Rattle.run_state.specs.declared.halt.Halt.{Halt}
 use Rattle.run_state.specs.declared.halt.Halt.TheVariants as halt
 use Rattle.run_state.specs.declared.machine.Machine.{Machine}
 use Rattle.run_machine.specs.declared.pick.Pick.{Pick}
 use Rattle.run_machine.specs.declared.pick.Pick.TheVariants as pick
-use Rattle.run_machine.specs.Passing.{RowsAreLawful}
 use Rattle.run_machine.specs.Starting.{numbered}
-use Rattle.value_facts.specs.Small.{EndInTime}
 use Rattle.canonical_laws.specs.Along.{IsAlong}
-use Rattle.canonical_laws.specs.Listed.{NumbersAre, TellsEntry, TopIsListed}
-use Rattle.core_run.specs.Calls.{Call, Heard, node_done, operands_done, picked, row_by}
+use Rattle.canonical_laws.specs.Listed.{NumbersAre, TopIsListed, event_of}
+use Rattle.core_run.specs.Calls.{Heard, row_by}
+use Rattle.core_run.specs.ToldPicks.{LastToldBy, ToldBy}
 use Rattle.core_run.specs.declared.watch.Go.{Go}
+use Rattle.core_run.specs.declared.watch.Go.TheVariants as go
 use Rattle.core_run.specs.declared.watch.Ran.{Ran}
 use Rattle.core_run.specs.declared.watch.Ran.TheVariants.{Ended, Raised, Stopped, OutOfSteps, Outside}
 use Rattle.core_run.specs.declared.canonical.Next.{Next}
 use Rattle.core_run.specs.declared.canonical.Next.TheVariants.{On, End}
 
--- 1. What was told.
-
--- a call that tells what a pick completed
-abbrev pub IsNote : Call → Type 0
-IsNote (picked event items) = ⊥
-IsNote (node_done frame turn node) = Unit {0}
-IsNote (operands_done frame turn node) = Unit {0}
-
--- since these calls, the picks that were told are those of the trace, in order, each with its items
-pub data Told (world : World) (before : Heard) : Heard → List Entry → Type 0 where
-  none : Told world before before []
-  noted : (call : Call) (go : Go) (hs : Heard) (trace : List Entry) → IsNote call → Told world before hs trace → Told world before ((call, go) ∷ hs) trace
-  told : (event : Option Event) (items : List Item) (go : Go) (hs : Heard) (e : Entry) (trace : List Entry) → TellsEntry world event items e
-      → Told world before hs trace → Told world before ((picked event items, go) ∷ hs) (e ∷ trace)
-
--- .. where they are kept
-abbrev pub ToldBy : World → Option Heard → Option Heard → List Entry → Type 0
-ToldBy world None after trace = Unit {0}
-ToldBy world (Some before) None trace = ⊥
-ToldBy world (Some before) (Some hs) trace = Told world before hs trace
+-- 1. What was told of the picks stands in specs/ToldPicks.antt.
 
 -- 2. The worlds of a run: those of the program that are open in where objects stand and how frames are numbered.
 abbrev pub world_in : Program → List (List ℕ) → List Row → (Path → ℕ) → World
 world_in p strings rows number = world_of p strings rows number profile_limits
 
--- rows keep the rules of an address map
-pub record IsMap (rows : List Row) : Type 0 where
-  pub apart : AreApart rows
-  pub lawful : RowsAreLawful rows
-  pub addresses : AreAddresses rows
-  pub ends : EndInTime rows
+-- Rows that keep the rules of an address map and have each row of this one, and numbers of frames that are those of the list. So it is of the map itself, with
+-- the numbers of the list (`number_by` of frame_numbers).
+pub record Fits (placed : List Row) (frames : List Started_frame) (rows : List Row) (number : Path → ℕ) : Type 0 where
+  pub rules : IsMap rows
+  pub has : RowsStay placed rows
+  pub numbers : NumbersAre number frames
 
--- rows that extend those that the memory had after each pick, and numbers of frames that are those of the list
+-- .. that extend those that the memory had after each pick so far
 pub record Suits (pasts : List (List Row)) (frames : List Started_frame) (rows : List Row) (number : Path → ℕ) : Type 0 where
   pub map : IsMap rows
   pub has : All (λ past. Extends past rows) pasts
   pub numbers : NumbersAre number frames
 
+-- each of these stands apart, and has its rows among those
+abbrev pub AreAmong : (pasts : List (List Row)) → List Row → Type 0
+AreAmong [] rows = Unit {0}
+AreAmong (past ∷ pasts) rows = (AreApart past × RowsStay past rows) × AreAmong pasts rows
+
 -- 3. How a run ends, from the state in which the definitions begin.
 module _ (world : World) (first : State) (before after : Option Heard) (output : Outputs) where
   -- after so many picks it goes on, and wrote this
   abbrev pub IsAfter : ℕ → Type 0
-  IsAfter picks = (st : State) × (canonical_after world picks first ≡ Running st) × (st.store.output ≡ output) × ToldBy world before after st.trace
+  IsAfter picks = (st : State) × (canonical_after world picks first ≡ Running st) × (st.store.output ≡ output) × ToldBy world first before after picks st
 
-  -- after so many picks it has ended with this status, and wrote this
-  abbrev pub HasEnded : (status picks : ℕ) → Type 0
-  HasEnded status picks = (trace : List Entry) × (canonical_after world picks first ≡ Ends status output trace) × ToldBy world before after trace
+  -- .. and is stopped at the last of them
+  abbrev pub IsStoppedAfter : ℕ → Type 0
+  IsStoppedAfter picks = (st : State) × (canonical_after world picks first ≡ Running st) × (st.store.output ≡ output)
+      × LastToldBy world first before after go.Stop picks (Running st)
+
+  -- after so many picks it has ended with this status, and wrote this; the last call was answered so
+  abbrev pub HasEnded : Go → (status picks : ℕ) → Type 0
+  HasEnded last status picks = (trace : List Entry) × (canonical_after world picks first ≡ Ends status output trace)
+      × LastToldBy world first before after last picks (Ends status output trace)
+
+  -- the last of these picks raised the clause: an event, whose node stands in this line; what was told was so before it
+  pub record HasRaised (event : Event) (line : ℕ) (clause : Clause) (picks : ℕ) : Type 0 where
+    pub st : State
+    pub runs : canonical_after world (picks - 1) first ≡ Running st
+    pub entry : Entry
+    pub raises : canonical_after world picks first ≡ Raises clause (entry ∷ st.trace)
+    pub event_is : event_of world entry ≡ Some event
+    pub line_is : entry.line ≡ line
+    pub told : ToldBy world first before after (picks - 1) st
 
   -- as is answered: that it has ended; that the last of the picks raised a clause, and wasn't told; that the watch stopped it, behind its last pick too;
   -- that there are no picks left; or that the next pick passes a limit
   abbrev pub RunsTo : Ran → Type 0
-  RunsTo (Ended status picks) = HasEnded status picks
-  RunsTo (Raised event line clause picks) =
-      (e : Entry) × (trace : List Entry) × (canonical_after world picks first ≡ Raises clause (e ∷ trace)) × ToldBy world before after trace
-  RunsTo (Stopped picks) = IsAfter picks ⊎ ((status : ℕ) × HasEnded status picks)
+  RunsTo (Ended status picks) = HasEnded go.On status picks
+  RunsTo (Raised event line clause picks) = HasRaised event line clause picks
+  RunsTo (Stopped picks) = IsStoppedAfter picks ⊎ ((status : ℕ) × HasEnded go.Stop status picks)
   RunsTo (OutOfSteps picks) = IsAfter picks
   RunsTo (Outside cause number picks) = (canonical_after world (suc picks) first ≡ Over cause number)
-      × ((st : State) × (canonical_after world picks first ≡ Running st) × ToldBy world before after st.trace)
+      × ((st : State) × (canonical_after world picks first ≡ Running st) × ToldBy world first before after picks st)
 
 -- 4. The run so far.
 module _ (p : Program) (strings : List (List ℕ)) (input : List ℕ) (before after : Option Heard) where
-  -- it has ended so, and wrote this
-  abbrev pub EndsIn : Outputs → List Started_frame → List (List Row) → Ran → Type 0
-  EndsIn output frames pasts ran = (rows : List Row) (number : Path → ℕ) → Suits pasts frames rows number → (first : State)
-      × (start (world_in p strings rows number) input (main_values p (world_in p strings rows number) strings) ≡ Running first)
-      × RunsTo (world_in p strings rows number) first before after output ran
+  -- in this world it started, has ended so, and wrote this
+  abbrev pub EndsAs : World → Outputs → Ran → Type 0
+  EndsAs world output ran = (first : State) × (start world input (main_values p world strings) ≡ Running first) × RunsTo world first before after output ran
 
-  -- .. with some such rows
-  abbrev pub EndsSome : Outputs → List Started_frame → Ran → Type 0
-  EndsSome output frames ran = (pasts : List (List Row)) × EndsIn output frames pasts ran
+  -- .. in each world whose rows have those of this map
+  abbrev pub EndsOver : Outputs → List Started_frame → (placed : List Row) → Ran → Type 0
+  EndsOver output frames placed ran =
+      (rows : List Row) (number : Path → ℕ) → Fits placed frames rows number → EndsAs (world_in p strings rows number) output ran
+
+  -- .. in each world whose rows extend those that the memory had after each pick
+  abbrev pub EndsIn : Outputs → List Started_frame → List (List Row) → Ran → Type 0
+  EndsIn output frames pasts ran =
+      (rows : List Row) (number : Path → ℕ) → Suits pasts frames rows number → EndsAs (world_in p strings rows number) output ran
 
 module _ (p : Program) (strings : List (List ℕ)) (input : List ℕ) (numbers : Numbers) (before after : Option Heard) where
   -- in a world: the definitions start, after so many picks it is this state, along which the machine is, and the picks were told
@@ -112,7 +117,7 @@ module _ (p : Program) (strings : List (List ℕ)) (input : List ℕ) (numbers :
     pub runs : canonical_after world n first ≡ Running st
     pub along : IsAlong world p numbers m st n
     pub listed : TopIsListed frames st
-    pub told : ToldBy world before after st.trace
+    pub told : ToldBy world first before after n st
 
   -- .. in each world that suits the rows of the memory now and before, and the frames so far
   abbrev pub IsAt : Machine → ℕ → List Started_frame → List (List Row) → Type 0

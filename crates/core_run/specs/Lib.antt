@@ -4,4 +4,5 @@ pub mod Ends
 pub mod Record
 pub mod Steps
 pub mod Told
+pub mod ToldPicks
 pub mod Whole

@@ -13,7 +13,8 @@ use Rattle.c_model.specs.Runs.{Over, start}
 use Rattle.program_view.specs.View.{main_values}
 use Rattle.run_facts.specs.SetUp.{IsWhole}
 use Rattle.core_run.specs.Calls.{Heard}
-use Rattle.core_run.specs.Canonical.{EndsSome, world_in}
+use Rattle.frame_numbers.specs.Numbers.{number_by}
+use Rattle.core_run.specs.Canonical.{EndsOver, Fits, world_in}
 use Rattle.core_run.specs.declared.watch.Ran.{Ran}
 use Rattle.core_run.specs.declared.watch.Ran.TheVariants.{Ended, Raised, Stopped, OutOfSteps, Outside}
 use Rattle.core_run.specs.declared.watch.RunState.{RunState}
@@ -32,7 +33,7 @@ pub record CanRun (c : CoreProgram) (strings : List (List ℕ)) : Type 0 where
 
 -- 2. What a run comes to.
 
--- no pick was taken: this number passes the limit on created bytes, or no pick was asked for
+-- No pick was taken: this number passes the limit on created bytes; or none was asked for, and what the next one would come to isn't answered.
 abbrev pub IsOverBy : ℕ → Ran → Type 0
 IsOverBy count (Ended status picks) = ⊥
 IsOverBy count (Raised event line clause picks) = ⊥
@@ -54,7 +55,12 @@ module _ (p : Program) (strings : List (List ℕ)) (input : List ℕ) where
     pub output : s.output ≡ []
     pub errors : s.errors ≡ []
 
-  -- or it starts, and the picks that were told are those of the canonical order, with the end and what was written of the definitions
+  -- Or it starts, and the picks that were told are those of the canonical order, with the end and what was written of the definitions. Where no pick was
+  -- asked for, it is out of steps in the state in which the definitions start.
   abbrev pub RunsAsDefined : (before after : Option Heard) → RunState → Type 0
   RunsAsDefined before after s =
-      IsOverAtStart s ⊎ EndsSome p strings input before after (record { standard = s.output; errors = s.errors }) s.frames s.ran
+      IsOverAtStart s ⊎ EndsOver p strings input before after (record { standard = s.output; errors = s.errors }) s.frames s.map s.ran
+
+-- the world over the map itself, with the numbers of the list of frames, is one of those
+abbrev pub HasWorld : RunState → Type 0
+HasWorld s = Fits s.map s.frames s.map (number_by s.frames)

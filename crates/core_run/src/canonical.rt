@@ -4,23 +4,27 @@ ghost use Rattle.core_run.specs.Calls.{GoesOn, FollowsPick, Tells, completions, 
 ghost use Rattle.core_run.specs.Ends.{picks_of, told_of, IsOutOfSteps};
 ghost use Rattle.core_run.specs.Steps.{told_by, told_at_end, taken_by, EndsAfter, EndsRun, AnswersNext, IsUnstopped, GoesUnstopped, Grows};
 ghost use Rattle.core_run.specs.Told.{more};
-ghost use Rattle.core_run.specs.Canonical.{EndsSome, Follows, GoesOnAt, HasRow, IsAt, IsEndedBy, IsNumbered};
+ghost use Rattle.core_run.specs.Canonical.{AreAmong, EndsOver, Follows, GoesOnAt, HasRow, IsAt, IsEndedBy, IsNumbered};
 ghost use Rattle.core_run.specs.Calls.{row_by, Heard};
 ghost use Rattle.ub_base.specs.Frames.{IsFrameList};
 ghost use Rattle.addr_map.specs.declared.map.Row.{Row};
+ghost use Rattle.addr_map.specs.Sound.{IsMap};
 ghost use Rattle.c_typed.specs.declared.program.Program.{Program};
 ghost use Rattle.run_statements.specs.declared.numbers.Numbers.{Numbers};
 ghost use Rattle.std.specs.Prelude.{map, string_bytes};
 ghost use Rattle.std.specs.List.{All};
 ghost use Rattle.value_facts.specs.Held.{AreBytes};
-ghost use Rattle.core_run.specs.Whole.{CanRun, IsOverBy, RunsAsDefined};
+ghost use Rattle.core_run.specs.Whole.{CanRun, HasWorld, IsOverBy, RunsAsDefined};
 
 use crate::watch::{Go, Ran, RunState, Watch};
 use addr_map::{AddrMap, Mode};
 use canonical_laws::{law_along, law_begins};
 use code_view::law_code_formed;
+use control_laws::{law_control, law_entered_arguments};
 use core_ir::CoreProgram;
 use frame_numbers::law_numbers;
+use mem_laws::law_apart_extend;
+use pick_facts::law_event_asked;
 use prov_memory::{Memory, Outputs};
 use run_acts::start_bytes;
 use run_machine::{
@@ -62,6 +66,10 @@ pub fn run<W: Watch>(
 
     // The trees that the watch was given are there as before.
     ensures trees { OnOk result (W.trees watch.new ≡ W.trees watch.old) }
+
+    // The rows of the map keep the rules of an address map: with the numbers of the frames it makes a world of which `canonical` speaks.
+    ensures map { IfOk result HasWorld }
+
     // Of a lawful program with its terms: it starts, takes the picks of the canonical order, and ends, as the definitions do.
     ensures canonical { CanRun p.now (map string_bytes args.now)
         → IfOk result (RunsAsDefined p.now.program.now (map string_bytes args.now) input.now (W.heard watch.old) (W.heard watch.new)) }
@@ -87,6 +95,7 @@ pub fn run<W: Watch>(
     let mut frames = Frames::new(alloc);
     let ran = follow(&mut machine, &mut frames, budget, watch)?;
     let (output, errors, map) = written_and_placed(machine);
+    map.law_rows();
     Ok(RunState {
         ran,
         output,
@@ -141,7 +150,10 @@ fn unstarted(alloc: Global, number: u64, budget: u64) -> RunState
     ensures over { IsOverBy number result.ran }
     ensures output { result.output ≡ [] }
     ensures errors { result.errors ≡ [] }
+    ensures map { IsMap result.map }
 {
+    let map = AddrMap::new(alloc);
+    map.law_rows();
     let ran = if budget == 0 {
         Ran::OutOfSteps { picks: 0 }
     } else {
@@ -155,7 +167,7 @@ fn unstarted(alloc: Global, number: u64, budget: u64) -> RunState
         ran,
         output: Bytes::from_vec(Vec::new(alloc)),
         errors: Bytes::from_vec(Vec::new(alloc)),
-        map: AddrMap::new(alloc),
+        map,
         frames: Frames::new(alloc),
     }
 }
@@ -217,7 +229,7 @@ fn tell_completed<W: Watch>(
     }
 }
 
-// Tells a pick of this event with what it touched.
+// Tells a pick with what it touched, and what it completes: an event that ends the run, as a call of `exit`, nothing.
 fn tell<W: Watch>(
     machine: &Machine,
     frames: &Frames,
@@ -232,14 +244,23 @@ fn tell<W: Watch>(
     let view = machine.view(frames);
     match told {
         Pick::Step(_) => watch.pick(&view, None, &machine.items),
-        Pick::Starts(event) => watch.pick(&view, Some(event), &machine.items),
-        Pick::Event(event, completed, _) => {
+        Pick::Starts(event) | Pick::Event(event, _, Some(_)) => {
+            watch.pick(&view, Some(event), &machine.items)
+        }
+        Pick::Event(event, completed, None) => {
             match watch.pick(&view, Some(event), &machine.items)? {
                 Go::Stop => Ok(Go::Stop),
                 Go::On => tell_completed(&view, event, completed, watch),
             }
         }
     }
+}
+
+// The rows of the memory keep the rules of an address map.
+fn keep_rules(machine: &Machine)
+    ensures { IsMap machine.now.memory.rows }
+{
+    machine.memory.map().law_rows();
 }
 
 // Whether the run goes on.
@@ -267,9 +288,18 @@ fn advance<W: Watch>(
     ensures canonical { (p : Program) (strings : List (List ℕ)) (input : List ℕ) (numbers : Numbers) (before : Option Heard) (earlier : List (List Row))
         → IsAt p strings input numbers before (W.heard watch.old) machine.old picks frames.old earlier
         → IfOk result (GoesOnAt p strings input numbers before (W.heard watch.new) machine.new picks frames.new (machine.old.memory.rows ∷ earlier)) }
+    // Then the memory has each row that it had.
+    ensures grows { (p : Program) (strings : List (List ℕ)) (input : List ℕ) (numbers : Numbers) (before : Option Heard) (earlier : List (List Row))
+        → IsAt p strings input numbers before (W.heard watch.old) machine.old picks frames.old earlier → AreAmong earlier machine.old.memory.rows
+        → OnOk result (AreAmong (machine.old.memory.rows ∷ earlier) machine.new.memory.rows) }
 {
     law_along();
     law_numbers();
+    law_apart_extend();
+    law_event_asked();
+    law_control();
+    law_entered_arguments();
+    keep_rules(machine);
     let told = match canonical(machine) {
         Ok(told) => told,
         Err(halt) => return Ok(Next::End(ended_by(halt, picks)?)),
@@ -346,13 +376,18 @@ fn follow<W: Watch>(
     // Where it begins so, it follows the canonical order.
     ensures canonical { (p : Program) (strings : List (List ℕ)) (input : List ℕ) (numbers : Numbers)
         → IsAt p strings input numbers (W.heard watch.old) (W.heard watch.old) machine.old 0 [] []
-        → IfOk result (λ ran. EndsSome p strings input (W.heard watch.old) (W.heard watch.new) machine.new.streams.output frames.new ran) }
+        → IfOk result (EndsOver p strings input (W.heard watch.old) (W.heard watch.new) machine.new.streams.output frames.new machine.new.memory.rows) }
 {
+    law_apart_extend();
     for picks in 0..budget {
         match advance(machine, frames, picks, watch)? {
             Next::On => {}
-            Next::End(ran) => return Ok(ran),
+            Next::End(ran) => {
+                keep_rules(machine);
+                return Ok(ran);
+            }
         }
     }
+    keep_rules(machine);
     Ok(Ran::OutOfSteps { picks: budget })
 }

@@ -3,9 +3,11 @@
 
 mod calls;
 mod canonical;
+mod laws;
 mod watch;
 
 pub use calls::Calls;
 pub use canonical::run;
+pub use laws::law_told;
 pub use run_machine::{Begun, View};
 pub use watch::{Go, Ran, RunState, Watch};

@@ -1,8 +1,11 @@
 use Rattle.std.proofs.Common.{arith, subst}
+use Rattle.run_machine.specs.Raising.{RaisesNext}
+use Rattle.run_machine.specs.Rows.{GrowsNext}
 use Rattle.canonical_laws.specs.Along.{AnswersAll}
 use Rattle.core_run.specs.Calls.{Tells, calls_of}
 use Rattle.core_run.specs.declared.watch.Go.{Go}
 use Rattle.core_run.proofs.OnePick.{ends_by, goes_on, stops}
+use Rattle.core_run.proofs.Rows.{grown_end, grown_rows}
 use Rattle.core_run.proofs.Telling.{started_by}
 use Rattle.core_run.proofs.canonical.advance.Goals as goal
 
@@ -24,6 +27,8 @@ returns-in-Stop-clause-canonical g c = λ p strings input numbers before earlier
       bodies = c.canonical.ensures.bodies;
       calls = c.canonical.ensures.calls;
       libraries = c.canonical.ensures.libraries;
+      completes = c.canonical.ensures.completes;
+      completes_libraries = c.canonical.ensures.completes_libraries;
       keeps = c.canonical.ensures.keeps;
     })) c.in_ok-start_frame.ensures.numbered c.in_ok-start_frame.ensures.rows
     (subst (λ (z : Go). Tells (calls_of c.in-Ok.told c.start_frame.new.machine.items) z (g.W.Watch.heard c.args.watch.now)
@@ -41,6 +46,8 @@ returns-in-On-clause-canonical g c = λ p strings input numbers before earlier a
       bodies = c.canonical.ensures.bodies;
       calls = c.canonical.ensures.calls;
       libraries = c.canonical.ensures.libraries;
+      completes = c.canonical.ensures.completes;
+      completes_libraries = c.canonical.ensures.completes_libraries;
       keeps = c.canonical.ensures.keeps;
     })) c.in_ok-start_frame.ensures.numbered c.in_ok-start_frame.ensures.rows
     (subst (λ (z : Go). Tells (calls_of c.in-Ok.told c.start_frame.new.machine.items) z (g.W.Watch.heard c.args.watch.now)
@@ -48,7 +55,7 @@ returns-in-On-clause-canonical g c = λ p strings input numbers before earlier a
 
 pub returns-in-Err-clause-canonical : goal.returns-in-Err-clause-canonical
 returns-in-Err-clause-canonical g c = λ p strings input numbers before earlier at.
-    ends_by c.law_along.ensures p strings input numbers before (g.W.Watch.heard c.args.watch.now) c.args.machine.now c.canonical.new.machine c.args.picks
+    ends_by c.law_along.ensures c.law_event_asked.ensures c.law_control.ensures c.law_entered_arguments.ensures p strings input numbers before (g.W.Watch.heard c.args.watch.now) c.args.machine.now c.canonical.new.machine c.args.picks
     c.args.frames.now earlier at (omega (arith, c.requires.few)) c.in-Err.halt c.in_ok-ended_by-in-Err.field-0
     (subst (AnswersAll c.args.machine.now c.canonical.new.machine) c.in-Err.is (record {
       takes = c.canonical.ensures.takes;
@@ -57,5 +64,29 @@ returns-in-Err-clause-canonical g c = λ p strings input numbers before earlier 
       bodies = c.canonical.ensures.bodies;
       calls = c.canonical.ensures.calls;
       libraries = c.canonical.ensures.libraries;
+      completes = c.canonical.ensures.completes;
+      completes_libraries = c.canonical.ensures.completes_libraries;
       keeps = c.canonical.ensures.keeps;
-    })) c.in_ok-ended_by-in-Err.ensures.ended
+    })) (subst (GrowsNext c.args.machine.now c.canonical.new.machine) c.in-Err.is c.canonical.ensures.rows)
+    (subst (RaisesNext c.args.machine.now) c.in-Err.is c.canonical.ensures.raises) c.in_ok-ended_by-in-Err.ensures.ended
+
+pub returns-in-Stop-clause-grows : goal.returns-in-Stop-clause-grows
+returns-in-Stop-clause-grows g c = λ p strings input numbers before earlier at among.
+    grown_rows c.law_apart_extend.ensures c.law_event_asked.ensures c.law_control.ensures c.law_entered_arguments.ensures p strings input numbers before
+    (g.W.Watch.heard c.args.watch.now) c.args.machine.now c.args.picks c.args.frames.now earlier at (omega (arith, c.requires.few)) c.keep_rules.ensures among
+    c.in-Ok.told c.canonical.new.machine c.start_frame.new.machine c.start_frame.new.frames c.in_ok-start_frame.ensures.numbered
+    (subst (GrowsNext c.args.machine.now c.canonical.new.machine) c.in-Ok.is c.canonical.ensures.rows)
+
+pub returns-in-On-clause-grows : goal.returns-in-On-clause-grows
+returns-in-On-clause-grows g c = λ p strings input numbers before earlier at among.
+    grown_rows c.law_apart_extend.ensures c.law_event_asked.ensures c.law_control.ensures c.law_entered_arguments.ensures p strings input numbers before
+    (g.W.Watch.heard c.args.watch.now) c.args.machine.now c.args.picks c.args.frames.now earlier at (omega (arith, c.requires.few)) c.keep_rules.ensures among
+    c.in-Ok.told c.canonical.new.machine c.start_frame.new.machine c.start_frame.new.frames c.in_ok-start_frame.ensures.numbered
+    (subst (GrowsNext c.args.machine.now c.canonical.new.machine) c.in-Ok.is c.canonical.ensures.rows)
+
+pub returns-in-Err-clause-grows : goal.returns-in-Err-clause-grows
+returns-in-Err-clause-grows g c = λ p strings input numbers before earlier at among.
+    grown_end c.law_apart_extend.ensures c.law_event_asked.ensures c.law_control.ensures c.law_entered_arguments.ensures p strings input numbers before
+    (g.W.Watch.heard c.args.watch.now) c.args.machine.now c.args.picks c.args.frames.now earlier at (omega (arith, c.requires.few)) c.keep_rules.ensures among
+    c.canonical.new.machine c.in-Err.halt c.in_ok-ended_by-in-Err.field-0 c.in_ok-ended_by-in-Err.ensures.ended
+    (subst (GrowsNext c.args.machine.now c.canonical.new.machine) c.in-Err.is c.canonical.ensures.rows)

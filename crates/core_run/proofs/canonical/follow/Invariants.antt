@@ -3,7 +3,7 @@ use Rattle.addr_map.specs.declared.map.Row.{Row}
 use Rattle.c_typed.specs.declared.program.Program.{Program}
 use Rattle.run_statements.specs.declared.numbers.Numbers.{Numbers}
 use Rattle.core_run.specs.Calls.{GoesOn, StartedBy}
-use Rattle.core_run.specs.Canonical.{IsAt}
+use Rattle.core_run.specs.Canonical.{AreAmong, IsAt}
 use Rattle.core_run.specs.Told.{more}
 use Rattle.core_run.proofs.canonical.follow.Given as goal
 
@@ -16,6 +16,6 @@ invariant-loop-picks g l = record {
   started : StartedBy (g.W.Watch.heard l.watch) l.frames;
   canonical : (p : Program) (strings : List (List ℕ)) (input : List ℕ) (numbers : Numbers)
       → IsAt p strings input numbers (g.W.Watch.heard l.initial.watch) (g.W.Watch.heard l.initial.watch) l.initial.machine 0 [] []
-      → (earlier : List (List Row))
+      → (earlier : List (List Row)) × AreAmong earlier l.machine.memory.rows
       × IsAt p strings input numbers (g.W.Watch.heard l.initial.watch) (g.W.Watch.heard l.watch) l.machine l.picks l.frames earlier;
 }

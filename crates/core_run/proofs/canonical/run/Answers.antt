@@ -1,6 +1,7 @@
 use Rattle.std.proofs.Common.{◌<◌, ◌+◌, ◌^◌, ℕ, List, arith, length, map, refl, string_bytes, sym, subst, inl, inr}
 use Rattle.std.proofs.lemmas.List.{length-map}
 use Rattle.std.specs.Borrow.{Bor}
+use Rattle.addr_map.specs.declared.map.Row.{Row}
 use Rattle.mem_spec.specs.Streams.{Outputs}
 use Rattle.c_model.specs.World.{profile_limits}
 use Rattle.program_view.specs.View.{main_values}
@@ -8,7 +9,8 @@ use Rattle.run_code.specs.declared.whole.Code.{Code}
 use Rattle.run_code.specs.OfTrees.{AreTermsOf}
 use Rattle.run_facts.specs.SetUp.{IsItsCode}
 use Rattle.core_run.specs.Calls.{StartedBy}
-use Rattle.core_run.specs.Canonical.{EndsSome, world_in}
+use Rattle.core_run.specs.Canonical.{EndsOver, world_in}
+use Rattle.core_run.proofs.Rows.{own_fits}
 use Rattle.core_run.proofs.Telling.{answers_unstopped, started_first}
 use Rattle.core_run.proofs.Whole.{IsGivenCode, IsGivenMachine, are_terms, begins_at, empty_of, is_made, its_code, none_above, profile}
 use Rattle.core_run.proofs.canonical.run.Goals as goal
@@ -74,7 +76,18 @@ returns-clause-canonical g c = λ can.
     (subst (λ (b : Bor Code). IsItsCode p given.bodies.0 b.now) (sym c.in-Ok.ensures.code) its)
     (subst (λ (i : List ℕ). IsGivenMachine p words i c.in-Ok.machine.code c.in-Ok.machine) c.in_ok-input.ensures ready)
     (c.start_bytes-reached.ensures.exact few) (omega (arith, c.if-reached-gt-MOST_CREATED.false)) c.are_words.ensures c.are_bytes.ensures can.few in
-    inr (subst (λ (o : Outputs). EndsSome p words input heard (g.W.Watch.heard c.follow.new.watch) o c.follow.new.frames c.in_ok-ran.ran)
-    c.written_and_placed-output.ensures.output (c.in_ok-ran.ensures.canonical p words input given.bodies.0
+    inr (subst (λ (rows : List Row).
+    EndsOver p words input heard (g.W.Watch.heard c.follow.new.watch)
+    (record { standard = c.written_and_placed-output.result.0; errors = c.written_and_placed-output.result.1 }) c.follow.new.frames rows c.in_ok-ran.ran)
+    (sym c.written_and_placed-output.ensures.map)
+    (subst (λ (o : Outputs). EndsOver p words input heard (g.W.Watch.heard c.follow.new.watch) o c.follow.new.frames c.follow.new.machine.memory.rows
+    c.in_ok-ran.ran) c.written_and_placed-output.ensures.output (c.in_ok-ran.ensures.canonical p words input given.bodies.0
     (begins_at c.law_start.ensures.goes c.law_begins.ensures c.law_lawful_small.ensures.worlds c.law_lawful_small.ensures.main c.law_bytes.ensures p words input
-    given.bodies.0 heard c.in-Ok.machine c.start_bytes-reached.result held)))
+    given.bodies.0 heard c.in-Ok.machine c.start_bytes-reached.result held))))
+
+pub returns-then-reached-gt-MOST_CREATED-clause-map :
+    goal.returns-then-reached-gt-MOST_CREATED-clause-map
+returns-then-reached-gt-MOST_CREATED-clause-map g c = own_fits c.unstarted.result.map c.unstarted.result.frames c.unstarted.ensures.map
+
+pub returns-clause-map : goal.returns-clause-map
+returns-clause-map g c = own_fits c.written_and_placed-output.result.2 c.follow.new.frames c.law_rows.ensures
