@@ -10,6 +10,7 @@ use Rattle.addr_map.proofs.RowLists.{end_of_lawful}
 use Rattle.c_typed.specs.declared.program.Program.{Program}
 use Rattle.c_typed.specs.declared.tree.Place.{Place}
 use Rattle.mem_laws.specs.MoreRows.{ApartExtend, Extends}
+use Rattle.mem_spec.specs.Streams.{Outputs}
 use Rattle.prov_memory.specs.Keeps.{RowsStay}
 use Rattle.c_model.specs.Runs.{State, canonical_pick}
 use Rattle.c_model.specs.Steps.{Control, Ev, Pick as Model_pick}
@@ -32,7 +33,7 @@ use Rattle.pick_facts.specs.Asked.{EventIsAsked, IsEventNext, MayPickNext, call,
 use Rattle.canonical_laws.specs.Along.{IsAlong}
 use Rattle.canonical_laws.specs.Listed.{NumbersAre}
 use Rattle.core_run.specs.Calls.{Heard}
-use Rattle.core_run.specs.Canonical.{AreAmong, EndsIn, EndsOver, Fits, IsAt, IsEndedBy, IsNumbered, Suits, world_in}
+use Rattle.core_run.specs.Canonical.{AreAmong, EndsOver, EndsSome, Fits, IsAt, IsEndedBy, IsNumbered, Suits, world_in}
 use Rattle.core_run.specs.declared.watch.Ran.{Ran}
 use Rattle.std.specs.Prelude.{Option}
 
@@ -60,10 +61,10 @@ among_next pasts rows later apart stay are = ((apart, stay), among_later pasts r
 
 -- what is among rows is extended by all that have these
 all_extended : ApartExtend → (pasts : List (List Row)) (placed rows : List Row) → AreApart rows → RowsStay placed rows → AreAmong pasts placed
-    → All (λ past. Extends past rows) pasts
-all_extended extend [] placed rows apart stay are = All-nil (λ past. Extends past rows)
+    → All (λ (z : List Row). Extends z rows) pasts
+all_extended extend [] placed rows apart stay are = All-nil (λ (z : List Row). Extends z rows)
 all_extended extend (past ∷ pasts) placed rows apart stay are =
-    All-cons (λ z. Extends z rows) past pasts (extend past rows are.0.0 apart (λ x r at. stay x r (are.0.1 x r at)))
+    All-cons (λ (z : List Row). Extends z rows) past pasts (extend past rows are.0.0 apart (λ x r at. stay x r (are.0.1 x r at)))
     (all_extended extend pasts placed rows apart stay are.1)
 
 pub fits_suits : ApartExtend → (pasts : List (List Row)) (placed : List Row) (frames : List Started_frame) (rows : List Row) (number : Path → ℕ) → IsMap placed
@@ -77,12 +78,11 @@ fits_suits extend pasts placed frames rows number map are fits = record {
 pub own_fits : (placed : List Row) (frames : List Started_frame) → IsMap placed → Fits placed frames placed (number_by frames)
 own_fits placed frames map = record { rules = map; has = same_rows placed; numbers = numbers_are frames }
 
-pub ends_over : ApartExtend → (p : Program) (strings : List (List ℕ)) (input : List ℕ) (before after : Option Heard) (m : Machine)
-    (frames : List Started_frame) (pasts : List (List Row)) (ran : Ran) → IsMap m.memory.rows → AreAmong pasts m.memory.rows
-    → EndsIn p strings input before after m.streams.output frames (m.memory.rows ∷ pasts) ran
-    → EndsOver p strings input before after m.streams.output frames m.memory.rows ran
-ends_over extend p strings input before after m frames pasts ran map are ends rows number fits =
-    ends rows number (fits_suits extend pasts m.memory.rows frames rows number map are fits)
+pub ends_over : ApartExtend → (p : Program) (strings : List (List ℕ)) (input : List ℕ) (before after : Option Heard) (output : Outputs)
+    (frames : List Started_frame) (placed : List Row) (ran : Ran) → IsMap placed → EndsSome p strings input before after output frames placed ran
+    → EndsOver p strings input before after output frames placed ran
+ends_over extend p strings input before after output frames placed ran map some rows number fits =
+    some.2 rows number (fits_suits extend some.0 placed frames rows number map some.1 fits)
 
 -- ---- a canonical pick
 module _ (asked : EventIsAsked) (goes : ControlGoesOn) (asks : ArgumentsAreAsked) (world : World) (p : Program) (numbers : Numbers) (old : Machine)
@@ -136,13 +136,18 @@ module _ (extend : ApartExtend) (asked : EventIsAsked) (goes : ControlGoesOn) (a
       rows_stay asked goes asks w p numbers old d.st n d.along few new r g (extend rows rows map.apart map.apart (same_rows rows)) map.apart
       (canonical_pick w d.st.top d.st.top.begun) refl
 
-  ended_so : (new : Machine) (h : Halt) (ran : Ran) → IsEndedBy h n ran → KeepsAnswered old new (Err h) → RowsStay old.memory.rows new.memory.rows
+  abbrev not_taken : Halt → Result Pick Halt
+  not_taken h = Err h
+
+  ended_so : (new : Machine) (h : Halt) (ran : Ran) → IsEndedBy h n ran → KeepsAnswered old new (not_taken h)
+      → RowsStay old.memory.rows new.memory.rows
   ended_so new (halt.Raised event line clause) ran is stay = stay
   ended_so new (halt.Over cause number) ran is stay = stay
   ended_so new halt.Unplaced ran is stay = absurd is
   ended_so new halt.NoMemory ran is stay = absurd is
 
-  pub grown_end : (new : Machine) (h : Halt) (ran : Ran) → IsEndedBy h n ran → GrowsNext old new (Err h) → AreAmong (old.memory.rows ∷ earlier) new.memory.rows
+  pub grown_end : (new : Machine) (h : Halt) (ran : Ran) → IsEndedBy h n ran → GrowsNext old new (Err h)
+      → AreAmong (old.memory.rows ∷ earlier) new.memory.rows
   grown_end new h ran is g =
       among_next earlier old.memory.rows new.memory.rows map.apart (ended_so new h ran is (answered new (Err h) g)) are
 

@@ -108,6 +108,10 @@ module _ (p : Program) (strings : List (List ℕ)) (input : List ℕ) (before af
   EndsIn output frames pasts ran =
       (rows : List Row) (number : Path → ℕ) → Suits pasts frames rows number → EndsAs (world_in p strings rows number) output ran
 
+  -- .. of such rows as are among those that the memory has at the end
+  abbrev pub EndsSome : Outputs → List Started_frame → (placed : List Row) → Ran → Type 0
+  EndsSome output frames placed ran = (pasts : List (List Row)) × AreAmong pasts placed × EndsIn output frames (placed ∷ pasts) ran
+
 module _ (p : Program) (strings : List (List ℕ)) (input : List ℕ) (numbers : Numbers) (before after : Option Heard) where
   -- in a world: the definitions start, after so many picks it is this state, along which the machine is, and the picks were told
   pub record StandsAt (world : World) (m : Machine) (n : ℕ) (frames : List Started_frame) : Type 0 where

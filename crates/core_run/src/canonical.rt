@@ -4,7 +4,7 @@ ghost use Rattle.core_run.specs.Calls.{GoesOn, FollowsPick, Tells, completions, 
 ghost use Rattle.core_run.specs.Ends.{picks_of, told_of, IsOutOfSteps};
 ghost use Rattle.core_run.specs.Steps.{told_by, told_at_end, taken_by, EndsAfter, EndsRun, AnswersNext, IsUnstopped, GoesUnstopped, Grows};
 ghost use Rattle.core_run.specs.Told.{more};
-ghost use Rattle.core_run.specs.Canonical.{AreAmong, EndsOver, Follows, GoesOnAt, HasRow, IsAt, IsEndedBy, IsNumbered};
+ghost use Rattle.core_run.specs.Canonical.{AreAmong, EndsSome, Follows, GoesOnAt, HasRow, IsAt, IsEndedBy, IsNumbered};
 ghost use Rattle.core_run.specs.Calls.{row_by, Heard};
 ghost use Rattle.ub_base.specs.Frames.{IsFrameList};
 ghost use Rattle.addr_map.specs.declared.map.Row.{Row};
@@ -79,6 +79,7 @@ pub fn run<W: Watch>(
     law_bytes();
     law_lawful_small();
     law_code_formed();
+    law_apart_extend();
     are_words(args);
     are_bytes(input);
     let program = p.program;
@@ -376,18 +377,13 @@ fn follow<W: Watch>(
     // Where it begins so, it follows the canonical order.
     ensures canonical { (p : Program) (strings : List (List ℕ)) (input : List ℕ) (numbers : Numbers)
         → IsAt p strings input numbers (W.heard watch.old) (W.heard watch.old) machine.old 0 [] []
-        → IfOk result (EndsOver p strings input (W.heard watch.old) (W.heard watch.new) machine.new.streams.output frames.new machine.new.memory.rows) }
+        → IfOk result (EndsSome p strings input (W.heard watch.old) (W.heard watch.new) machine.new.streams.output frames.new machine.new.memory.rows) }
 {
-    law_apart_extend();
     for picks in 0..budget {
         match advance(machine, frames, picks, watch)? {
             Next::On => {}
-            Next::End(ran) => {
-                keep_rules(machine);
-                return Ok(ran);
-            }
+            Next::End(ran) => return Ok(ran),
         }
     }
-    keep_rules(machine);
     Ok(Ran::OutOfSteps { picks: budget })
 }

@@ -1,14 +1,13 @@
 use Rattle.std.proofs.Common.{◌≡◌, ◌≤◌, ◌+◌, ◌∙◌, ℕ, List, [], ◌∷◌, length, refl, sym, ap, subst, arith}
 use Rattle.ub_base.specs.Frames.{Row as Started_frame}
 use Rattle.core_run.specs.Calls.{StartedBy}
-use Rattle.core_run.specs.Canonical.{EndsOver, GoesOnAt, IsAt}
+use Rattle.core_run.specs.Canonical.{EndsIn, GoesOnAt, IsAt}
 use Rattle.core_run.specs.Steps.{AnswersNext, told_by, taken_by}
 use Rattle.core_run.specs.Told.{more}
 use Rattle.core_run.specs.declared.canonical.Next.{Next}
 use Rattle.core_run.specs.declared.watch.Ran.TheVariants.{OutOfSteps}
 use Rattle.core_run.proofs.OnePick.{ends_here, goes_behind}
 use Rattle.core_run.proofs.Counts.{more_more, more_zero}
-use Rattle.core_run.proofs.Rows.{ends_over}
 use Rattle.core_run.proofs.Telling.{started_first}
 use Rattle.core_run.proofs.canonical.follow.Goals as goal
 
@@ -53,23 +52,22 @@ loop-picks-preserved g c = record {
 
 pub returns-in-End-clause-canonical : goal.returns-in-End-clause-canonical
 returns-in-End-clause-canonical g c = λ p strings input numbers at.
-    let so_far = c.loop-picks.invariant.canonical p strings input numbers at in
-    let heard = g.W.Watch.heard c.args.watch.now in
-    let now = g.W.Watch.heard c.advance.new.watch in
-    let m = c.advance.new.machine in
-    let pasts = c.loop-picks.machine.memory.rows ∷ so_far.0 in
-    ends_over c.law_apart_extend.ensures p strings input heard now m c.advance.new.frames pasts c.in-End.ran c.keep_rules.ensures
-    (c.in_ok-advance.ensures.grows p strings input numbers heard so_far.0 so_far.2 so_far.1)
-    (subst (GoesOnAt p strings input numbers heard now m c.loop-picks.picks c.advance.new.frames pasts) c.in-End.is
-    (c.in_ok-advance.ensures.canonical p strings input numbers heard so_far.0 so_far.2))
+    let so_far = c.loop-picks.invariant.canonical p strings input numbers at in (
+      c.loop-picks.machine.memory.rows ∷ so_far.0,
+      c.in_ok-advance.ensures.grows p strings input numbers (g.W.Watch.heard c.args.watch.now) so_far.0 so_far.2 so_far.1,
+      subst (GoesOnAt p strings input numbers (g.W.Watch.heard c.args.watch.now) (g.W.Watch.heard c.advance.new.watch) c.advance.new.machine c.loop-picks.picks
+          c.advance.new.frames (c.loop-picks.machine.memory.rows ∷ so_far.0)) c.in-End.is
+          (c.in_ok-advance.ensures.canonical p strings input numbers (g.W.Watch.heard c.args.watch.now) so_far.0 so_far.2),
+    )
 
 pub returns-clause-canonical : goal.returns-clause-canonical
 returns-clause-canonical g c = λ p strings input numbers at.
     let so_far = c.loop-picks.invariant.canonical p strings input numbers at in
-    let heard = g.W.Watch.heard c.args.watch.now in
-    let now = g.W.Watch.heard c.loop-picks.watch in
-    let m = c.loop-picks.machine in
-    let all : c.loop-picks.picks ≡ c.args.budget = omega (arith, c.loop-picks-test.false, c.loop-picks.auto.picks-end) in
-    subst (λ (k : ℕ). EndsOver p strings input heard now m.streams.output c.loop-picks.frames m.memory.rows (OutOfSteps k)) all
-    (ends_over c.law_apart_extend.ensures p strings input heard now m c.loop-picks.frames so_far.0 (OutOfSteps c.loop-picks.picks) c.keep_rules-2.ensures so_far.1
-    (ends_here p strings input numbers heard now m c.loop-picks.picks c.loop-picks.frames so_far.0 so_far.2))
+    let all : c.loop-picks.picks ≡ c.args.budget = omega (arith, c.loop-picks-test.false, c.loop-picks.auto.picks-end) in (
+      so_far.0,
+      so_far.1,
+      subst (λ (k : ℕ). EndsIn p strings input (g.W.Watch.heard c.args.watch.now) (g.W.Watch.heard c.loop-picks.watch)
+          c.loop-picks.machine.streams.output c.loop-picks.frames (c.loop-picks.machine.memory.rows ∷ so_far.0) (OutOfSteps k)) all
+          (ends_here p strings input numbers (g.W.Watch.heard c.args.watch.now) (g.W.Watch.heard c.loop-picks.watch) c.loop-picks.machine c.loop-picks.picks
+          c.loop-picks.frames so_far.0 so_far.2),
+    )

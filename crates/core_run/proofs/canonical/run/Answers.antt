@@ -9,8 +9,8 @@ use Rattle.run_code.specs.declared.whole.Code.{Code}
 use Rattle.run_code.specs.OfTrees.{AreTermsOf}
 use Rattle.run_facts.specs.SetUp.{IsItsCode}
 use Rattle.core_run.specs.Calls.{StartedBy}
-use Rattle.core_run.specs.Canonical.{EndsOver, world_in}
-use Rattle.core_run.proofs.Rows.{own_fits}
+use Rattle.core_run.specs.Canonical.{EndsSome, world_in}
+use Rattle.core_run.proofs.Rows.{ends_over, own_fits}
 use Rattle.core_run.proofs.Telling.{answers_unstopped, started_first}
 use Rattle.core_run.proofs.Whole.{IsGivenCode, IsGivenMachine, are_terms, begins_at, empty_of, is_made, its_code, none_above, profile}
 use Rattle.core_run.proofs.canonical.run.Goals as goal
@@ -76,14 +76,18 @@ returns-clause-canonical g c = λ can.
     (subst (λ (b : Bor Code). IsItsCode p given.bodies.0 b.now) (sym c.in-Ok.ensures.code) its)
     (subst (λ (i : List ℕ). IsGivenMachine p words i c.in-Ok.machine.code c.in-Ok.machine) c.in_ok-input.ensures ready)
     (c.start_bytes-reached.ensures.exact few) (omega (arith, c.if-reached-gt-MOST_CREATED.false)) c.are_words.ensures c.are_bytes.ensures can.few in
-    inr (subst (λ (rows : List Row).
-    EndsOver p words input heard (g.W.Watch.heard c.follow.new.watch)
-    (record { standard = c.written_and_placed-output.result.0; errors = c.written_and_placed-output.result.1 }) c.follow.new.frames rows c.in_ok-ran.ran)
-    (sym c.written_and_placed-output.ensures.map)
-    (subst (λ (o : Outputs). EndsOver p words input heard (g.W.Watch.heard c.follow.new.watch) o c.follow.new.frames c.follow.new.machine.memory.rows
-    c.in_ok-ran.ran) c.written_and_placed-output.ensures.output (c.in_ok-ran.ensures.canonical p words input given.bodies.0
+    let now = g.W.Watch.heard c.follow.new.watch in
+    let m = c.follow.new.machine in
+    let written : Outputs = record { standard = c.written_and_placed-output.result.0; errors = c.written_and_placed-output.result.1 } in
+    let some = c.in_ok-ran.ensures.canonical p words input given.bodies.0
     (begins_at c.law_start.ensures.goes c.law_begins.ensures c.law_lawful_small.ensures.worlds c.law_lawful_small.ensures.main c.law_bytes.ensures p words input
-    given.bodies.0 heard c.in-Ok.machine c.start_bytes-reached.result held))))
+    given.bodies.0 heard c.in-Ok.machine c.start_bytes-reached.result held) in
+    inr (ends_over c.law_apart_extend.ensures p words input heard now written c.follow.new.frames c.written_and_placed-output.result.2 c.in_ok-ran.ran
+    c.law_rows.ensures
+    (subst (λ (rows : List Row). EndsSome p words input heard now written c.follow.new.frames rows c.in_ok-ran.ran)
+    (sym c.written_and_placed-output.ensures.map)
+    (subst (λ (o : Outputs). EndsSome p words input heard now o c.follow.new.frames m.memory.rows c.in_ok-ran.ran)
+    c.written_and_placed-output.ensures.output some)))
 
 pub returns-then-reached-gt-MOST_CREATED-clause-map :
     goal.returns-then-reached-gt-MOST_CREATED-clause-map
