@@ -1,0 +1,5 @@
+pub mod Parts
+pub mod Splits
+pub mod Stands
+pub mod Steps
+pub mod Tells
