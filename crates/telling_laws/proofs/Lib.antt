@@ -1,4 +1,9 @@
+pub mod Blocks
+pub mod ClashLemmas
+pub mod Leasts
+pub mod New
 pub mod Parts
+pub mod Shown
 pub mod Splits
 pub mod Stands
 pub mod Steps

@@ -1,1 +1,5 @@
+pub mod Met
+pub mod Newly
+pub mod OnlyNew
+pub mod Samples
 pub mod Standing

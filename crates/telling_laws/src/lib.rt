@@ -1,6 +1,10 @@
 //! What a canonical run tells of its evaluations is what may be told, and which pairs of them newly show: laws without code.
 #![tactic(auto)]
 
+ghost use Rattle.telling_laws.specs.Met.{HasLeast, MeetsByItems, RacesByItems};
+ghost use Rattle.telling_laws.specs.Newly.{ShownAreDone, ShowsNewly};
+ghost use Rattle.telling_laws.specs.OnlyNew.{NothingAtFirst, OnlyNewQuarrel, OnlyNewRace};
+ghost use Rattle.telling_laws.specs.Samples.{BothAreTold, BothShow, SumIsTold, SumShows};
 ghost use Rattle.telling_laws.specs.Standing.{BeginsStanding, ChoosesStanding, CompletesStanding, EndIsTold, GivesStanding, LastAreOwn, NextIsTold};
 ghost use Rattle.telling_laws.specs.Standing.{OperandsAreTold, TellsStanding};
 
@@ -20,4 +24,34 @@ pub fn law_telling()
     ensures operands { OperandsAreTold }
     ensures own { LastAreOwn }
     ensures ends { EndIsTold }
+{}
+
+/// With an event of the canonical listing those pairs of due events show that had shown before, and those that newly show by what it completes: of its node
+/// and what stands below, or of two operands of the node above. Events of a pair that shows are done.
+pub fn law_showing()
+    ensures newly { ShowsNewly }
+    ensures done { ShownAreDone }
+{}
+
+/// Where no pair of due events raced, or quarrelled, that had shown before an event, the first one to do so behind it is the first of those that newly show, and
+/// where none of these does none does. As a full expression begins none does.
+pub fn law_only_new()
+    ensures races { OnlyNewRace }
+    ensures quarrels { OnlyNewQuarrel }
+    ensures begins { NothingAtFirst }
+{}
+
+/// What was told of two evaluations that have the items of two lists clashes, or races, exactly where these do, and there is a least pair of items then.
+pub fn law_items_met()
+    ensures meets { MeetsByItems }
+    ensures races { RacesByItems }
+    ensures least { HasLeast }
+{}
+
+/// The sum of two values, and `&&` of two, along their listings: what their events complete, which pairs show, and what stands together.
+pub fn law_samples()
+    ensures sum { SumShows }
+    ensures sum_told { SumIsTold }
+    ensures conjunction { BothShow }
+    ensures conjunction_told { BothAreTold }
 {}
