@@ -1,8 +1,11 @@
 pub mod Blocks
 pub mod ClashLemmas
+pub mod FirstFound
+pub mod FirstTold
 pub mod Leasts
 pub mod New
 pub mod Parts
+pub mod ShowLemmas
 pub mod Shown
 pub mod Splits
 pub mod Stands

@@ -26,7 +26,7 @@ use Rattle.telling_laws.specs.OnlyNew.{AreAround, IsNew, IsFirstAmong, NoneAmong
 use Rattle.telling_laws.proofs.Shown.{shows_newly, shown_are_done}
 
 -- ---- the order of places is that of their nodes first
-key_small : (k : Kind) → kind_key k < 3
+pub key_small : (k : Kind) → kind_key k < 3
 key_small Val = omega arith
 key_small Eff = omega arith
 key_small Body = omega arith

@@ -1,3 +1,4 @@
+pub mod FirstFound
 pub mod Met
 pub mod Newly
 pub mod OnlyNew

@@ -1,6 +1,7 @@
 //! What a canonical run tells of its evaluations is what may be told, and which pairs of them newly show: laws without code.
 #![tactic(auto)]
 
+ghost use Rattle.telling_laws.specs.FirstFound.{BothLots, FirstIsFound};
 ghost use Rattle.telling_laws.specs.Met.{HasLeast, MeetsByItems, RacesByItems};
 ghost use Rattle.telling_laws.specs.Newly.{ShownAreDone, ShowsNewly};
 ghost use Rattle.telling_laws.specs.OnlyNew.{NothingAtFirst, OnlyNewQuarrel, OnlyNewRace};
@@ -39,6 +40,13 @@ pub fn law_only_new()
     ensures races { OnlyNewRace }
     ensures quarrels { OnlyNewQuarrel }
     ensures begins { NothingAtFirst }
+{}
+
+/// So the first conflict that is told of what an event completes is the race, or else the quarrel, that is found first behind it, and none is where none is, if
+/// nothing was found before the event and two events of its node don't conflict. Of two lots of pairs the conflict that counts is the first one of both.
+pub fn law_first_found()
+    ensures first { FirstIsFound }
+    ensures lots { BothLots }
 {}
 
 /// What was told of two evaluations that have the items of two lists clashes, or races, exactly where these do, and there is a least pair of items then.

@@ -1,0 +1,8 @@
+use Rattle.telling_laws.proofs.FirstFound.{first_is_found, both_lots}
+use Rattle.telling_laws.proofs.law_first_found.Goals as goal
+
+pub returns-clause-first : goal.returns-clause-first
+returns-clause-first c = first_is_found
+
+pub returns-clause-lots : goal.returns-clause-lots
+returns-clause-lots c = both_lots
