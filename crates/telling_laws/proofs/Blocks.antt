@@ -1,19 +1,19 @@
 -- The events of the nodes of one tree stand together in the listing.
-use Rattle.std.proofs.Common.{◌≡◌, ◌⊎◌, inl, inr, ⊎_elim, ℕ, suc, ◌+◌, ◌<◌, ◌≤◌, nat_lt, nat_le, ◌==◌, Bool, true, false, not, ◌&&◌, if◌then◌else◌}
-use Rattle.std.proofs.Common.{List, [], ◌∷◌, ◌++◌, append_assoc, append-nil, Option, Some, None, refl, sym, ap, subst, ◌∙◌, true≢false, arith}
+use Rattle.std.proofs.Common.{◌≡◌, inl, inr, ⊎_elim, ℕ, suc, ◌+◌, ◌<◌, ◌≤◌, nat_lt, nat_le, ◌==◌, Bool, true, false, not, if◌then◌else◌}
+use Rattle.std.proofs.Common.{List, [], ◌∷◌, ◌++◌, append_assoc, append-nil, Option, Some, refl, sym, ap, subst, ◌∙◌, true≢false, arith}
 use Rattle.std.proofs.lemmas.Bool.Decides.{nat_tests}
 use Rattle.std.proofs.lemmas.Option.{same_Some}
 use Rattle.c_typed.specs.declared.tree.Place.{Place}
 use Rattle.c_typed.specs.declared.class.Class.{Class}
-use Rattle.c_typed.specs.Tree.{Tree, Trees, node, none, more, size, sizes, kinds_of}
+use Rattle.c_typed.specs.Tree.{Tree, Trees, node, none, more, size, kinds_of}
 use Rattle.c_typed.specs.Order.{Taken, goes, events, operand_events, own_events, has, same_place}
 use Rattle.c_model.specs.Moments.{holds}
-use Rattle.elaborate.proofs.Ranges.{In, has_cases, has_left, has_right, own_node, events_in, operands_in, eq_of, eq_eq, or_cases, if_has}
+use Rattle.elaborate.proofs.Ranges.{has_cases, has_left, own_node, events_in, operands_in, eq_of, or_cases, if_has}
 use Rattle.elaborate.proofs.Listed.{and_l, and_r}
-use Rattle.completion_laws.proofs.Lists.{left, right, split, has_at, has_behind, out_of, within, outside, AreOutside, all_outside}
+use Rattle.completion_laws.proofs.Lists.{left, right, split, has_at, has_behind, out_of, within, outside, AreOutside}
 use Rattle.completion_laws.proofs.Ahead.{by_test, if_true, if_false, operand}
 use Rattle.run_evaluations.specs.Scopes.{part_in, part_among}
-use Rattle.run_evaluations.proofs.PartLemmas.{not_less_is, number_is, part_range, among_range}
+use Rattle.run_evaluations.proofs.PartLemmas.{not_less_is, part_range, among_range}
 
 pub holds_is : (from to n : ℕ) → holds from to n ≡ true → (from ≤ n) × (n < to)
 holds_is from to n h =

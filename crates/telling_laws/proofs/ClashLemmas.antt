@@ -1,7 +1,7 @@
 -- What has the items of two lists clashes where these conflict.
-use Rattle.std.proofs.Common.{◌≡◌, ◌⊎◌, inl, inr, ⊎_elim, ◌≤◌, ◌<◌, ◌+◌, max, ℕ, zero, suc, Bool, true, false, cond, ◌&&◌, ◌||◌, List, [], ◌∷◌, ◌++◌, refl, sym, ap, subst}
+use Rattle.std.proofs.Common.{◌≡◌, ◌⊎◌, inl, inr, ⊎_elim, ◌≤◌, ◌<◌, ◌+◌, max, ℕ, zero, suc, Bool, true, false, cond, ◌&&◌, List, [], ◌∷◌, ◌++◌, refl, sym, ap}
+use Rattle.std.proofs.Common.{subst}
 use Rattle.std.proofs.Common.{◌∙◌, arith, true≢false, Option, Some, None}
-use Rattle.std.specs.Prelude.{◌↔◌}
 use Rattle.std.specs.declared.cmp.Ordering.TheVariants.{Less}
 use Rattle.std.proofs.lemmas.Bool.Decides.{nat_tests}
 use Rattle.ub_base.specs.Frames.{Row as FrameRow}
@@ -16,11 +16,9 @@ use Rattle.c_model.specs.Keys.{each_byte, by_bytes, all_by_bytes}
 use Rattle.elaborate.proofs.Listed.{and_l, and_r}
 use Rattle.elaborate.proofs.Ranges.{and_b, or_a, or_b, or_cases}
 use Rattle.completion_laws.proofs.Ahead.{by_test}
-use Rattle.evaluation_log.specs.Clashes.{Clash, SomeClash}
-use Rattle.evaluation_log.specs.declared.sought.Sought.{Sought}
+use Rattle.evaluation_log.specs.Clashes.{Clash}
 use Rattle.evaluation_log.specs.declared.sought.Sought.TheVariants.{Any, Races}
 use Rattle.finding_laws.specs.Footprints.{IsAmong}
-use Rattle.finding_laws.specs.LeastPairs.{HasItems}
 use Rattle.finding_laws.proofs.ByBytes.{of_parts}
 use Rattle.finding_laws.proofs.Bytes.{left_of, right_of, one_of}
 use Rattle.footprint.specs.Least.{IsLeast, lesser, pair_cmp}

@@ -1,34 +1,31 @@
 -- What is told of an event is what is found first.
-use Rattle.std.proofs.Common.{◌≡◌, ◌⊎◌, inl, inr, ⊎_elim, ℕ, suc, ◌+◌, ◌*◌, ◌<◌, ◌≤◌, nat_lt, Bool, true, false, List, Option, Some, None, refl, sym, ap, subst, ◌∙◌, true≢false, arith}
+use Rattle.std.proofs.Common.{◌≡◌, ◌⊎◌, inl, inr, ⊎_elim, ℕ, suc, ◌<◌, Bool, true, false, List, Option, Some, None, sym, ap, ◌∙◌, true≢false, arith}
 use Rattle.std.specs.Prelude.{slice_get}
 use Rattle.std.proofs.lemmas.Bool.Decides.{nat_tests}
 use Rattle.std.proofs.lemmas.Option.{same_Some}
 use Rattle.ub_base.specs.Frames.{Row as FrameRow}
-use Rattle.ub_base.specs.declared.clause.Kind.{Kind}
-use Rattle.ub_base.specs.declared.clause.Kind.TheVariants.{Val, Eff, Body}
 use Rattle.addr_map.specs.declared.map.Row.{Row}
 use Rattle.c_typed.specs.declared.tree.Place.{Place}
 use Rattle.c_typed.specs.Tree.{size}
-use Rattle.c_typed.specs.Order.{Taken, is_due}
+use Rattle.c_typed.specs.Order.{Taken}
 use Rattle.c_model.specs.Completions.{Completed, Incomplete, Own_node, Operands_of}
 use Rattle.c_model.specs.FirstFinding.{quarrels, races}
-use Rattle.c_model.specs.Keys.{kind_key}
 use Rattle.c_model.specs.Moments.{Open}
 use Rattle.evaluation_log.specs.FoundItems.{first_found}
 use Rattle.evaluation_log.specs.Sides.{Side, sides_from}
 use Rattle.evaluation_log.specs.declared.found.Found.{Found}
-use Rattle.evaluation_search.specs.First.{IsFirst, IsFirstOf}
+use Rattle.evaluation_search.specs.First.{IsFirstOf}
 use Rattle.evaluation_search.proofs.FirstLemmas.{alike, both}
 use Rattle.finding_laws.specs.FirstPairs.{IsDue, IsFirstPair, NoPair, place_key, precedes}
 use Rattle.run_evaluations.specs.First.{IsConflictIn}
 use Rattle.run_evaluations.specs.Scopes.{Scope, part_of}
 use Rattle.run_evaluations.specs.Shows.{AreOfTwo}
-use Rattle.run_evaluations.specs.Told.{Opened, IsUnder}
+use Rattle.run_evaluations.specs.Told.{Opened}
 use Rattle.run_evaluations.proofs.PartLemmas.{side_part}
-use Rattle.telling_laws.specs.FirstFound.{ByPlaces, ToldPairs, OwnAreFree, IsTold, IsFoundIn, FirstIsFound, BothLots, place_in}
-use Rattle.telling_laws.specs.Newly.{IsPair, ShowNewly, completed_with}
+use Rattle.telling_laws.specs.FirstFound.{ByPlaces, ToldPairs, IsTold, IsFoundIn, FirstIsFound, BothLots, place_in}
+use Rattle.telling_laws.specs.Newly.{ShowNewly, completed_with}
 use Rattle.telling_laws.specs.OnlyNew.{IsNew, IsFirstAmong, NoneAmong}
-use Rattle.telling_laws.proofs.FirstTold.{AreShown, IsOfFirst, first_is_told, none_is_told}
+use Rattle.telling_laws.proofs.FirstTold.{AreShown, first_is_told, none_is_told}
 use Rattle.telling_laws.proofs.Leasts.{sides_rise}
 use Rattle.telling_laws.proofs.New.{key_small, pair_of, only_new_race, only_new_quarrel}
 use Rattle.telling_laws.proofs.Parts.{same_operands}

@@ -1,6 +1,6 @@
 -- The first conflict of what was told is the first pair of c_model.
-use Rattle.std.proofs.Common.{◌≡◌, ◌⊎◌, inl, inr, ⊎_elim, ℕ, zero, suc, ◌<◌, ◌≤◌, Bool, true, false, not, ◌&&◌, ◌||◌, if◌then◌else◌, List, [], ◌∷◌, ◌++◌}
-use Rattle.std.proofs.Common.{Option, Some, None, refl, sym, ap, ap₂, subst, ◌∙◌, true≢false, arith}
+use Rattle.std.proofs.Common.{◌≡◌, ⊎_elim, ℕ, zero, suc, Bool, true, false, not, ◌||◌, if◌then◌else◌, List, [], ◌∷◌}
+use Rattle.std.proofs.Common.{Some, refl, sym, ap, ap₂, subst, ◌∙◌, true≢false, arith}
 use Rattle.std.specs.Prelude.{slice_get, ◌↔◌}
 use Rattle.std.specs.declared.cmp.Ordering.{Ordering}
 use Rattle.std.specs.declared.cmp.Ordering.TheVariants.{Less, Equal, Greater}
@@ -14,18 +14,18 @@ use Rattle.addr_map.specs.Conflict.{some_conflict}
 use Rattle.addr_map.specs.declared.map.Row.{Row}
 use Rattle.c_typed.specs.declared.tree.Place.{Place}
 use Rattle.c_typed.specs.Tree.{Tree, size}
-use Rattle.c_typed.specs.Order.{Taken, events, has, is_body, is_due, place, same_place}
+use Rattle.c_typed.specs.Order.{Taken, events, has, is_body, is_due, same_place}
 use Rattle.c_typed.specs.Decide.{is_before}
 use Rattle.c_model.specs.Findings.{accesses}
 use Rattle.c_model.specs.FirstFinding.{are_apart, quarrels, races}
-use Rattle.c_model.specs.Moments.{Open, has_shown}
+use Rattle.c_model.specs.Moments.{Open}
 use Rattle.c_model.proofs.Listed.{same_place_eq}
 use Rattle.elaborate.proofs.Listed.{and_l, and_r}
 use Rattle.elaborate.proofs.Ranges.{and_b, events_in, or_b, or_cases}
 use Rattle.std.proofs.lemmas.Option.{same_Some}
 use Rattle.completion_laws.proofs.Lists.{has_at}
 use Rattle.evaluation_log.specs.Clashes.{Clash, SomeClash}
-use Rattle.evaluation_log.specs.FoundItems.{counts_before, is_lesser}
+use Rattle.evaluation_log.specs.FoundItems.{is_lesser}
 use Rattle.evaluation_log.specs.declared.found.Found.{Found}
 use Rattle.evaluation_log.specs.declared.sought.Sought.{Sought}
 use Rattle.evaluation_log.specs.declared.sought.Sought.TheVariants.{Any, Races}
@@ -34,8 +34,7 @@ use Rattle.finding_laws.specs.FirstPairs.{IsDue, precedes}
 use Rattle.finding_laws.proofs.FirstPairs.{events_by_places}
 use Rattle.footprint.specs.Least.{IsLeast}
 use Rattle.footprint.proofs.LeastLemmas.{event_total}
-use Rattle.run_evaluations.specs.First.{IsConflictIn, IsConflictOf, event_in}
-use Rattle.run_evaluations.specs.Scopes.{Scope}
+use Rattle.run_evaluations.specs.First.{IsConflictIn, event_in}
 use Rattle.run_evaluations.specs.Shows.{AreApart, IsAmong}
 use Rattle.run_evaluations.specs.Told.{Evaluation, Opened, has as has_item}
 use Rattle.telling_laws.specs.FirstFound.{IsLookedAt, ByPlaces, place_in}
@@ -160,7 +159,12 @@ module _ (rows : List Row) (frames : List FrameRow) (t : Opened) (o : Open) (Pai
           other_done = b.other_done;
           pair = pairs_moved x y b.one.place b.other.place b.one_is b.other_is p;
           apart = apart_told b.one.place b.other.place (and_l (are_apart o b.one.place b.other.place) _ rest);
-          of = record { event = refl; against = refl; bodiless = λ r. no_body (is_body b.one.place.kind || is_body b.other.place.kind) bodies; least = least.1 };
+          of = record {
+            event = refl;
+            against = refl;
+            bodiless = λ r. no_body (is_body b.one.place.kind || is_body b.other.place.kind) bodies;
+            least = least.1;
+          };
         },
       )
     where

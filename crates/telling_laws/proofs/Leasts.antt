@@ -1,6 +1,6 @@
 -- The least node whose tree holds two nodes.
-use Rattle.std.proofs.Common.{◌≡◌, ◌⊎◌, inl, inr, ⊎_elim, ℕ, zero, suc, ◌+◌, ◌<◌, ◌≤◌, nat_lt, ◌==◌, Bool, true, false, ◌&&◌, if◌then◌else◌}
-use Rattle.std.proofs.Common.{List, Option, Some, None, refl, sym, ap, subst, ◌∙◌, true≢false, arith}
+use Rattle.std.proofs.Common.{◌≡◌, ◌⊎◌, inr, ⊎_elim, ℕ, zero, suc, ◌+◌, ◌<◌, ◌≤◌, nat_lt, ◌==◌, Bool, true, false, ◌&&◌}
+use Rattle.std.proofs.Common.{Some, refl, sym, ap, subst, ◌∙◌, true≢false, arith}
 use Rattle.std.specs.Prelude.{slice_get}
 use Rattle.std.proofs.lemmas.Bool.Decides.{nat_tests}
 use Rattle.std.proofs.lemmas.Option.{same_Some}
@@ -12,7 +12,7 @@ use Rattle.completion_laws.proofs.Lists.{out_of, within, and_both}
 use Rattle.completion_laws.proofs.Ahead.{by_test, if_true, if_false}
 use Rattle.evaluation_log.specs.Sides.{Side, side, sides_from}
 use Rattle.run_evaluations.specs.Scopes.{Scope, part_in, part_among, part_of}
-use Rattle.run_evaluations.proofs.PartLemmas.{not_less_is, number_is, part_range, among_range, side_part, side_at}
+use Rattle.run_evaluations.proofs.PartLemmas.{not_less_is, number_is, part_range, side_part, side_at}
 use Rattle.telling_laws.proofs.Blocks.{holds_is}
 use Rattle.telling_laws.proofs.Steps.{Suffix, suffix_rest, suffix_first, whole}
 
@@ -129,7 +129,8 @@ sides_rise (more t ts) m (suc i) zero d e h g less = absurd (omega (arith, less)
 sides_rise (more t ts) m (suc i) (suc j) d e h g less = sides_rise ts (m + size t) i j d e h g (omega (arith, less))
 
 -- each node below is in one of them
-pub side_of : (ts : Trees) (m a : ℕ) → m ≤ a → a < m + sizes ts → (i : ℕ) × (d : Side) × (slice_get (sides_from m ts) i ≡ Some d) × (d.number ≤ a) × (a < d.number + size d.tree)
+pub side_of : (ts : Trees) (m a : ℕ) → m ≤ a → a < m + sizes ts →
+    (i : ℕ) × (d : Side) × (slice_get (sides_from m ts) i ≡ Some d) × (d.number ≤ a) × (a < d.number + size d.tree)
 side_of none m a low high = absurd (omega (arith, low, high))
 side_of (more t ts) m a low high = by_test (nat_lt a (m + size t))
     (λ e. (0, side m t, refl, low, grind (arith, nat_tests, e)))

@@ -4,6 +4,7 @@ pub mod FirstFound
 pub mod FirstTold
 pub mod Leasts
 pub mod New
+pub mod OwnLemmas
 pub mod Parts
 pub mod ShowLemmas
 pub mod Shown

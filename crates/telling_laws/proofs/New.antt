@@ -1,6 +1,6 @@
 -- What passes a test with an event, where nothing passed it before, newly shows.
-use Rattle.std.proofs.Common.{◌≡◌, ◌⊎◌, inl, inr, ⊎_elim, ℕ, ◌+◌, ◌*◌, ◌<◌, ◌≤◌, nat_lt, Bool, true, false, not, ◌&&◌, ◌||◌, List, [], ◌∷◌, ◌++◌, refl, sym, ap, ap₂}
-use Rattle.std.proofs.Common.{subst, ◌∙◌, true≢false, arith}
+use Rattle.std.proofs.Common.{◌≡◌, ◌⊎◌, inl, inr, ⊎_elim, ◌<◌, ◌≤◌, Bool, true, false, not, ◌&&◌, ◌||◌, List, [], ◌∷◌, refl, sym, ap, ap₂}
+use Rattle.std.proofs.Common.{◌∙◌, true≢false, arith}
 use Rattle.std.proofs.lemmas.Bool.Decides.{nat_tests}
 use Rattle.ub_base.specs.declared.clause.Kind.{Kind}
 use Rattle.ub_base.specs.declared.clause.Kind.TheVariants.{Val, Eff, Body}
@@ -14,15 +14,14 @@ use Rattle.c_typed.specs.Decide.{is_before}
 use Rattle.c_model.specs.Findings.{accesses}
 use Rattle.c_model.specs.FirstFinding.{are_apart, quarrels, races}
 use Rattle.c_model.specs.Keys.{kind_key}
-use Rattle.c_model.specs.Moments.{Open, has_shown}
+use Rattle.c_model.specs.Moments.{Open}
 use Rattle.c_model.proofs.Updates.{before_kept}
 use Rattle.elaborate.proofs.Listed.{and_l, and_r}
-use Rattle.elaborate.proofs.Ranges.{and_b, has_left, has_right, events_in}
-use Rattle.completion_laws.proofs.Ahead.{by_test}
+use Rattle.elaborate.proofs.Ranges.{and_b, has_left}
 use Rattle.finding_laws.specs.FirstPairs.{IsDue, IsFirstPair, NoPair, place_key, precedes}
 use Rattle.run_evaluations.specs.Scopes.{Scope}
-use Rattle.telling_laws.specs.Newly.{IsPair, IsTaken, had_shown, with_it}
-use Rattle.telling_laws.specs.OnlyNew.{AreAround, IsNew, IsFirstAmong, NoneAmong, OnlyNewPass, OnlyNewRace, OnlyNewQuarrel, NothingPasses, NothingAtFirst}
+use Rattle.telling_laws.specs.Newly.{IsPair, IsTaken, had_shown}
+use Rattle.telling_laws.specs.OnlyNew.{AreAround, IsNew, IsFirstAmong, NoneAmong, OnlyNewRace, OnlyNewQuarrel, NothingPasses, NothingAtFirst}
 use Rattle.telling_laws.proofs.Shown.{shows_newly, shown_are_done}
 
 -- ---- the order of places is that of their nodes first
@@ -103,7 +102,8 @@ module _ (s : Scope) (old : Taken) (passed : List Place) (u : Place) (before beh
     pub cases : (x y : Place) → IsDue behind x → IsDue behind y → precedes x y ≡ true → behind.shows x y ≡ true → Had x y ⊎ IsNew s passed u x y
     cases x y dx dy order shown =
         ⊎_elim (λ h. inl (had x y dx dy h)) inr
-        ((shows_newly s old passed u ahead next x y is (pair_of s behind x y around.tree around.taken dx dy order)).0 (sym (ap (λ f. f x y) around.shows) ∙ shown))
+        ((shows_newly s old passed u ahead next x y is (pair_of s behind x y around.tree around.taken dx dy order)).0
+        (sym (ap (λ f. f x y) around.shows) ∙ shown))
 
     -- ---- races and quarrels
     raced : (rows : List Row) (x y : Place) → Had x y → races rows behind x y ≡ true → races rows before x y ≡ true

@@ -1,26 +1,25 @@
 -- Nodes of a full expression, the trees below them, and the nodes above.
-use Rattle.std.proofs.Common.{◌≡◌, ◌⊎◌, inl, inr, ⊎_elim, ℕ, zero, suc, ◌+◌, ◌<◌, ◌≤◌, nat_lt, ◌==◌, true, false, List, Option, Some, None, refl, sym, ap, subst, ◌∙◌, true≢false, arith}
+use Rattle.std.proofs.Common.{◌≡◌, ◌⊎◌, inl, inr, ⊎_elim, ℕ, zero, suc, ◌+◌, ◌<◌, ◌≤◌, nat_lt, ◌==◌, true, false, Some, refl}
+use Rattle.std.proofs.Common.{sym, ap, subst, ◌∙◌, true≢false, arith}
 use Rattle.std.specs.Prelude.{slice_get}
 use Rattle.std.proofs.lemmas.Bool.Decides.{nat_tests}
 use Rattle.std.proofs.lemmas.Option.{same_Some}
-use Rattle.c_typed.specs.declared.tree.Place.{Place}
 use Rattle.c_typed.specs.declared.class.Class.{Class}
 use Rattle.c_typed.specs.declared.class.Class.TheVariants as class
-use Rattle.c_typed.specs.Tree.{Tree, Trees, node, none, more, size, sizes, is_quiet, class_of, operands}
-use Rattle.c_typed.specs.Order.{Taken, events, has}
-use Rattle.c_typed.specs.Decide.{due_in}
+use Rattle.c_typed.specs.Tree.{Tree, Trees, node, none, more, size, sizes, class_of, operands}
+use Rattle.c_typed.specs.Order.{has}
 use Rattle.c_model.specs.Completions.{parent_in, parent_among}
 use Rattle.c_model.proofs.Decided.{has_due}
 use Rattle.elaborate.specs.Formed.{is_formed, are_formed, takes}
 use Rattle.elaborate.proofs.Listed.{and_l, and_r, silent}
 use Rattle.elaborate.proofs.Ranges.{eq_eq}
 use Rattle.completion_laws.proofs.Lists.{other}
-use Rattle.completion_laws.proofs.Ahead.{if_true, if_false, lt_of, ge_of, among_first, among_rest, above_in}
+use Rattle.completion_laws.proofs.Ahead.{if_true, if_false, among_first, among_rest, above_in}
 use Rattle.evaluation_log.specs.Sides.{Side, side, sides_from}
 use Rattle.run_evaluations.specs.Scopes.{Scope, part_in, part_among, part_of, IsOperandOf, ListsAreAlone}
 use Rattle.run_evaluations.specs.Shows.{IsStill}
 use Rattle.run_evaluations.specs.Told.{IsBeside, IsOperandIn, IsUnder}
-use Rattle.run_evaluations.proofs.PartLemmas.{by_test, not_less_is, number_is, part_range, among_range, part_part, side_at, side_part, size_some}
+use Rattle.run_evaluations.proofs.PartLemmas.{by_test, not_less_is, number_is, part_range, part_part, side_at, side_part, size_some}
 
 -- ---- a node has a tree
 mutual
@@ -186,7 +185,8 @@ beside_up s p n m c ts there o b = ⊎_elim (λ e. inl (of_same e)) (λ w. inr (
               let z = r.high in
               omega (arith, z, end, oh, os))) (end_or_in p (m + size mine.tree)))
               (λ after. absurd (
-              let q = sym (part_parent 0 s.tree p m (node o.class o.operands) o.there after (omega (arith, end, ms, oh, os))) ∙ parent_is s b.above m b.operand in
+              let q = sym (part_parent 0 s.tree p m (node o.class o.operands) o.there after (omega (arith, end, ms, oh, os)))
+              ∙ parent_is s b.above m b.operand in
               let z = (above_in (node o.class o.operands) p m b.above q).0 in
               omega (arith, z, wl)))
               (low_or_high m p);

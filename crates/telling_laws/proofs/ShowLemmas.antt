@@ -1,43 +1,35 @@
 -- What shows once a node, or all operands of one, are complete.
-use Rattle.std.proofs.Common.{◌≡◌, ◌⊎◌, inl, inr, ⊎_elim, ℕ, zero, suc, ◌+◌, ◌<◌, ◌≤◌, ◌==◌, Bool, true, false, not, ◌&&◌, ◌||◌, if◌then◌else◌}
+use Rattle.std.proofs.Common.{◌≡◌, ◌⊎◌, inl, inr, ⊎_elim, ℕ, suc, ◌+◌, ◌<◌, ◌≤◌, ◌==◌, Bool, true, false, not, ◌||◌, if◌then◌else◌}
 use Rattle.std.proofs.Common.{List, [], ◌∷◌, ◌++◌, Option, Some, None, refl, sym, ap, ap₂, subst, ◌∙◌, true≢false, arith}
-use Rattle.std.specs.Prelude.{slice_get, ◌↔◌}
-use Rattle.std.proofs.lemmas.Bool.Decides.{nat_tests}
+use Rattle.std.specs.Prelude.{slice_get}
 use Rattle.std.proofs.lemmas.Option.{same_Some}
 use Rattle.c_typed.specs.declared.tree.Place.{Place}
-use Rattle.c_typed.specs.declared.class.Class.{Class}
-use Rattle.c_typed.specs.Tree.{Tree, Trees, node, size, sizes, is_quiet}
-use Rattle.c_typed.specs.Order.{Taken, events, has, same_place, is_due, goes}
-use Rattle.c_typed.specs.Decide.{due_in, due_among}
-use Rattle.c_model.specs.Completions.{Completed, Incomplete, Own_node, Operands_of, completed_by, parent_in}
-use Rattle.c_model.specs.Moments.{holds, complete, complete_for, has_shown, least}
-use Rattle.c_model.proofs.Decided.{has_due}
+use Rattle.c_typed.specs.Tree.{Tree, node, size}
+use Rattle.c_typed.specs.Order.{Taken, events, has}
+use Rattle.c_model.specs.Completions.{Completed, Incomplete, Own_node, Operands_of, parent_in}
+use Rattle.c_model.specs.Moments.{complete, complete_for, least}
 use Rattle.elaborate.specs.Formed.{is_formed}
-use Rattle.elaborate.proofs.Listed.{and_l, and_r}
-use Rattle.elaborate.proofs.Ranges.{has_cases, has_left, or_cases, or_a, or_b, eq_of, eq_eq, events_in, has_itself}
+use Rattle.elaborate.proofs.Ranges.{or_a, eq_eq, events_in}
 use Rattle.completion_laws.specs.Completed.{comes_next, completed_next, with_above}
-use Rattle.completion_laws.proofs.Lists.{outside, AreOutside, all_outside, out_of, within, other, has_at}
+use Rattle.completion_laws.proofs.Lists.{outside, other, has_at}
 use Rattle.completion_laws.proofs.Ahead.{by_test, if_true, if_false, node_ahead}
 use Rattle.completion_laws.proofs.Above.{node_above}
 use Rattle.completion_laws.proofs.Found.{complete_ahead, completes_by_next}
-use Rattle.evaluation_log.specs.Sides.{Side, side, sides_from}
+use Rattle.evaluation_log.specs.Sides.{Side, sides_from}
 use Rattle.run_evaluations.specs.Scopes.{Scope, part_of}
-use Rattle.run_evaluations.specs.Shows.{AreOfTwo, IsIn}
-use Rattle.run_evaluations.specs.Told.{IsOperandIn, IsUnder}
-use Rattle.run_evaluations.proofs.PartLemmas.{side_at, side_part, due_at}
-use Rattle.run_evaluations.proofs.ToldLemmas.{due_part}
-use Rattle.telling_laws.specs.Newly.{IsTaken, IsPair, with_it, AreOfNode, ShowNewly, completed_with, had_shown, ShowsNewly, ShownAreDone}
-use Rattle.telling_laws.proofs.Blocks.{Block, holds_is, tree_block, operands_block, none_behind, none_before, outside_each}
-use Rattle.telling_laws.proofs.Leasts.{IsLeast, both, least_is, least_so, least_own, none_holds, sides_rise, side_of}
-use Rattle.telling_laws.proofs.Parts.{operand_below, parent_is, above_parent, still, part_there, part_within, same_operands}
+use Rattle.run_evaluations.specs.Shows.{AreOfTwo}
+use Rattle.run_evaluations.proofs.PartLemmas.{side_part}
+use Rattle.telling_laws.specs.Newly.{IsTaken, AreOfNode, completed_with}
+use Rattle.telling_laws.proofs.Leasts.{both, least_so, least_own, none_holds}
+use Rattle.telling_laws.proofs.Parts.{operand_below, part_there, same_operands}
 use Rattle.telling_laws.proofs.Splits.{append_one}
-use Rattle.telling_laws.proofs.Steps.{Step, same, up, later, tree_step, last_root}
 
 -- ---- from which number on all is complete
 abbrev pub from_of : ℕ × ℕ → ℕ → ℕ → ℕ
 from_of r a b = if (a == r.0) || (b == r.0) then r.0 else suc r.0
 
-pub complete_as : (due : List Place) (done : Place → Bool) (r : ℕ × ℕ) (u v : Place) → complete_for due done r u v ≡ complete due done (from_of r u.node v.node) r.1
+pub complete_as : (due : List Place) (done : Place → Bool) (r : ℕ × ℕ) (u v : Place) →
+    complete_for due done r u v ≡ complete due done (from_of r u.node v.node) r.1
 complete_as due done r u v = by_test ((u.node == r.0) || (v.node == r.0))
     (λ e. if_true _ _ _ e ∙ ap (λ z. complete due done z r.1) (sym (if_true _ r.0 (suc r.0) e)))
     (λ e. if_false _ _ _ e ∙ ap (λ z. complete due done z r.1) (sym (if_false _ r.0 (suc r.0) e)))
@@ -103,13 +95,13 @@ module _ (s : Scope) (x y : Place) (formed : is_formed s.tree ≡ true) (old : T
       with_part : (t : Tree) → part_of s n ≡ Some t → outside from r.1 next ≡ true
       with_part (node d ts) there =
           let y_in : (n ≤ y.node) × (y.node < n + size (node d ts)) = ⊎_elim
-              (λ e. (omega (arith, e), omega (arith, e)))
-              (λ g. let a = g.low in let b = g.high in let q = ap size (same_Some (node d ts) g.part (sym there ∙ g.there)) in
-              (omega (arith, a), omega (arith, b, q))) are.1 in
+          (λ e. (omega (arith, e), omega (arith, e)))
+          (λ g. let a = g.low in let b = g.high in let q = ap size (same_Some (node d ts) g.part (sym there ∙ g.there)) in
+          (omega (arith, a), omega (arith, b, q))) are.1 in
           let is_n : r ≡ (n, n + size (node d ts)) = ap (λ z. least 0 s.tree z y.node) are.0 ∙ least_own s n y.node d ts there y_in in
           let own : least 0 s.tree n n ≡ (n, n + size (node d ts)) = least_own s n n d ts there (omega arith, omega arith) in
           let first : from ≡ n = ap (λ z. from_of z x.node y.node) is_n ∙ if_true _ n (suc n)
-              (or_a (x.node == n) _ (subst (λ z. (x.node == z) ≡ true) are.0 (eq_eq x.node))) in
+          (or_a (x.node == n) _ (subst (λ z. (x.node == z) ≡ true) are.0 (eq_eq x.node))) in
           ap₂ (λ p q. outside p q next) first (ap (λ z. z.1) is_n)
           ∙ (ap (λ z. outside n z.1 next) (sym own) ∙ (node_ahead s.taken s.tree 0 passed next u is.behind ∙ ap not (not_coming f)))
 
@@ -131,11 +123,11 @@ module _ (s : Scope) (x y : Place) (formed : is_formed s.tree ≡ true) (old : T
       let fs = ap size (same_Some fb.tree two.in_first.part (sym fb.there ∙ two.in_first.there)) in
       let gs = ap size (same_Some gb.tree two.in_second.part (sym gb.there ∙ two.in_second.there)) in
       let is_p : r ≡ (p, p + size (node f.class f.operands)) = least_so s p x.node y.node f.class f.operands f.there
-          (omega (arith, fl, il), omega (arith, ih, fh, fs))
-          (omega (arith, fl, rise, jl), in_whole (gb.high) gs jh) no_side in
+      (omega (arith, fl, il), omega (arith, ih, fh, fs))
+      (omega (arith, fl, rise, jl), in_whole (gb.high) gs jh) no_side in
       let own : least 0 s.tree p p ≡ (p, p + size (node f.class f.operands)) = least_own s p p f.class f.operands f.there (omega arith, omega arith) in
       let first : from ≡ suc p = ap (λ z. from_of z x.node y.node) is_p ∙ if_false _ p (suc p)
-          (none_of (other x.node p (inr (omega (arith, fl, il)))) (other y.node p (inr (omega (arith, fl, rise, jl))))) in
+      (none_of (other x.node p (inr (omega (arith, fl, il)))) (other y.node p (inr (omega (arith, fl, rise, jl))))) in
       ap₂ (λ a b. outside a b next) first (ap (λ z. z.1) is_p)
       ∙ (ap (λ z. outside (suc p) z.1 next) (sym own) ∙ (node_above s.taken s.tree 0 passed next u p formed is.behind above.0 ∙ above.1))
     where

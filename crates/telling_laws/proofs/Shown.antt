@@ -1,35 +1,32 @@
 -- Which pairs newly show as an event is done.
-use Rattle.std.proofs.Common.{◌≡◌, ◌⊎◌, inl, inr, ⊎_elim, ℕ, zero, suc, ◌+◌, ◌<◌, ◌≤◌, ◌==◌, Bool, true, false, not, ◌&&◌, ◌||◌, if◌then◌else◌}
+use Rattle.std.proofs.Common.{◌≡◌, ◌⊎◌, inl, inr, ⊎_elim, ℕ, suc, ◌+◌, ◌<◌, ◌≤◌, ◌==◌, true, false, ◌&&◌, ◌||◌}
 use Rattle.std.proofs.Common.{List, [], ◌∷◌, ◌++◌, Option, Some, None, refl, sym, ap, ap₂, subst, ◌∙◌, true≢false, arith}
-use Rattle.std.specs.Prelude.{slice_get, ◌↔◌}
+use Rattle.std.specs.Prelude.{slice_get}
 use Rattle.std.proofs.lemmas.Bool.Decides.{nat_tests}
 use Rattle.std.proofs.lemmas.Option.{same_Some}
 use Rattle.c_typed.specs.declared.tree.Place.{Place}
-use Rattle.c_typed.specs.declared.class.Class.{Class}
-use Rattle.c_typed.specs.Tree.{Tree, Trees, node, size, sizes, is_quiet}
+use Rattle.c_typed.specs.Tree.{Tree, node, size, is_quiet}
 use Rattle.c_typed.specs.Order.{Taken, events, has, same_place, is_due, goes}
-use Rattle.c_typed.specs.Decide.{due_in, due_among}
-use Rattle.c_model.specs.Completions.{Completed, Incomplete, Own_node, Operands_of, completed_by, parent_in}
-use Rattle.c_model.specs.Moments.{holds, complete, complete_for, has_shown, least}
+use Rattle.c_typed.specs.Decide.{due_in}
+use Rattle.c_model.specs.Completions.{Completed, Incomplete, Own_node, Operands_of, parent_in}
+use Rattle.c_model.specs.Moments.{holds, has_shown, least}
 use Rattle.c_model.proofs.Decided.{has_due}
 use Rattle.elaborate.specs.Formed.{is_formed}
 use Rattle.elaborate.proofs.Listed.{and_l, and_r}
-use Rattle.elaborate.proofs.Ranges.{has_cases, has_left, or_cases, or_a, or_b, eq_of, eq_eq, events_in, has_itself}
+use Rattle.elaborate.proofs.Ranges.{has_cases, or_cases, eq_of, eq_eq, events_in, has_itself}
 use Rattle.completion_laws.specs.Completed.{comes_next, completed_next, with_above}
-use Rattle.completion_laws.proofs.Lists.{outside, AreOutside, all_outside, out_of, within, other, has_at}
-use Rattle.completion_laws.proofs.Ahead.{by_test, if_true, if_false, node_ahead}
-use Rattle.completion_laws.proofs.Above.{node_above}
-use Rattle.completion_laws.proofs.Found.{complete_ahead, completes_by_next}
-use Rattle.evaluation_log.specs.Sides.{Side, side, sides_from}
+use Rattle.completion_laws.proofs.Lists.{outside, all_outside, out_of, within, other}
+use Rattle.completion_laws.proofs.Ahead.{by_test, if_true, if_false}
+use Rattle.evaluation_log.specs.Sides.{Side, sides_from}
 use Rattle.run_evaluations.specs.Scopes.{Scope, part_of}
-use Rattle.run_evaluations.specs.Shows.{AreOfTwo, IsIn}
+use Rattle.run_evaluations.specs.Shows.{AreOfTwo}
 use Rattle.run_evaluations.specs.Told.{IsOperandIn, IsUnder}
-use Rattle.run_evaluations.proofs.PartLemmas.{side_at, side_part, due_at}
+use Rattle.run_evaluations.proofs.PartLemmas.{side_part, due_at}
 use Rattle.run_evaluations.proofs.ToldLemmas.{due_part}
 use Rattle.telling_laws.specs.Newly.{IsTaken, IsPair, with_it, AreOfNode, ShowNewly, completed_with, had_shown, ShowsNewly, ShownAreDone}
 use Rattle.telling_laws.proofs.Blocks.{Block, holds_is, tree_block, operands_block, none_behind, none_before, outside_each}
-use Rattle.telling_laws.proofs.Leasts.{IsLeast, both, least_is, least_so, least_own, none_holds, sides_rise, side_of}
-use Rattle.telling_laws.proofs.Parts.{operand_below, parent_is, above_parent, still, part_there, part_within, same_operands}
+use Rattle.telling_laws.proofs.Leasts.{IsLeast, least_is, sides_rise, side_of}
+use Rattle.telling_laws.proofs.Parts.{operand_below, parent_is, above_parent, still, part_within}
 use Rattle.telling_laws.proofs.Splits.{append_one}
 use Rattle.telling_laws.proofs.Steps.{Step, same, up, later, tree_step, last_root}
 use Rattle.telling_laws.proofs.ShowLemmas.{from_of, complete_as, complete_before, neither, low_or_high, c_is as complete_is, node_shown, two_shown}
@@ -216,7 +213,7 @@ module _ (s : Scope) (x y : Place) (pair : IsPair s x y) (formed : is_formed s.t
         let q = side_of leasts.operands (suc l) w.node (above_not l w.node w_in.0 not_own) (omega (arith, h, z)) in
         let d = q.1 in
         let both_so = sym (due_at s.taken leasts.class (s.taken l) 0 (suc l) leasts.operands q.0 q.0 d w (omega arith) q.2 q.3 q.4)
-            ∙ (sym (if_false _ _ _ not_own) ∙ due_below w due w_in) in
+        ∙ (sym (if_false _ _ _ not_own) ∙ due_below w due w_in) in
         record {
           index = q.0;
           side = d;
@@ -297,7 +294,12 @@ module _ (s : Scope) (x y : Place) (pair : IsPair s x y) (formed : is_formed s.t
         let size_is = ap size (same_Some (node leasts.class leasts.operands) g.part (sym leasts.there ∙ g.there)) in
         let in_l = part_in_l p g under.part under.there in
         true≢false (sym (within (suc l) r.1 v.node (omega (arith, gl, vl)) (omega (arith, in_l, vh))) ∙ out))
-        (above_parent s l p n o (record { part = node leasts.class leasts.operands; there = leasts.there; low = w.0; high = (let h = w.1 in omega (arith, h, z)) })))
+        (above_parent s l p n o (record {
+          part = node leasts.class leasts.operands;
+          there = leasts.there;
+          low = w.0;
+          high = (let h = w.1 in omega (arith, h, z));
+        })))
       where
         part_in_l : (p : ℕ) → IsUnder s l p → (t : Tree) → part_of s p ≡ Some t → p + size t ≤ r.1
         part_in_l p g t there =
@@ -318,7 +320,12 @@ module _ (s : Scope) (x y : Place) (pair : IsPair s x y) (formed : is_formed s.t
         let gh = g.high in
         let size_is = ap size (same_Some (node leasts.class leasts.operands) g.part (sym leasts.there ∙ g.there)) in
         absurd (true≢false (sym (within (suc l) r.1 v.node gl (omega (arith, gh, size_is, z))) ∙ out)))
-        (above_parent s l p n o (record { part = node leasts.class leasts.operands; there = leasts.there; low = w.0; high = (let h = w.1 in omega (arith, h, z)) })))
+        (above_parent s l p n o (record {
+          part = node leasts.class leasts.operands;
+          there = leasts.there;
+          low = w.0;
+          high = (let h = w.1 in omega (arith, h, z));
+        })))
         two
 
     of_operands : ((x.node == l) || (y.node == l)) ≡ false → outside from r.1 next ≡ true → holds from r.1 n ≡ true → ShowNewly s n c x y

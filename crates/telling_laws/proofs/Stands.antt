@@ -1,7 +1,7 @@
 -- What is told of a full expression stands along its canonical order.
-use Rattle.std.proofs.Common.{◌≡◌, ◌⊎◌, inl, inr, ⊎_elim, ℕ, zero, suc, ◌+◌, ◌-◌, ◌<◌, ◌≤◌, nat_lt, ◌==◌, Bool, true, false, ◌&&◌, ◌||◌, if◌then◌else◌}
-use Rattle.std.proofs.Common.{List, [], ◌∷◌, ◌++◌, length, Option, Some, None, refl, sym, ap, ap₂, subst, ◌∙◌, true≢false, arith}
-use Rattle.std.specs.Prelude.{slice_get, is_some}
+use Rattle.std.proofs.Common.{◌≡◌, ◌⊎◌, inl, inr, ⊎_elim, ℕ, zero, suc, ◌+◌, ◌-◌, ◌<◌, ◌≤◌, nat_lt, ◌==◌, Bool, true, ◌&&◌, if◌then◌else◌}
+use Rattle.std.proofs.Common.{List, [], ◌∷◌, ◌++◌, length, Some, refl, sym, ap, ap₂, subst, ◌∙◌, arith}
+use Rattle.std.specs.Prelude.{slice_get}
 use Rattle.std.proofs.lemmas.Bool.Decides.{nat_tests}
 use Rattle.std.proofs.lemmas.Option.{same_Some}
 use Rattle.ub_base.proofs.Tests.{or_cases, and_parts}
@@ -12,25 +12,23 @@ use Rattle.c_typed.specs.declared.tree.Place.{Place}
 use Rattle.c_typed.specs.declared.class.Class.{Class}
 use Rattle.c_typed.specs.Tree.{Tree, Trees, node, size}
 use Rattle.c_typed.specs.Order.{Taken, place, events, has}
-use Rattle.c_typed.specs.Decide.{due_in}
 use Rattle.c_model.specs.Completions.{Completed, Incomplete, Own_node, Operands_of, completed_by, parent_in}
-use Rattle.c_model.proofs.Decided.{has_due}
 use Rattle.elaborate.specs.Formed.{is_formed}
 use Rattle.elaborate.proofs.Ranges.{events_in, eq_eq}
 use Rattle.listing_laws.proofs.Chosen.{listed_further}
-use Rattle.completion_laws.specs.Completed.{completed_next, with_above, comes_next}
+use Rattle.completion_laws.specs.Completed.{completed_next, with_above}
 use Rattle.completion_laws.proofs.Ahead.{if_true, if_false}
 use Rattle.completion_laws.proofs.Found.{completes_by_next}
 use Rattle.completion_laws.proofs.Lists.{has_at, other}
 use Rattle.run_evaluations.specs.Listing.{IsBeginning, IsListedNext}
 use Rattle.run_evaluations.specs.Scopes.{Scope, part_of, IsOperandOf}
-use Rattle.run_evaluations.specs.Told.{Evaluation, Opened, IsBeside, IsNext, IsOperandIn, IsUnder, chosen_by, gathered, given, last_given, parts_with, told}
+use Rattle.run_evaluations.specs.Told.{Evaluation, Opened, IsBeside, IsNext, IsOperandIn, IsUnder, chosen_by, given, last_given, parts_with, told}
 use Rattle.run_evaluations.proofs.GrowLemmas.{goes_later}
-use Rattle.run_evaluations.proofs.PartLemmas.{by_test, number_is, part_range}
-use Rattle.telling_laws.specs.Standing.{places, StandsTold, StandsBehind, Chooses, completed_in, with_completed}
+use Rattle.run_evaluations.proofs.PartLemmas.{number_is}
+use Rattle.telling_laws.specs.Standing.{places, StandsBehind, Chooses, completed_in, with_completed}
 use Rattle.telling_laws.specs.Standing.{BeginsStanding, ChoosesStanding, CompletesStanding, GivesStanding, TellsStanding}
-use Rattle.telling_laws.proofs.Parts.{Below, operand_below, parent_is, part_there, part_within, beside_up, above_parent}
-use Rattle.telling_laws.proofs.Splits.{beginning, next_ahead, at_seam, last_split, begins_with, places_push, places_more, append_one, at_last, pushed_length}
+use Rattle.telling_laws.proofs.Parts.{operand_below, parent_is, part_there, part_within, beside_up, above_parent}
+use Rattle.telling_laws.proofs.Splits.{beginning, next_ahead, at_seam, last_split, begins_with, places_push, places_more, at_last, pushed_length}
 use Rattle.telling_laws.proofs.Splits.{given_last, given_length, given_from}
 use Rattle.telling_laws.proofs.Steps.{Step, same, up, later, tree_step}
 

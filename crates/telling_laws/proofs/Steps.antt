@@ -1,11 +1,11 @@
 -- Where the node stands of the event that is listed behind another one.
-use Rattle.std.proofs.Common.{◌≡◌, ℕ, suc, ◌+◌, ◌<◌, ◌≤◌, true, false, List, [], ◌∷◌, ◌++◌, Option, Some, None, refl, sym, ap, subst, ◌∙◌, true≢false, arith}
+use Rattle.std.proofs.Common.{◌≡◌, ℕ, suc, ◌+◌, ◌≤◌, true, false, List, [], ◌∷◌, ◌++◌, Option, Some, refl, sym, ap, subst, ◌∙◌, true≢false, arith}
 use Rattle.std.specs.Prelude.{slice_get}
 use Rattle.std.proofs.lemmas.Option.{same_Some}
 use Rattle.c_typed.specs.declared.tree.Place.{Place}
 use Rattle.c_typed.specs.declared.class.Class.{Class}
 use Rattle.c_typed.specs.Tree.{Tree, Trees, node, none, more, size, sizes, is_quiet}
-use Rattle.c_typed.specs.Order.{Taken, goes, own_events, events, operand_events, has}
+use Rattle.c_typed.specs.Order.{goes, own_events, events, operand_events, has}
 use Rattle.elaborate.specs.Formed.{is_formed, are_formed, takes}
 use Rattle.elaborate.proofs.Listed.{and_l, and_r, silent}
 use Rattle.elaborate.proofs.Ranges.{has_itself, operands_in}

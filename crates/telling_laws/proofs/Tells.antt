@@ -1,29 +1,23 @@
 -- What is told is what may be told.
-use Rattle.std.proofs.Common.{◌≡◌, ◌⊎◌, inl, inr, ⊎_elim, ℕ, suc, ◌+◌, ◌-◌, ◌<◌, ◌≤◌, ◌^◌, Bool, true, false, List, [], ◌∷◌, ◌++◌, length, Option, Some, None, refl}
-use Rattle.std.proofs.Common.{sym, ap, subst, ◌∙◌, true≢false, arith, if◌then◌else◌, ◌==◌}
-use Rattle.std.specs.Prelude.{slice_get, is_some}
-use Rattle.ub_base.specs.declared.clause.Kind.TheVariants.{Body}
+use Rattle.std.proofs.Common.{◌≡◌, inl, inr, ⊎_elim, ℕ, ◌+◌, ◌<◌, ◌^◌, Bool, true, false, List, [], ◌∷◌, Option, Some, None, refl}
+use Rattle.std.proofs.Common.{sym, ap, subst, ◌∙◌, arith}
+use Rattle.std.specs.Prelude.{is_some}
 use Rattle.c_typed.specs.declared.tree.Place.{Place}
-use Rattle.c_typed.specs.declared.class.Class.{Class}
-use Rattle.c_typed.specs.Tree.{Tree, Trees, node, size}
-use Rattle.c_typed.specs.Order.{events, has}
+use Rattle.c_typed.specs.Tree.{Tree, node, size}
+use Rattle.c_typed.specs.Order.{has}
 use Rattle.c_typed.specs.Decide.{due_in}
-use Rattle.c_model.specs.Completions.{Completed, Incomplete, Own_node, Operands_of, completed_by, parent_in, is_complete, has_operands}
+use Rattle.c_model.specs.Completions.{Completed, Incomplete, Own_node, Operands_of, parent_in}
 use Rattle.c_model.proofs.Decided.{has_due}
 use Rattle.elaborate.specs.Formed.{is_formed}
 use Rattle.completion_laws.specs.Completed.{with_above, completed_next}
 use Rattle.completion_laws.proofs.Lists.{has_at}
-use Rattle.evaluation_log.specs.declared.rules.Rules.{Rules}
 use Rattle.evaluation_log.specs.Ways.{rule_in}
-use Rattle.run_evaluations.specs.Listing.{IsListedNext}
 use Rattle.run_evaluations.specs.Scopes.{Scope, part_of, IsOperandOf}
-use Rattle.run_evaluations.specs.Shows.{FitsRules}
-use Rattle.run_evaluations.specs.Told.{Evaluation, Opened, IsBeside, IsNext, IsOperandIn, Tells, TellsNode}
+use Rattle.run_evaluations.specs.Told.{Evaluation, Opened, IsOperandIn, Tells}
 use Rattle.run_evaluations.proofs.ListingLemmas.{listings_tell}
-use Rattle.run_evaluations.proofs.PartLemmas.{by_test, part_range, size_some}
-use Rattle.telling_laws.specs.Standing.{StandsTold, StandsBehind, NextIsTold, OperandsAreTold, LastAreOwn, EndIsTold, completed_in, places}
+use Rattle.run_evaluations.proofs.PartLemmas.{part_range, size_some}
+use Rattle.telling_laws.specs.Standing.{StandsBehind, NextIsTold, OperandsAreTold, LastAreOwn, EndIsTold, completed_in, places}
 use Rattle.telling_laws.proofs.Parts.{operand_below, beside_up, still, lists_alone}
-use Rattle.telling_laws.proofs.Splits.{places_push}
 use Rattle.telling_laws.proofs.Stands.{node_of_next, last_of, completed_is, step_to, by_same, by_later, by_up}
 use Rattle.telling_laws.proofs.Steps.{Step, same, up, later}
 
@@ -82,8 +76,7 @@ pub operands_are_told : OperandsAreTold
 operands_are_told t last rules p formed fits small stands is =
     let o = operands_parent t last p formed stands is in
     let b = operand_below t.scope p last.place.node o in
-    let low = b.low in
-    (
+    let low = b.low in (
       record {
         class = o.class;
         operands = o.operands;

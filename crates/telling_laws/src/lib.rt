@@ -5,6 +5,7 @@ ghost use Rattle.telling_laws.specs.FirstFound.{BothLots, FirstIsFound};
 ghost use Rattle.telling_laws.specs.Met.{HasLeast, MeetsByItems, RacesByItems};
 ghost use Rattle.telling_laws.specs.Newly.{ShownAreDone, ShowsNewly};
 ghost use Rattle.telling_laws.specs.OnlyNew.{NothingAtFirst, OnlyNewQuarrel, OnlyNewRace};
+ghost use Rattle.telling_laws.specs.OwnEvents.{OnlyStoresConflict};
 ghost use Rattle.telling_laws.specs.Samples.{BothAreTold, BothShow, SumIsTold, SumShows};
 ghost use Rattle.telling_laws.specs.Standing.{BeginsStanding, ChoosesStanding, CompletesStanding, EndIsTold, GivesStanding, LastAreOwn, NextIsTold};
 ghost use Rattle.telling_laws.specs.Standing.{OperandsAreTold, TellsStanding};
@@ -34,8 +35,8 @@ pub fn law_showing()
     ensures done { ShownAreDone }
 {}
 
-/// Where no pair of due events raced, or quarrelled, that had shown before an event, the first one to do so behind it is the first of those that newly show, and
-/// where none of these does none does. As a full expression begins none does.
+/// Where no pair of due events raced, or quarrelled, that had shown before an event, the first one to do so behind it is the first of those that newly show,
+/// and where none of these does none does. As a full expression begins none does.
 pub fn law_only_new()
     ensures races { OnlyNewRace }
     ensures quarrels { OnlyNewQuarrel }
@@ -44,9 +45,11 @@ pub fn law_only_new()
 
 /// So the first conflict that is told of what an event completes is the race, or else the quarrel, that is found first behind it, and none is where none is, if
 /// nothing was found before the event and two events of its node don't conflict. Of two lots of pairs the conflict that counts is the first one of both.
+/// Two events of one node don't, but for the value and the effect of an assignment or a list, where the value has items.
 pub fn law_first_found()
     ensures first { FirstIsFound }
     ensures lots { BothLots }
+    ensures own { OnlyStoresConflict }
 {}
 
 /// What was told of two evaluations that have the items of two lists clashes, or races, exactly where these do, and there is a least pair of items then.
