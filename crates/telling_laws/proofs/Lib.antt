@@ -1,0 +1,14 @@
+pub mod Blocks
+pub mod ClashLemmas
+pub mod FirstFound
+pub mod FirstTold
+pub mod Leasts
+pub mod New
+pub mod OwnLemmas
+pub mod Parts
+pub mod ShowLemmas
+pub mod Shown
+pub mod Splits
+pub mod Stands
+pub mod Steps
+pub mod Tells
