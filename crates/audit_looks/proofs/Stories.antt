@@ -52,10 +52,3 @@ pub named_story : {E : Type 0} (was is : Moment) (of : Named) (request : StoryRe
     → IfOk result (λ sheet. StoryTold was is request sheet.status sheet.text sheet.errors)
 named_story was is of request (Ok sheet) named told = (inl (of, named, told.0), told.1)
 named_story was is of request (Err e) named told = told
-
--- words that name no object
-pub unnamed_story : {E : Type 0} (was is : Moment) (request : StoryRequest) (result : Result Sheet E) → IsNoObjectText request.name.now → is ≡ was
-    → IfOk result (λ sheet. sheet.status ≡ 10) → IfOk result (λ sheet. sheet.text ≡ codes "usage\n") → IfOk result (λ sheet. sheet.errors ≡ [])
-    → IfOk result (λ sheet. StoryTold was is request sheet.status sheet.text sheet.errors)
-unnamed_story was is request (Ok sheet) none same code text quiet = (inr (none, same, code, text), quiet)
-unnamed_story was is request (Err e) none same code text quiet = code

@@ -1,6 +1,5 @@
 -- Words that a command for a person takes name a subcommand of it.
 use Rattle.std.proofs.Common.{◌≡◌, ◌∙◌, ℕ, List, [], Bool, true, false, Option, Some, None, refl, sym, subst, inl, inr, codes}
-use Rattle.std.specs.Box.{box_value}
 use Rattle.std.specs.Prelude.{Box, IfSome, is_some, cond, option_map}
 use Rattle.clap.specs.Faults.{entered_fault, fault_of, is_simple_and_free, level_fault}
 use Rattle.clap.specs.Kinds.{Kinds}
@@ -8,8 +7,6 @@ use Rattle.clap.specs.Matches.{has_subcommand, subcommand_name_of}
 use Rattle.clap.specs.Simple.{App, HasMatchesOf, Shape, built, entered, names_of, rows_at, subcommand_of, subcommand_rows}
 use Rattle.clap.specs.Walk.{Held, Names, Row, Text, nothing_held, stop_after}
 use Rattle.clap.specs.declared.parser.matches.ArgMatches.{ArgMatches}
-use Rattle.clap.specs.declared.parser.matches.ArgMatches.TheViews.{out-SubCommand}
-use Rattle.clap.specs.declared.parser.matches.SubCommand.{SubCommand}
 use Rattle.person_command.specs.PersonApp.{person_app}
 use Rattle.person_command.specs.PersonAsked.{IsPersonName, IsPersonTaken}
 use Rattle.command.proofs.Words.{has_rows, missing, or_else_empty}
@@ -71,16 +68,6 @@ pub has_subcommand_of : (words : List (List ℕ)) (m : ArgMatches) → IsPersonT
 has_subcommand_of words m taken has =
     let named = taken_named words taken in
     has_rows _ (named.name, named.rows) ((has refl).1 ∙ named.is)
-
-named_so : {Z : Type 0} (o : Option (Box SubCommand Z)) (found : Option (Text × List Row)) → subcommand_rows o ≡ found → IfSome found (λ p. IsPersonName p.0)
-    → IfSome (option_map (λ b. (out-SubCommand (box_value b)).name.now) o) IsPersonName
-named_so None found same named = tt
-named_so (Some b) found same named = subst (λ f. IfSome f (λ p. IsPersonName p.0)) (sym same) named
-
--- and its name is one of the eight
-pub name_of : (words : List (List ℕ)) (m : ArgMatches) (given : Option (List ℕ)) → HasMatchesOf person_app words m → given ≡ subcommand_name_of m
-    → IfSome given IsPersonName
-name_of words m given has same = subst (λ o. IfSome o IsPersonName) (sym same) (named_so _ _ (has refl).1 (entered_name (stop words)))
 
 -- the command is simple, and no argument has a rule on another
 pub person_is_simple : (app : App) → app ≡ person_app → is_simple_and_free app ≡ true
