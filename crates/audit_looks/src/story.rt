@@ -4,7 +4,7 @@ ghost use Rattle.audit_batch.specs.Moment.{moment};
 ghost use Rattle.audit_looks.specs.Looks.{IsFront, IsStoryText, IsTextStory, NamedTold, Quiet, StoryTold};
 
 use crate::judged::judged_report;
-use crate::looks::{quiet, run_audited, stopped_sheet};
+use crate::looks::{mode_of, quiet, run_audited, stopped_sheet};
 use audit_sources::{Sources, fetch_sources};
 use audit_verdict::{FrontFault, picks_of, program_of};
 use c_names::read_object;

@@ -6,7 +6,7 @@ ghost use Rattle.footprint_run.specs.Apart.{AreApart, StandsApart};
 ghost use Rattle.audit_looks.specs.Looks.{AreBothOrders, IsProgramSwap, IsTextSwap, IsSwap, Quiet, SwapTold, swap_status};
 
 use crate::judged::judged_report;
-use crate::looks::{quiet, run_audited, stopped_sheet};
+use crate::looks::{mode_of, quiet, run_audited, stopped_sheet};
 use audit_sources::{Sources, fetch_sources};
 use audit_verdict::{FrontFault, program_of};
 use c_typed::Program;
