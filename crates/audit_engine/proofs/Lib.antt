@@ -1,6 +1,1 @@
-mod Audits
 mod Pages
-mod Reports
-mod StaticSheets
-mod Stories
-mod Swaps

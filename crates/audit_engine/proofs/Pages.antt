@@ -8,7 +8,7 @@ use Rattle.audit_sources.specs.Fetching.{HasInput, IsWhole, Stops, wanted}
 use Rattle.audit_sources.specs.declared.fetch.FetchFault.{FetchFault}
 use Rattle.audit_sources.specs.declared.fetch.FetchFault.TheVariants as Fault
 use Rattle.audit_sources.specs.declared.role.Role.TheVariants.{Source}
-use Rattle.audit_engine.proofs.Audits.{judged_audit, stopped_audit}
+use Rattle.audit_looks.proofs.Audits.{judged_audit, stopped_audit}
 use Rattle.audit_verdict.specs.Cause.{AuditCause, Leaves, TextCause, stopped}
 use Rattle.audit_verdict.specs.Report.{report, status}
 use Rattle.audit_verdict.specs.declared.answer.Answer.{Answer}
@@ -28,31 +28,11 @@ use Rattle.audit_verdict.specs.declared.answer.Answer.TheVariants.{
   ReadFault,
   NoMemory,
 }
-use Rattle.audit_engine.specs.Engine.{AsksFor, Explained, IsAudited, IsJudgedPage, IsPage, IsPageOf, Says, disk_at, first_line, is_untold}
+use Rattle.audit_looks.specs.Disks.{disk_at}
+use Rattle.audit_engine.specs.Engine.{AsksFor, Explained, IsAudited, IsJudgedPage, IsPage, IsPageOf, Says, first_line, is_untold}
 use Rattle.command.specs.declared.request.AuditRequest.{AuditRequest}
-use Rattle.command.specs.declared.person_request.ExplainRequest.{ExplainRequest}
+use Rattle.person_command.specs.declared.person_request.ExplainRequest.{ExplainRequest}
 use Rattle.person_top.specs.declared.explain.Page.{Page}
-
--- an answer without a certificate leaves the files
-pub leaves_none : (old new : Option Held) (answer : Answer) → Leaves None old new answer → new ≡ old
-leaves_none old new (Clean s) h = h
-leaves_none old new (Undefined c l) h = h
-leaves_none old new (Found s b) h = h
-leaves_none old new (Generated m s b) h = h
-leaves_none old new (GeneratedRefused m r) h = h
-leaves_none old new (Checked v) h = h
-leaves_none old new (Bad b) h = h
-leaves_none old new Usage h = h
-leaves_none old new (TooLong role) h = h
-leaves_none old new (Refused r) h = h
-leaves_none old new CertificateTooLong h = h
-leaves_none old new NotKept h = h
-leaves_none old new ReadFault h = h
-leaves_none old new NoMemory h = h
-
--- .. as where no certificate is asked for
-pub leaves_unasked : (cert : Option (List ℕ)) (old new : Option Held) (answer : Answer) → cert ≡ None → Leaves cert old new answer → new ≡ old
-leaves_unasked cert old new answer none h = leaves_none old new answer (subst (λ c. Leaves c old new answer) none h)
 
 -- the line of an audit
 pub audited_line : {E : Type 0} (was is : Moment) (request : AuditRequest) (answer : Answer) (result : Result Verdict E)

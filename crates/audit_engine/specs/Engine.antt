@@ -3,10 +3,11 @@ use Rattle.std.specs.Prelude.{◌≡◌, ◌==◌, ◌||◌, ℕ, List, [], ◌+
 use Rattle.std.specs.List.{position}
 use Rattle.audit_batch.specs.Moment.{Moment}
 use Rattle.audit_batch.specs.declared.audit.Limits.{Limits}
-use Rattle.audit_verdict.specs.Cause.{AuditCause, Disk, TextCause, disk}
+use Rattle.audit_verdict.specs.Cause.{AuditCause, TextCause}
 use Rattle.audit_verdict.specs.Report.{report, status}
 use Rattle.audit_verdict.specs.declared.answer.Answer.{Answer}
-use Rattle.command.specs.declared.person_request.ExplainRequest.{ExplainRequest}
+use Rattle.audit_looks.specs.Disks.{disk_at}
+use Rattle.person_command.specs.declared.person_request.ExplainRequest.{ExplainRequest}
 use Rattle.command.specs.declared.request.AuditRequest.{AuditRequest}
 
 -- the bytes before this place; all of them where there is none
@@ -17,10 +18,6 @@ up_to (Some at) text = take at text
 -- the bytes before the first line feed
 abbrev pub first_line : List ℕ → List ℕ
 first_line text = up_to (position (λ byte. byte == 10) text) text
-
--- the files as an audit sees them
-abbrev pub disk_at : Moment → Disk
-disk_at at = disk at.held at.reads at.writes
 
 -- The audit of the request has an answer of this status, whose report begins with this line.
 pub record IsAudited (request : AuditRequest) (was is : Moment) (said : ℕ) (line : List ℕ) : Type 0 where

@@ -1,2 +1,1 @@
 pub mod Engine
-pub mod Looks

@@ -4,16 +4,14 @@ ghost use Rattle.std.specs.List.{position};
 ghost use Rattle.audit_batch.specs.Moment.{moment};
 ghost use Rattle.audit_verdict.specs.Report.{report, status};
 ghost use Rattle.audit_engine.specs.Engine.{Explained, IsAudited, Says, first_line};
-ghost use Rattle.audit_engine.specs.Looks.{Explored};
+ghost use Rattle.audit_looks.specs.Looks.{Explored};
 
-use crate::errors::errors_sheet;
 use crate::explain::explained;
-use crate::statics::static_sheet;
-use crate::story::story_sheet;
-use crate::swap::swap_sheet;
 use audit_batch::{Auditor, Limits, Verdict};
+use audit_looks::{errors_sheet, static_sheet, story_sheet, swap_sheet};
 use audit_verdict::{Answer, Progress, audit};
-use command::{AuditRequest, ExplainRequest, Exploration};
+use command::AuditRequest;
+use person_command::{ExplainRequest, Exploration};
 use person_top::{Explainer, Explorer, Page, Sheet};
 use std::alloc::Global;
 use ub_base::{Bytes, Files, NoMemory};
@@ -65,7 +63,8 @@ fn audited<F: Files, P: Progress>(
     requires steps { request.now.steps ≤ 100000000 }
     requires cert { option_copied request.now.cert ≡ None }
     ensures said { IfOk result (λ verdict. IsAudited request.now
-        (moment (F.held files.old) (F.read_faults files.old) (F.write_faults files.old)) (moment (F.held files.new) (F.read_faults files.new) (F.write_faults files.new))
+        (moment (F.held files.old) (F.read_faults files.old) (F.write_faults files.old))
+        (moment (F.held files.new) (F.read_faults files.new) (F.write_faults files.new))
         verdict.status verdict.line) }
     ensures held { F.held files.new ≡ F.held files.old }
 {

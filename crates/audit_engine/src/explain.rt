@@ -1,24 +1,17 @@
 // The report of an audit, and why.
 ghost use Rattle.std.specs.Prelude.{◌≡◌, ◌≤◌, ◌^◌, true, false, None, length, IfOk, option_copied};
 ghost use Rattle.audit_batch.specs.Moment.{moment};
-ghost use Rattle.audit_verdict.specs.Cause.{stopped};
-ghost use Rattle.audit_verdict.specs.Report.{report, status};
 ghost use Rattle.audit_engine.specs.Engine.{Explained, Explains, IsJudgedPage, IsPage, IsPageOf, is_untold};
 
 use crate::written::written_of;
-use addr_map::Mode;
-use audit_sources::{FetchFault, Sources, fetch_sources};
-use audit_verdict::{Answer, Progress, judged, stopped};
-use command::ExplainRequest;
+use audit_looks::{mode_of, stopped_page};
+use audit_sources::{Sources, fetch_sources};
+use audit_verdict::{Answer, Progress, judged};
 use explain_report::{Asked, Written, explanation, explanation_json};
+use person_command::ExplainRequest;
 use person_top::Page;
 use std::alloc::Global;
 use ub_base::{Bytes, Files, NoMemory};
-
-/// Where the objects of a run stand.
-pub fn mode_of(is_tight: bool) -> Mode {
-    if is_tight { Mode::Tight } else { Mode::Spaced }
-}
 
 // The report of an answer, a blank line and why it is so.
 fn with_reasons(alloc: Global, asked: &Asked<'_>) -> Result<Bytes, NoMemory>
@@ -149,18 +142,6 @@ fn judged_page<F: Files, P: Progress>(
     page_of(alloc, request, sources, written, &answer)
 }
 
-/// The page where a file isn't fetched: the report alone.
-pub fn stopped_page(alloc: Global, fault: FetchFault) -> Result<Page, NoMemory>
-    ensures status { IfOk result (λ page. page.status ≡ status (stopped fault)) }
-    ensures page { IfOk result (λ page. page.text ≡ report (stopped fault)) }
-{
-    let answer = stopped(fault);
-    Ok(Page {
-        status: answer.status(),
-        text: answer.report(alloc)?,
-    })
-}
-
 // The files that the text was made of; none where lines are asked for as the text has them.
 fn written_for<F: Files>(
     alloc: Global,
@@ -208,7 +189,8 @@ pub fn explained<F: Files, P: Progress>(
     requires steps { request.now.audit.steps ≤ 100000000 }
     requires cert { option_copied request.now.audit.cert ≡ None }
     ensures page { IfOk result (λ page. Explained
-        (moment (F.held files.old) (F.read_faults files.old) (F.write_faults files.old)) (moment (F.held files.new) (F.read_faults files.new) (F.write_faults files.new))
+        (moment (F.held files.old) (F.read_faults files.old) (F.write_faults files.old))
+        (moment (F.held files.new) (F.read_faults files.new) (F.write_faults files.new))
         request.now page.status page.text) }
     ensures held { F.held files.new ≡ F.held files.old }
 {

@@ -2,13 +2,7 @@
 #![tactic(auto)]
 
 mod engine;
-mod errors;
 mod explain;
-mod judged;
-mod looks;
-mod statics;
-mod story;
-mod swap;
 mod written;
 
 pub use engine::Engine;

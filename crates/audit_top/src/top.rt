@@ -19,7 +19,8 @@ const WRITE_FAULT: u8 = 21;
 
 // The answer to a check of a certificate.
 fn check<F: Files>(alloc: Global, request: &CheckRequest<'_>, files: &mut F) -> Answer
-    ensures why { CheckCause (disk (F.held files.old) (F.read_faults files.old) (F.write_faults files.old)) (disk (F.held files.new) (F.read_faults files.new) (F.write_faults files.new)) request.now result }
+    ensures why { CheckCause (disk (F.held files.old) (F.read_faults files.old) (F.write_faults files.old))
+        (disk (F.held files.new) (F.read_faults files.new) (F.write_faults files.new)) request.now result }
     ensures files { F.held files.new ≡ F.held files.old }
 {
     match fetch_check_sources(alloc, request.file, request.cert, request.input, files) {
@@ -31,7 +32,8 @@ fn check<F: Files>(alloc: Global, request: &CheckRequest<'_>, files: &mut F) -> 
 // The answer to a request.
 fn answer_to<F: Files>(alloc: Global, request: &Request<'_>, files: &mut F) -> Answer
     requires { IsBounded request.now }
-    ensures { RequestCause (disk (F.held files.old) (F.read_faults files.old) (F.write_faults files.old)) (disk (F.held files.new) (F.read_faults files.new) (F.write_faults files.new)) request.now result }
+    ensures { RequestCause (disk (F.held files.old) (F.read_faults files.old) (F.write_faults files.old))
+        (disk (F.held files.new) (F.read_faults files.new) (F.write_faults files.new)) request.now result }
 {
     match request {
         Request::Audit(request) => audit(alloc, request, files, &mut Quiet),
@@ -42,7 +44,8 @@ fn answer_to<F: Files>(alloc: Global, request: &Request<'_>, files: &mut F) -> A
 
 // The answer to the words.
 fn answer<F: Files>(alloc: Global, words: &[String], files: &mut F) -> Answer
-    ensures { HasCause (map string_bytes words.now) (disk (F.held files.old) (F.read_faults files.old) (F.write_faults files.old)) (disk (F.held files.new) (F.read_faults files.new) (F.write_faults files.new)) result }
+    ensures { HasCause (map string_bytes words.now) (disk (F.held files.old) (F.read_faults files.old) (F.write_faults files.old))
+        (disk (F.held files.new) (F.read_faults files.new) (F.write_faults files.new)) result }
 {
     match asked(alloc, words) {
         Ok(request) => answer_to(alloc, &request, files),

@@ -1,6 +1,7 @@
 // What the command answers, as the report says it.
 ghost use Rattle.std.specs.Prelude.{◌≡◌, ◌++◌, IfOk};
-ghost use Rattle.audit_verdict.specs.Report.{numbered, syntax_report, clean_report, undefined_report, refusal_report, too_long_report, summary_report, verdict_report, verdict_status, bad_word, bad_report};
+ghost use Rattle.audit_verdict.specs.Report.{numbered, syntax_report, clean_report, undefined_report, refusal_report, too_long_report, summary_report};
+ghost use Rattle.audit_verdict.specs.Report.{verdict_report, verdict_status, bad_word, bad_report};
 
 use audit_sources::Role;
 use certificate::{Answer as Verdict, Field, Part};

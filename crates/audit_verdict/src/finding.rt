@@ -1,6 +1,7 @@
 // The report of a finding.
 ghost use Rattle.std.specs.Prelude.{◌≡◌, ◌++◌, codes, decimal, IfOk, OnOk};
-ghost use Rattle.audit_verdict.specs.Finding.{event_line, byte_text, item_text, item_line, against_text, race_text, order_text, clean_text, cause_text, finding_report, finding_status};
+ghost use Rattle.audit_verdict.specs.Finding.{event_line, byte_text, item_text, item_line, against_text, race_text, order_text, clean_text, cause_text};
+ghost use Rattle.audit_verdict.specs.Finding.{finding_report, finding_status};
 ghost use Rattle.c_names.specs.Texts.{event_text, object_text};
 ghost use Rattle.ub_base.specs.Clause.{clause_text};
 

@@ -29,7 +29,8 @@ pub fn audit<F: Files, P: Progress>(
     progress: &mut P,
 ) -> Answer
     requires { request.now.steps ≤ 100000000 }
-    ensures why { AuditCause (disk (F.held files.old) (F.read_faults files.old) (F.write_faults files.old)) (disk (F.held files.new) (F.read_faults files.new) (F.write_faults files.new)) request.now result }
+    ensures why { AuditCause (disk (F.held files.old) (F.read_faults files.old) (F.write_faults files.old))
+        (disk (F.held files.new) (F.read_faults files.new) (F.write_faults files.new)) request.now result }
     ensures files { Leaves (option_copied request.now.cert) (F.held files.old) (F.held files.new) result }
 {
     match fetch_sources(alloc, request.file, request.input, files) {

@@ -6,15 +6,49 @@ use crate::statement::block_items;
 use c_ast::{Declaration, Declarator, Entry as SyntaxEntry, Specs, Unit, UnitEntry};
 use c_lex::Tokens;
 use c_typed::Program;
+use c_types::FuncTy;
 use std::alloc::Global;
 use type_bodies::{begin_body, defined_before, end_body, own_params, undefinable};
 use type_declarations::{function_type, global_declaration, global_function, near};
 use type_declarators::declarator::{Declared, assertion};
+use type_declarators::words::Words;
 use type_expressions::expression::{constant, declared, specified};
 use type_linkage::copied_function;
 use type_program::{final_order, finished};
 use type_reasons::Reason;
 use type_scope::{Source, State, TypeFault};
+
+// What a function definition declares: its words, the token of its name and its type, where it has one of a function.
+fn heading(
+    source: &Source<'_>,
+    state: &mut State,
+    specs: &Specs,
+    declarator: &Declarator,
+    at: u32,
+) -> Result<(Words, Option<u32>, Option<FuncTy>), TypeFault> {
+    let (words, base) = specified(source, state, specs, at, false)?;
+    let Declared { name, qual } = declared(source, state, declarator, base, at)?;
+    let ty = function_type(state.alloc, &qual)?;
+    Ok((words, name, ty))
+}
+
+// Begins the body of a function of this type, and gives the number of the function.
+fn begun(
+    source: &Source<'_>,
+    state: &mut State,
+    words: &Words,
+    name: u32,
+    ty: &FuncTy,
+) -> Result<u32, TypeFault> {
+    let own = copied_function(state.alloc, ty)?;
+    let number = global_function(source, state, words, name, own)?;
+    if let Some(reason) = defined_before(state, number) {
+        return Err(source.fault(name, reason));
+    }
+    state.enter_body()?;
+    begin_body(state, number, ty)?;
+    Ok(number)
+}
 
 // A function definition (6.9.1).
 fn function_definition(
@@ -25,22 +59,14 @@ fn function_definition(
     body: &[SyntaxEntry],
 ) -> Result<(), TypeFault> {
     let at = near(specs, Some(declarator));
-    let (words, base) = specified(source, state, specs, at, false)?;
-    let Declared { name, qual } = declared(source, state, declarator, base, at)?;
-    let ty = function_type(state.alloc, &qual)?;
+    let (words, name, ty) = heading(source, state, specs, declarator, at)?;
     let (Some(name), Some(params), Some(ty)) = (name, own_params(declarator), ty) else {
         return Err(source.fault(at, Reason::DefinedByTypedef));
     };
     if let Some(reason) = undefinable(state, &ty, params) {
         return Err(source.fault(name, reason));
     }
-    let own = copied_function(state.alloc, &ty)?;
-    let number = global_function(source, state, &words, name, own)?;
-    if let Some(reason) = defined_before(state, number) {
-        return Err(source.fault(name, reason));
-    }
-    state.enter_body()?;
-    begin_body(state, number, &ty)?;
+    let number = begun(source, state, &words, name, &ty)?;
     let entries = block_items(source, state, body)?;
     end_body(state, number, entries)?;
     state.leave_scope();

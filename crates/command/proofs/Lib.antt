@@ -1,4 +1,3 @@
 pub mod Apps
-pub mod PersonWords
 pub mod Rows
 pub mod Words

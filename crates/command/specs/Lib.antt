@@ -1,4 +1,2 @@
 pub mod App
 pub mod Asked
-pub mod PersonApp
-pub mod PersonAsked

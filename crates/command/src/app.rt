@@ -3,12 +3,14 @@ ghost use Rattle.std.specs.Prelude.{◌≡◌, false, IfOk};
 ghost use Rattle.clap.specs.Simple.{app_of, with_rule, with_subcommand};
 ghost use Rattle.clap.specs.Walk.{rule_of};
 ghost use Rattle.clap.specs.declared.builder.command.Command.TheViews.{out-Command as fields_of};
-ghost use Rattle.command.specs.App.{file_rule, certificate_rule, args_rule, input_rule, steps_rule, tight_rule, cert_rule, seed_rule, lines_rule, audit_app, with_run_rules, check_app, self_app, cub_alone, cub_app};
+ghost use Rattle.command.specs.App.{file_rule, certificate_rule, args_rule, input_rule, steps_rule, tight_rule, cert_rule, seed_rule, lines_rule, audit_app};
+ghost use Rattle.command.specs.App.{with_run_rules, check_app, self_app, cub_alone, cub_app};
 
 use clap::builder::ValueParser;
 use clap::{Arg, ArgAction, Command};
 use std::alloc::{AllocError, Global};
 
+/// The file of the program.
 pub fn file_arg<'a>(alloc: Global) -> Arg<'a>
     ensures rule { rule_of result ≡ file_rule }
     ensures local { result.global ≡ false }
@@ -23,6 +25,7 @@ fn certificate_arg<'a>(alloc: Global) -> Arg<'a>
     Arg::new(alloc, "CERT").required(true)
 }
 
+/// Any number of words for the program.
 pub fn args_arg<'a>(alloc: Global) -> Arg<'a>
     ensures rule { rule_of result ≡ args_rule }
     ensures local { result.global ≡ false }
@@ -39,6 +42,7 @@ fn input_arg<'a>(alloc: Global) -> Arg<'a>
         .action(ArgAction::Set)
 }
 
+/// The most steps, from 1 to 100,000,000; 1,000,000 where none are given.
 pub fn steps_arg<'a>(alloc: Global) -> Arg<'a>
     ensures rule { rule_of result ≡ steps_rule }
     ensures local { result.global ≡ false }
@@ -50,6 +54,7 @@ pub fn steps_arg<'a>(alloc: Global) -> Arg<'a>
         .default_value("1000000")
 }
 
+/// Whether objects stand close.
 pub fn tight_arg<'a>(alloc: Global) -> Arg<'a>
     ensures rule { rule_of result ≡ tight_rule }
     ensures local { result.global ≡ false }
@@ -84,6 +89,7 @@ fn lines_arg<'a>(alloc: Global) -> Arg<'a>
         .value_parser(ValueParser::Unsigned(1, 20000))
 }
 
+/// Adds an argument to a command.
 pub fn with_arg<'a>(command: Command<'a>, arg: Arg<'a>) -> Result<Command<'a>, AllocError>
     requires local { arg.global ≡ false }
     requires no_globals { (fields_of command).has_globals ≡ false }
@@ -138,6 +144,7 @@ fn self_command<'a>(alloc: Global) -> Result<Command<'a>, AllocError>
     Ok(command)
 }
 
+/// Adds a subcommand to a command.
 pub fn with_command<'a>(command: Command<'a>, sub: Command<'a>) -> Result<Command<'a>, AllocError>
     requires no_globals { (fields_of command).has_globals ≡ false }
     requires local { (fields_of sub).has_globals ≡ false }
@@ -147,6 +154,7 @@ pub fn with_command<'a>(command: Command<'a>, sub: Command<'a>) -> Result<Comman
     command.subcommand(sub)
 }
 
+/// The command that reads words with no program's name in front, without its subcommands.
 pub fn cub_without_commands<'a>(alloc: Global) -> Command<'a>
     ensures app { app_of result ≡ cub_alone }
     ensures local { (fields_of result).has_globals ≡ false }

@@ -2,13 +2,12 @@
 #![tactic(auto)]
 
 mod app;
-mod person_app;
-mod person_read;
-mod person_request;
 mod read;
 mod request;
 
-pub use person_read::read_person_words;
-pub use person_request::{BatchRequest, ExplainRequest, Exploration, PersonRequest, StoryRequest};
-pub use read::read_words;
+pub use app::{
+    args_arg, cub_without_commands, file_arg, steps_arg, tight_arg, with_arg, with_command,
+    with_run_args,
+};
+pub use read::{MAX_STEPS, is_set, number_of, read_words, text_given, text_of, texts_of};
 pub use request::{AuditRequest, CheckRequest, Request, SelfRequest, WordFault};

@@ -5,7 +5,8 @@ ghost use Rattle.clap.specs.Simple.{HasMatchesOf};
 ghost use Rattle.clap.specs.Takes.{takes};
 ghost use Rattle.clap.specs.Walk.{rows_of, first_of, one_of, all_of};
 ghost use Rattle.command.specs.App.{cub_app};
-ghost use Rattle.command.specs.Asked.{named, text_given, texts_given, is_set, Spells, IsAudit, IsCheck, IsName, IsSelf, IsRequest, IsTaken, is_given_as, displaces, overwrites, words_overwrite, AreFit};
+ghost use Rattle.command.specs.Asked.{named, text_given, texts_given, is_set, Spells, IsAudit, IsCheck, IsName, IsSelf, IsRequest, IsTaken, is_given_as};
+ghost use Rattle.command.specs.Asked.{displaces, overwrites, words_overwrite, AreFit};
 
 use crate::app::cub_command;
 use crate::request::{AuditRequest, CheckRequest, Request, SelfRequest, WordFault};
@@ -13,6 +14,7 @@ use clap::ArgMatches;
 use clap::error::ErrorKind;
 use std::alloc::{AllocError, Global};
 
+/// The most steps that are asked for.
 pub const MAX_STEPS: u64 = 100000000;
 
 const MAX_SEED: u64 = 65536;
@@ -37,12 +39,14 @@ fn matches_of<'a>(alloc: Global, words: &'a [String]) -> Result<ArgMatches<'a>, 
     }
 }
 
+/// The text of an argument that has one.
 pub fn text_of<'a>(matches: &ArgMatches<'a>, id: &str) -> Option<&'a str>
     ensures { option_copied result ≡ first_of id.now (rows_of (found_of matches.now)) }
 {
     matches.get_str(id)
 }
 
+/// The text of an argument; the empty one where it has none.
 pub fn text_given<'a>(matches: &ArgMatches<'a>, id: &str) -> &'a str
     ensures { result.now ≡ text_given id.now (rows_of (found_of matches.now)) }
 {
@@ -52,6 +56,7 @@ pub fn text_given<'a>(matches: &ArgMatches<'a>, id: &str) -> &'a str
     }
 }
 
+/// Whether a flag is set.
 pub fn is_set(matches: &ArgMatches<'_>, id: &str) -> bool
     ensures { result ≡ is_set (first_of id.now (rows_of (found_of matches.now))) }
 {
@@ -61,6 +66,7 @@ pub fn is_set(matches: &ArgMatches<'_>, id: &str) -> bool
     }
 }
 
+/// The number that an argument spells, kept between these two; the least one where it has none.
 pub fn number_of(matches: &ArgMatches<'_>, id: &str, least: u64, most: u64) -> u64
     ensures { Spells least most (one_of id.now (rows_of (found_of matches.now))) result }
 {
@@ -77,6 +83,7 @@ fn copies(alloc: Global, texts: &[&str]) -> Result<Vec<String>, AllocError>
     Ok(copies)
 }
 
+/// The texts of an argument.
 pub fn texts_of(
     alloc: Global,
     matches: &ArgMatches<'_>,
@@ -175,7 +182,8 @@ pub fn read_words<'a>(alloc: Global, words: &'a [String]) -> Result<Request<'a>,
     ensures asked { IfOk result (IsRequest (named (map string_bytes words.now))) }
     ensures fit { OnOk result (AreFit (map string_bytes words.now)) }
     ensures refused { IsErrOf result WordFault.Usage → ¬ AreFit (map string_bytes words.now) }
-    ensures usage { IsErrOf result WordFault.Usage → (takes cub_app (map string_bytes words.now) ≢ true) ⊎ (words_overwrite (named (map string_bytes words.now)) ≡ true) }
+    ensures usage { IsErrOf result WordFault.Usage → (takes cub_app (map string_bytes words.now) ≢ true)
+        ⊎ (words_overwrite (named (map string_bytes words.now)) ≡ true) }
 {
     let matches = matches_of(alloc, words)?;
     let (name, given) = matches.subcommand().unwrap();

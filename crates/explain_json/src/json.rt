@@ -6,7 +6,8 @@ use explain_case::{
     storage_of, subject, token_at,
 };
 use explain_facts::{CallSite, Touch, Verdict};
-use explain_notes::{Marked, marks_of, notes_of, put_head, shown_first, told_at};
+use explain_heads::{Marked, marks_of, put_head, shown_first, told_at};
+use explain_notes::notes_of;
 use explain_page::{Page, Stretch, empty, put_number, put_type};
 use explain_places::{declaration_of, function_of, token_of};
 use explain_refusal::{Refusal, Rule, does_of, put_said, refusal_notes};

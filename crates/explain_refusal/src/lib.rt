@@ -1,13 +1,13 @@
-//! The program of a text with tokens in place of lines, or why there is none, in words.
+//! Why a text has no program, in words.
 #![tactic(auto)]
 
 mod constant;
-mod program;
+mod reason;
 mod refused;
 mod syntax;
 mod typing;
 
-pub use program::{Refused, program_of, tokens_of};
+pub use reason::Refused;
 pub use refused::{
     Refusal, Rule, Saying, does_of, put_refusal, put_said, refusal_notes, refusal_of, unlexed,
 };

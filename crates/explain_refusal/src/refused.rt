@@ -2,7 +2,7 @@
 ghost use Rattle.std.specs.Prelude.{◌≤◌, ◌^◌, length};
 
 use crate::constant::{Constant, put_constant_hint, put_constant_object, put_constant_type};
-use crate::program::Refused;
+use crate::reason::Refused;
 use crate::syntax::unspelled;
 use crate::typing::not_typed;
 use explain_page::{Mark, Page, Stretch, empty, put_excerpt, put_long_note, put_marks};

@@ -1,6 +1,7 @@
 //! Why a run has its verdict, for a person.
 #![tactic(auto)]
 
+mod again;
 mod asked;
 mod explain;
 mod found;

@@ -76,19 +76,3 @@ all_permitted event against steps a i s at small =
 pub all_fair : (event against : Place) (steps : List Step) → AllSteps (IsChosen event against) steps → AllSteps (IsFair event against) steps
 all_fair event against steps a i s at small waiting =
     next_other (taken_in s.choices) (done_by (drop (suc i) steps)) (tree_in s) (pair_in (tree_in s) event against) s.place (sym (a i s at small)) waiting
-
--- the same event is chosen where the same events are done
-pub chosen_same : (event against : Place) (done : Place → Bool) (steps : List Step) (s : Step) → ((u : Place) → done u ≡ done_by steps u)
-    → IsChosen event against done s → IsChosen event against (done_by steps) s
-chosen_same event against done steps s e c = subst (λ d. IsChosen event against d s) (λ i u. e u i) c
-
--- no event so far
-pub none_chosen : (event against : Place) (steps : List Step) → steps ≡ [] → AllSteps (IsChosen event against) steps
-none_chosen event against [] e i s at = absurd (cc)
-none_chosen event against (t ∷ ts) e i s at = absurd (cc)
-
--- one event more
-pub chosen_more : (event against : Place) (steps : List Step) (s : Step) → AllSteps (IsChosen event against) steps →
-    IsChosen event against (done_by steps) s → AllSteps (IsChosen event against) (s ∷ steps)
-chosen_more event against steps s a c zero t at = subst (IsChosen event against (done_by steps)) (some_is s t at) c
-chosen_more event against steps s a c (suc i) t at = a i t at

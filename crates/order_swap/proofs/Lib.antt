@@ -1,5 +1,4 @@
 mod Choices
 mod Copies
-mod Listed
 mod Lists
 mod Places

@@ -63,10 +63,6 @@ module _ (test : Place → Bool) (ps : List Place) (i : ℕ) (d p : Place) (l : 
   pub not_here : test p ≡ false → first_place test (drop i ps) ≡ first_place test ps → first_place test (drop (i + 1) ps) ≡ first_place test ps
   not_here t h = sym (if_false (test p) _ _ t) ∙ sym step ∙ h
 
-pub nowhere : (test : Place → Bool) (ps : List Place) (n : ℕ) → length ps ≤ n → first_place test (drop n ps) ≡ first_place test ps →
-    None ≡ first_place test ps
-nowhere test ps n h e = ap (first_place test) (sym (drop_all n ps h)) ∙ e
-
 module _ (event against : Place) (ps : List Place) (i : ℕ) (d p : Place) (l : i < length ps) (at : p ≡ get_or ps i d)
     (h : in_order (drop i ps) event against ≡ in_order ps event against) where
   pub event_first : same_place p event ≡ true → record { first = event; second = against } ≡ in_order ps event against
@@ -83,7 +79,3 @@ module _ (event against : Place) (ps : List Place) (i : ℕ) (d p : Place) (l : 
   neither_first f g =
       sym (if_false (same_place p against) _ _ g) ∙ sym (if_false (same_place p event) _ _ f)
       ∙ sym (ap (λ z. in_order z event against) (at_front ps i d p l at)) ∙ h
-
-pub as_given : (event against : Place) (ps : List Place) (n : ℕ) → length ps ≤ n → in_order (drop n ps) event against ≡ in_order ps event against →
-    record { first = event; second = against } ≡ in_order ps event against
-as_given event against ps n h e = ap (λ z. in_order z event against) (sym (drop_all n ps h)) ∙ e

@@ -36,16 +36,6 @@ pub record Putting (k : ℕ) (tree : Tree) (old now : List Place) (number : ℕ)
   pub room : number + sizes ts ≡ k + size tree
   pub rest : now ++ operand_places number ts ≡ old ++ operand_places (suc k) (operands tree)
 
-pub begin : (k : ℕ) (tree : Tree) (old : List Place) (number : ℕ) (ts : Trees) → k + size tree < 2 ^ 32 → number ≡ min (k + 1) (2 ^ 32 - 1) →
-    ts ≡ operands tree → Putting k tree old old number ts
-begin k (node class us) old number ts h e q =
-    let n : number ≡ suc k = omega (arith, h, e) in
-    let s = ap sizes q in
-    record {
-      room = omega (arith, n, s);
-      rest = ap (λ z. old ++ operand_places z ts) n ∙ ap (λ z. old ++ operand_places (suc k) z) q;
-    }
-
 module _ (k : ℕ) (tree : Tree) (old now : List Place) (number : ℕ) (xs : List Typed) (i : ℕ) (small : k + size tree < 2 ^ 32)
     (p : Putting k tree old now number (trees_of (drop i xs))) where
   at : (x : Typed) → i < length xs → x ≡ get_or xs i x → Putting k tree old now number (more (tree_of x) (trees_of (drop (suc i) xs)))

@@ -10,5 +10,5 @@ mod words;
 
 pub use missing::Missing;
 pub use part::Part;
-pub use reason::{Reason, reason_of};
+pub use reason::{Reason, told};
 pub use words::{kind_of, part_of_number, part_of_word};

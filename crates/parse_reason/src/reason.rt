@@ -3,14 +3,12 @@
 use crate::around::{
     begins_type, is_mark, is_name, is_word, kind_before, spelling, takes_parentheses,
 };
-use crate::missing::{Missing, goes_on, missing_before};
+use crate::missing::Missing;
 use crate::part::Part;
 use crate::types::type_refused;
 use crate::words::{is_free_word, is_reserved_word, part_of_word};
 use c_lex::{Mark, TokenKind, Tokens, Word};
 use explain_places::{definition_before, open_before};
-use std::alloc::Global;
-use ub_base::NoMemory;
 
 /// Why no program goes on with a token. Tokens are named by their numbers.
 #[derive(Clone, Copy, PartialEq, Eq)]
@@ -204,8 +202,8 @@ fn unexpanded(tokens: &Tokens<'_>, at: u32) -> Option<Reason> {
     }
 }
 
-// A reason that the tokens around tell.
-fn told(tokens: &Tokens<'_>, at: u32) -> Option<Reason> {
+/// A reason that the tokens around this one tell.
+pub fn told(tokens: &Tokens<'_>, at: u32) -> Option<Reason> {
     if let Some(found) = unexpanded(tokens, at) {
         return Some(found);
     }
@@ -222,30 +220,4 @@ fn told(tokens: &Tokens<'_>, at: u32) -> Option<Reason> {
         Some(found) => Some(found),
         None => type_refused(tokens, at),
     }
-}
-
-// The reason of the end.
-fn end_reason(alloc: Global, tokens: &Tokens<'_>) -> Result<Reason, NoMemory> {
-    let end = tokens.len();
-    if let Some(open) = open_before(tokens, end) {
-        return Ok(Reason::Unclosed(open));
-    }
-    if goes_on(alloc, tokens, end, Missing::Semicolon)? {
-        return Ok(Reason::Missing(Missing::Semicolon));
-    }
-    Ok(Reason::Ended)
-}
-
-/// Why no program goes on with this token, which a parse of the tokens has refused; their count stands for the end.
-pub fn reason_of(alloc: Global, tokens: &Tokens<'_>, refused: u32) -> Result<Reason, NoMemory> {
-    if refused >= tokens.len() {
-        return end_reason(alloc, tokens);
-    }
-    if let Some(reason) = told(tokens, refused) {
-        return Ok(reason);
-    }
-    Ok(match missing_before(alloc, tokens, refused)? {
-        Some(missing) => Reason::Missing(missing),
-        None => Reason::Unexpected,
-    })
 }

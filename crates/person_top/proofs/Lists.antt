@@ -56,14 +56,6 @@ stops_later held [] m n end fault later stops = stops
 stops_later held (file ∷ files) m n end fault later (inl misses) = inl (misses_later held file m n end fault later misses)
 stops_later held (file ∷ files) m n end fault later (inr (bytes, whole, stops)) = inr (bytes, whole, stops_later held files m n end fault later stops)
 
--- nothing is fetched yet
-pub fetching_start : (held : Option Held) (reads : ℕ) (names texts : List (List ℕ)) → texts ≡ [] → Fetching held reads names reads texts names
-fetching_start held reads names texts none = record {
-  later = omega arith;
-  lists = λ more h. subst (λ all. AreLists held names (all ++ more)) (sym none) h;
-  stops = λ end fault h. h;
-}
-
 -- a further list is fetched
 pub fetching_next : (held : Option Held) (reads : ℕ) (names : List (List ℕ)) (now : ℕ) (texts : List (List ℕ)) (name : List ℕ) (left : List (List ℕ))
     (next : ℕ) (text : List ℕ) → now ≤ next → IsWhole held (list_file name) text → Fetching held reads names now texts (name ∷ left)
@@ -73,12 +65,6 @@ fetching_next held reads names now texts name left next text later whole so = re
   lists = λ more h. subst (λ all. AreLists held names all) (sym (append_assoc texts (text ∷ []) more)) (so.lists (text ∷ more) (whole, h));
   stops = λ end fault h. so.stops end fault (inr (text, whole, stops_later held (map list_file left) now next end fault later h));
 }
-
--- a list is missed
-pub fetching_stops : (held : Option Held) (reads : ℕ) (names : List (List ℕ)) (now : ℕ) (texts : List (List ℕ)) (name : List ℕ) (left : List (List ℕ))
-    (end : ℕ) (fault : FetchFault) → Misses held now end (list_file name) fault → Fetching held reads names now texts (name ∷ left)
-    → Stops held reads end (map list_file names) fault
-fetching_stops held reads names now texts name left end fault misses so = so.stops end fault (inl misses)
 
 -- all are fetched
 pub fetching_end : (held : Option Held) (reads : ℕ) (names : List (List ℕ)) (now : ℕ) (texts : List (List ℕ)) → Fetching held reads names now texts []

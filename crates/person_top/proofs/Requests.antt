@@ -2,11 +2,11 @@
 use Rattle.std.proofs.Common.{ℕ, ◌≤◌, List, codes, Option, Some, None, Result, Ok, Err, IfOk, arith}
 use Rattle.clap.specs.Walk.{Row, one_of}
 use Rattle.command.specs.Asked.{Spells}
-use Rattle.command.specs.PersonAsked.{IsExploration, IsPersonRequest, IsUncertified}
-use Rattle.command.specs.declared.person_request.Exploration.{Exploration}
-use Rattle.command.specs.declared.person_request.Exploration.TheVariants.{Errors, Static, Swap, Story}
-use Rattle.command.specs.declared.person_request.PersonRequest.{PersonRequest}
-use Rattle.command.specs.declared.person_request.PersonRequest.TheVariants.{Explain, Batch, Help, Version, Explore}
+use Rattle.person_command.specs.PersonAsked.{IsExploration, IsPersonRequest, IsUncertified}
+use Rattle.person_command.specs.declared.person_request.Exploration.{Exploration}
+use Rattle.person_command.specs.declared.person_request.Exploration.TheVariants.{Errors, Static, Swap, Story}
+use Rattle.person_command.specs.declared.person_request.PersonRequest.{PersonRequest}
+use Rattle.person_command.specs.declared.person_request.PersonRequest.TheVariants.{Explain, Batch, Help, Version, Explore}
 use Rattle.command.specs.declared.request.AuditRequest.{AuditRequest}
 use Rattle.person_top.specs.Person.{IsBounded, IsBoundedAudit, IsBoundedLook}
 

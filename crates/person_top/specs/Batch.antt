@@ -13,7 +13,7 @@ use Rattle.audit_batch.specs.Moment.{Moment}
 use Rattle.audit_batch.specs.Runs.{Breaks, Names, Reaches, Says, names_in, run_for, stand}
 use Rattle.audit_batch.specs.declared.audit.Limits.{Limits}
 use Rattle.audit_batch.specs.declared.tally.Tally.{Tally}
-use Rattle.command.specs.declared.person_request.BatchRequest.{BatchRequest}
+use Rattle.person_command.specs.declared.person_request.BatchRequest.{BatchRequest}
 use Rattle.person_top.specs.Ends.{Answers, EndsForMemory, EndsTold}
 
 -- each run has these limits

@@ -3,12 +3,12 @@ use Rattle.std.specs.Prelude.{◌≡◌, ◌⊎◌, ◌≤◌, ℕ, List, [], �
 use Rattle.audit_batch.specs.Moment.{Moment}
 use Rattle.audit_batch.specs.Runs.{Says}
 use Rattle.audit_batch.specs.declared.audit.Limits.{Limits}
-use Rattle.command.specs.PersonAsked.{IsPersonName, IsPersonRequest, IsPersonTaken, person_named}
-use Rattle.command.specs.declared.person_request.ExplainRequest.{ExplainRequest}
-use Rattle.command.specs.declared.person_request.Exploration.{Exploration}
-use Rattle.command.specs.declared.person_request.Exploration.TheVariants.{Errors, Static, Swap, Story}
-use Rattle.command.specs.declared.person_request.PersonRequest.{PersonRequest}
-use Rattle.command.specs.declared.person_request.PersonRequest.TheVariants.{Explain, Batch, Help, Version, Explore}
+use Rattle.person_command.specs.PersonAsked.{IsPersonName, IsPersonRequest, IsPersonTaken, person_named}
+use Rattle.person_command.specs.declared.person_request.ExplainRequest.{ExplainRequest}
+use Rattle.person_command.specs.declared.person_request.Exploration.{Exploration}
+use Rattle.person_command.specs.declared.person_request.Exploration.TheVariants.{Errors, Static, Swap, Story}
+use Rattle.person_command.specs.declared.person_request.PersonRequest.{PersonRequest}
+use Rattle.person_command.specs.declared.person_request.PersonRequest.TheVariants.{Explain, Batch, Help, Version, Explore}
 use Rattle.command.specs.declared.request.AuditRequest.{AuditRequest}
 use Rattle.command_help.specs.Commands.{version_text}
 use Rattle.person_top.specs.Batch.{BatchEnds, limits_of}

@@ -9,7 +9,7 @@ use crate::list::{ListFault, fetch_lists, listed_runs};
 use crate::put::{WRITE_FAULT, put_no_memory, put_text};
 use audit_batch::{Auditor, BatchFault, Limits, Run, Tally, audit_all, named};
 use audit_sources::FetchFault;
-use command::BatchRequest;
+use person_command::BatchRequest;
 use std::alloc::{AllocError, Global};
 use ub_base::{Files, Sink};
 
@@ -71,7 +71,8 @@ fn audit_runs<A: Auditor, F: Files, O: Sink>(
 ) -> u8
     requires { request.now.steps ≤ 100000000 }
     ensures ends { RunsEnd (A.says auditor.now (limits_of request.now))
-        (moment (F.held files.old) (F.read_faults files.old) (F.write_faults files.old)) (moment (F.held files.new) (F.read_faults files.new) (F.write_faults files.new))
+        (moment (F.held files.old) (F.read_faults files.old) (F.write_faults files.old))
+        (moment (F.held files.new) (F.read_faults files.new) (F.write_faults files.new))
         (O.told out.old) (O.told out.new) (O.faults out.old) (O.faults out.new) result (map names_of runs.now) }
     ensures held { F.held files.new ≡ F.held files.old }
 {
@@ -105,7 +106,8 @@ fn batch_names<A: Auditor, F: Files, O: Sink>(
     requires steps { request.now.steps ≤ 100000000 }
     requires names { request.now.is_list ≡ false }
     ensures ends { BatchEnds (A.says auditor.now (limits_of request.now)) request.now
-        (moment (F.held files.old) (F.read_faults files.old) (F.write_faults files.old)) (moment (F.held files.new) (F.read_faults files.new) (F.write_faults files.new))
+        (moment (F.held files.old) (F.read_faults files.old) (F.write_faults files.old))
+        (moment (F.held files.new) (F.read_faults files.new) (F.write_faults files.new))
         (O.told out.old) (O.told out.new) (O.faults out.old) (O.faults out.new) result }
     ensures held { F.held files.new ≡ F.held files.old }
 {
@@ -126,7 +128,8 @@ fn batch_lists<A: Auditor, F: Files, O: Sink>(
     requires steps { request.now.steps ≤ 100000000 }
     requires lists { request.now.is_list ≡ true }
     ensures ends { BatchEnds (A.says auditor.now (limits_of request.now)) request.now
-        (moment (F.held files.old) (F.read_faults files.old) (F.write_faults files.old)) (moment (F.held files.new) (F.read_faults files.new) (F.write_faults files.new))
+        (moment (F.held files.old) (F.read_faults files.old) (F.write_faults files.old))
+        (moment (F.held files.new) (F.read_faults files.new) (F.write_faults files.new))
         (O.told out.old) (O.told out.new) (O.faults out.old) (O.faults out.new) result }
     ensures held { F.held files.new ≡ F.held files.old }
 {
@@ -150,7 +153,8 @@ pub fn batch<A: Auditor, F: Files, O: Sink>(
 ) -> u8
     requires { request.now.steps ≤ 100000000 }
     ensures ends { BatchEnds (A.says auditor.now (limits_of request.now)) request.now
-        (moment (F.held files.old) (F.read_faults files.old) (F.write_faults files.old)) (moment (F.held files.new) (F.read_faults files.new) (F.write_faults files.new))
+        (moment (F.held files.old) (F.read_faults files.old) (F.write_faults files.old))
+        (moment (F.held files.new) (F.read_faults files.new) (F.write_faults files.new))
         (O.told out.old) (O.told out.new) (O.faults out.old) (O.faults out.new) result }
     ensures held { F.held files.new ≡ F.held files.old }
 {

@@ -4,7 +4,7 @@ ghost use Rattle.audit_batch.specs.Moment.{moment};
 ghost use Rattle.person_top.specs.Ends.{EndsTold};
 
 use crate::put::{put_no_memory, put_text};
-use command::ExplainRequest;
+use person_command::ExplainRequest;
 use std::alloc::Global;
 use ub_base::{Bytes, Files, NoMemory, Sink};
 
@@ -19,7 +19,7 @@ pub struct Page {
 pub trait Explainer {
     ghost use Rattle.std.specs.Prelude.{◌≡◌, ◌≤◌, ℕ, List, None, IfOk, option_copied};
     ghost use Rattle.audit_batch.specs.Moment.{Moment, moment};
-    ghost use Rattle.command.specs.declared.person_request.ExplainRequest.{ExplainRequest};
+    ghost use Rattle.person_command.specs.declared.person_request.ExplainRequest.{ExplainRequest};
 
     /// Whether this request may have this status and this text, while the files went from one moment to the next.
     ghost explains: { Self → Moment → Moment → ExplainRequest → ℕ → List ℕ → Type 0 };
@@ -33,7 +33,8 @@ pub trait Explainer {
         requires steps { request.now.audit.steps ≤ 100000000 }
         requires cert { option_copied request.now.audit.cert ≡ None }
         ensures page { IfOk result (λ page. explains self.now
-            (moment (F.held files.old) (F.read_faults files.old) (F.write_faults files.old)) (moment (F.held files.new) (F.read_faults files.new) (F.write_faults files.new))
+            (moment (F.held files.old) (F.read_faults files.old) (F.write_faults files.old))
+            (moment (F.held files.new) (F.read_faults files.new) (F.write_faults files.new))
             request.now page.status page.text) }
         ensures held { F.held files.new ≡ F.held files.old };
 }
@@ -49,7 +50,8 @@ pub fn explain<A: Explainer, F: Files, O: Sink>(
     requires steps { request.now.audit.steps ≤ 100000000 }
     requires cert { option_copied request.now.audit.cert ≡ None }
     ensures ends { EndsTold (A.explains explainer.now
-        (moment (F.held files.old) (F.read_faults files.old) (F.write_faults files.old)) (moment (F.held files.new) (F.read_faults files.new) (F.write_faults files.new)) request.now)
+        (moment (F.held files.old) (F.read_faults files.old) (F.write_faults files.old))
+        (moment (F.held files.new) (F.read_faults files.new) (F.write_faults files.new)) request.now)
         (O.told out.old) (O.told out.new) (O.faults out.old) (O.faults out.new) result }
     ensures held { F.held files.new ≡ F.held files.old }
 {

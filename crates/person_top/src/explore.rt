@@ -5,7 +5,7 @@ ghost use Rattle.person_top.specs.Ends.{EndsByBoth, EndsOnBoth, device};
 ghost use Rattle.person_top.specs.Person.{IsBoundedLook};
 
 use crate::put::{WRITE_FAULT, put_no_memory, put_text};
-use command::Exploration;
+use person_command::Exploration;
 use std::alloc::Global;
 use ub_base::{Bytes, Failed, Files, NoMemory, Sink, put_all};
 
@@ -21,7 +21,7 @@ pub struct Sheet {
 pub trait Explorer {
     ghost use Rattle.std.specs.Prelude.{◌≡◌, ℕ, List, IfOk};
     ghost use Rattle.audit_batch.specs.Moment.{Moment, moment};
-    ghost use Rattle.command.specs.declared.person_request.Exploration.{Exploration};
+    ghost use Rattle.person_command.specs.declared.person_request.Exploration.{Exploration};
     ghost use Rattle.person_top.specs.Person.{IsBoundedLook};
 
     /// Whether this look may have this status, this text and these bytes for standard error, while the files went from one moment to the
@@ -36,7 +36,8 @@ pub trait Explorer {
     ) -> Result<Sheet, NoMemory>
         requires bounded { IsBoundedLook look.now }
         ensures sheet { IfOk result (λ sheet. explores self.now
-            (moment (F.held files.old) (F.read_faults files.old) (F.write_faults files.old)) (moment (F.held files.new) (F.read_faults files.new) (F.write_faults files.new))
+            (moment (F.held files.old) (F.read_faults files.old) (F.write_faults files.old))
+            (moment (F.held files.new) (F.read_faults files.new) (F.write_faults files.new))
             look.now sheet.status sheet.text sheet.errors) }
         ensures held { F.held files.new ≡ F.held files.old };
 }
@@ -44,7 +45,8 @@ pub trait Explorer {
 // Puts a text, and then the bytes on standard error.
 fn put_both<O: Sink, E: Sink>(sheet: &Sheet, out: &mut O, errors: &mut E) -> u8
     ensures { EndsByBoth (device (O.told out.old) (O.faults out.old)) (device (O.told out.new) (O.faults out.new))
-        (device (E.told errors.old) (E.faults errors.old)) (device (E.told errors.new) (E.faults errors.new)) result sheet.now.status sheet.now.text sheet.now.errors }
+        (device (E.told errors.old) (E.faults errors.old))
+        (device (E.told errors.new) (E.faults errors.new)) result sheet.now.status sheet.now.text sheet.now.errors }
 {
     match put_all(out, sheet.text.as_slice()) {
         Ok(()) => put_text(errors, sheet.errors.as_slice(), sheet.status),
@@ -63,7 +65,8 @@ pub fn explore<A: Explorer, F: Files, O: Sink, E: Sink>(
 ) -> u8
     requires { IsBoundedLook look.now }
     ensures ends { EndsOnBoth (A.explores explorer.now
-        (moment (F.held files.old) (F.read_faults files.old) (F.write_faults files.old)) (moment (F.held files.new) (F.read_faults files.new) (F.write_faults files.new)) look.now)
+        (moment (F.held files.old) (F.read_faults files.old) (F.write_faults files.old))
+        (moment (F.held files.new) (F.read_faults files.new) (F.write_faults files.new)) look.now)
         (device (O.told out.old) (O.faults out.old)) (device (O.told out.new) (O.faults out.new))
         (device (E.told errors.old) (E.faults errors.old)) (device (E.told errors.new) (E.faults errors.new)) result }
     ensures held { F.held files.new ≡ F.held files.old }

@@ -1,6 +1,6 @@
 // The top call of the commands for a person.
 ghost use Rattle.std.specs.Prelude.{◌↔◌, IsTrue, map, string_bytes, option_copied};
-ghost use Rattle.command.specs.PersonAsked.{IsExplorationName, IsPersonName};
+ghost use Rattle.person_command.specs.PersonAsked.{IsExplorationName, IsPersonName};
 ghost use Rattle.audit_batch.specs.Moment.{moment};
 ghost use Rattle.person_top.specs.Ends.{EndsTold, device};
 ghost use Rattle.person_top.specs.Person.{IsForPerson, PersonEnds, RequestEnds, IsBounded, IsVersion, tells};
@@ -13,8 +13,9 @@ use crate::help::help;
 use crate::put::{put_no_memory, put_text};
 use crate::words::asked;
 use audit_batch::Auditor;
-use command::{PersonRequest, WordFault};
+use command::WordFault;
 use command_help::version;
+use person_command::PersonRequest;
 use std::alloc::Global;
 use ub_base::{Files, Sink};
 
@@ -67,7 +68,8 @@ fn answer_to<A: Auditor + Explainer + Explorer, F: Files, O: Sink, E: Sink>(
 ) -> u8
     requires { IsBounded request.now }
     ensures { RequestEnds (tells (A.says engine.now) (A.explains engine.now) (A.explores engine.now))
-        (moment (F.held files.old) (F.read_faults files.old) (F.write_faults files.old)) (moment (F.held files.new) (F.read_faults files.new) (F.write_faults files.new))
+        (moment (F.held files.old) (F.read_faults files.old) (F.write_faults files.old))
+        (moment (F.held files.new) (F.read_faults files.new) (F.write_faults files.new))
         (device (O.told out.old) (O.faults out.old)) (device (O.told out.new) (O.faults out.new))
         (device (E.told errors.old) (E.faults errors.old)) (device (E.told errors.new) (E.faults errors.new)) result request.now }
 {
@@ -91,7 +93,8 @@ pub fn person_main<A: Auditor + Explainer + Explorer, F: Files, O: Sink, E: Sink
     errors: &mut E,
 ) -> u8
     ensures { PersonEnds (tells (A.says engine.now) (A.explains engine.now) (A.explores engine.now)) (map string_bytes words.now)
-        (moment (F.held files.old) (F.read_faults files.old) (F.write_faults files.old)) (moment (F.held files.new) (F.read_faults files.new) (F.write_faults files.new))
+        (moment (F.held files.old) (F.read_faults files.old) (F.write_faults files.old))
+        (moment (F.held files.new) (F.read_faults files.new) (F.write_faults files.new))
         (device (O.told out.old) (O.faults out.old)) (device (O.told out.new) (O.faults out.new))
         (device (E.told errors.old) (E.faults errors.old)) (device (E.told errors.new) (E.faults errors.new)) result }
 {

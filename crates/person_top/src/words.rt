@@ -1,9 +1,10 @@
 // What the words ask for.
 ghost use Rattle.std.specs.Prelude.{map, string_bytes, IfOk, IsErrOf};
-ghost use Rattle.command.specs.PersonAsked.{IsPersonTaken};
+ghost use Rattle.person_command.specs.PersonAsked.{IsPersonTaken};
 ghost use Rattle.person_top.specs.Person.{Asks, IsBounded};
 
-use command::{PersonRequest, WordFault, read_person_words};
+use command::WordFault;
+use person_command::{PersonRequest, read_person_words};
 use std::alloc::Global;
 
 /// What the words ask for.

@@ -1,7 +1,8 @@
 // The items of a pick that speak of an object, in order.
 ghost use Rattle.std.specs.Prelude.{◌≡◌, ◌≤◌, ◌++◌, ◌∷◌, List, IfOk, if◌then◌else◌};
 ghost use Rattle.ub_base.specs.declared.names.Item.{Item};
-ghost use Rattle.trace_story.specs.Told.{end_of, by_range, hull, item_rank, range_of, address_of, event_of, meeting, joined, placed, left, is_told, is_at, told_in};
+ghost use Rattle.trace_story.specs.Told.{end_of, by_range, hull, item_rank, range_of, address_of, event_of, meeting, joined, placed, left, is_told, is_at};
+ghost use Rattle.trace_story.specs.Told.{told_in};
 
 use addr_map::Row;
 use c_names::cmp_events;

@@ -7,10 +7,11 @@ use crate::lines::{Broken, earlier, undefined};
 use crate::startup::main_of;
 use crate::statics::{Checked, program_statics};
 use c_typed::{Function, Program};
+use c_types::Tags;
 use lawful_program::is_lawful;
 use std::alloc::Global;
 use type_reasons::Reason;
-use type_scope::{Definition, FunctionRow, Literal, Source, State, TypeFault};
+use type_scope::{Definition, FunctionRow, Literal, ObjectRow, Source, State, TypeFault};
 use ub_base::{Bytes, Items, NoMemory};
 
 /// Where each object with static storage stands, by the order of first declarations: those that are defined in the order of
@@ -108,17 +109,18 @@ fn program_literals(alloc: Global, rows: Vec<Literal>) -> Result<Items<Bytes>, N
     Ok(literals)
 }
 
-/// The program of all that is declared; faulty where something that is used isn't defined, where something that is defined is
-/// incomplete, where there is no `main` (5.1.2.2.1, 6.9p5), or where the program isn't lawful (own).
-pub fn finished(alloc: Global, source: &Source<'_>, state: State) -> Result<Program, TypeFault>
-    ensures main { IfOk result HasMain }
-    ensures main_type { IfOk result MainHasType }
-    ensures library { IfOk result LibraryIsExternal }
-    ensures literals { IfOk result LiteralsHaveBytes }
-    ensures complete { IfOk result StaticsAreComplete }
-    ensures numbered { IfOk result IsNumbered }
-    ensures lawful { IfOk result IsLawful }
-{
+// What a program is made of, of all that was declared.
+#[derive(Drop)]
+struct Parts {
+    tags: Tags,
+    objects: Vec<ObjectRow>,
+    functions: Vec<FunctionRow>,
+    literals: Vec<Literal>,
+    main: Option<u32>,
+}
+
+// Lets go of what only declarations need.
+fn parts_of(state: State) -> Parts {
     let State {
         alloc: _,
         names: _,
@@ -136,6 +138,30 @@ pub fn finished(alloc: Global, source: &Source<'_>, state: State) -> Result<Prog
         main,
         task: _,
     } = state;
+    Parts {
+        tags,
+        objects,
+        functions,
+        literals,
+        main,
+    }
+}
+
+// The program of its parts, which may still be unlawful.
+fn joined(alloc: Global, source: &Source<'_>, parts: Parts) -> Result<Program, TypeFault>
+    ensures main { IfOk result HasMain }
+    ensures main_type { IfOk result MainHasType }
+    ensures library { IfOk result LibraryIsExternal }
+    ensures literals { IfOk result LiteralsHaveBytes }
+    ensures complete { IfOk result StaticsAreComplete }
+{
+    let Parts {
+        tags,
+        objects,
+        functions,
+        literals,
+        main,
+    } = parts;
     let Checked { statics, fault } = program_statics(alloc, &tags, objects)?;
     if let Some(broken) = earlier(fault, first_fault(functions.as_slice())) {
         return Err(broken.into());
@@ -145,13 +171,27 @@ pub fn finished(alloc: Global, source: &Source<'_>, state: State) -> Result<Prog
         return Err(last_line(source, Reason::MainType));
     };
     let literals = program_literals(alloc, literals)?;
-    let program = Program {
+    Ok(Program {
         functions,
         statics,
         literals,
         tags,
         main,
-    };
+    })
+}
+
+/// The program of all that is declared; faulty where something that is used isn't defined, where something that is defined is
+/// incomplete, where there is no `main` (5.1.2.2.1, 6.9p5), or where the program isn't lawful (own).
+pub fn finished(alloc: Global, source: &Source<'_>, state: State) -> Result<Program, TypeFault>
+    ensures main { IfOk result HasMain }
+    ensures main_type { IfOk result MainHasType }
+    ensures library { IfOk result LibraryIsExternal }
+    ensures literals { IfOk result LiteralsHaveBytes }
+    ensures complete { IfOk result StaticsAreComplete }
+    ensures numbered { IfOk result IsNumbered }
+    ensures lawful { IfOk result IsLawful }
+{
+    let program = joined(alloc, source, parts_of(state))?;
     if is_lawful(alloc, &program)? {
         Ok(program)
     } else {

@@ -1,6 +1,7 @@
 use Rattle.std.proofs.Common.{option_copied}
 use Rattle.audit_batch.specs.Moment.{moment}
-use Rattle.audit_engine.proofs.Pages.{audited_line, leaves_unasked}
+use Rattle.audit_engine.proofs.Pages.{audited_line}
+use Rattle.audit_looks.proofs.Audits.{leaves_unasked}
 use Rattle.audit_engine.proofs.engine.audited.Goals as goal
 
 pub returns-clause-said : goal.returns-clause-said

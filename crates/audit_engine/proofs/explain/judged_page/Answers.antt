@@ -1,5 +1,6 @@
 use Rattle.std.proofs.Common.{option_copied}
-use Rattle.audit_engine.proofs.Pages.{judged_page, leaves_unasked}
+use Rattle.audit_engine.proofs.Pages.{judged_page}
+use Rattle.audit_looks.proofs.Audits.{leaves_unasked}
 use Rattle.audit_engine.proofs.explain.judged_page.Goals as goal
 
 pub returns-clause-page : goal.returns-clause-page

@@ -1,5 +1,5 @@
 use Rattle.std.proofs.Common.{map, string_bytes}
-use Rattle.command.specs.PersonAsked.{person_named}
+use Rattle.person_command.specs.PersonAsked.{person_named}
 use Rattle.person_top.proofs.Requests.{read_bounded}
 use Rattle.person_top.proofs.words.asked.Goals as goal
 

@@ -1,0 +1,5 @@
+pub mod Audits
+mod Reports
+mod StaticSheets
+mod Stories
+mod Swaps

@@ -1,0 +1,2 @@
+pub mod PersonApp
+pub mod PersonAsked
