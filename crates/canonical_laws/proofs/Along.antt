@@ -15,21 +15,21 @@ use Rattle.c_model.specs.Steps.{Begun, Control, Ev, Pick as Model_pick, event_of
 use Rattle.c_model.specs.World.{World}
 use Rattle.run_statements.specs.declared.numbers.Numbers.{Numbers}
 use Rattle.run_control.specs.View.{Meaning}
-use Rattle.run_code.specs.declared.nodes.NodeInfo.{NodeInfo}
-use Rattle.run_code.specs.declared.steps.Expression.{Expression as Laid}
+use Rattle.run_layout.specs.declared.nodes.NodeInfo.{NodeInfo}
+use Rattle.run_layout.specs.declared.steps.Expression.{Expression as Laid}
 use Rattle.run_state.specs.declared.halt.Halt.{Halt}
 use Rattle.run_state.specs.declared.halt.Halt.TheVariants as halt
 use Rattle.run_state.specs.declared.machine.Machine.{Machine}
 use Rattle.run_state.specs.declared.machine.Stage.{Stage}
-use Rattle.run_machine.specs.declared.pick.Completed.{Completed}
-use Rattle.run_machine.specs.declared.pick.Pick.{Pick}
-use Rattle.run_machine.specs.declared.pick.Pick.TheVariants as pick
-use Rattle.run_machine.specs.Answering.{newest_items}
-use Rattle.run_machine.specs.Completing.{CompletesIn, completed_seen}
-use Rattle.run_machine.specs.Library.{MayCallLibraryNext}
-use Rattle.run_machine.specs.Picks.{IsPick}
-use Rattle.run_machine.specs.Starting.{MayCallNext, MayStartNext, numbered}
-use Rattle.run_machine.specs.Taking.{MayTakeNext}
+use Rattle.run_answers.specs.declared.pick.Completed.{Completed}
+use Rattle.run_answers.specs.declared.pick.Pick.{Pick}
+use Rattle.run_answers.specs.declared.pick.Pick.TheVariants as pick
+use Rattle.run_answers.specs.Answering.{newest_items}
+use Rattle.run_answers.specs.Completing.{CompletesIn, completed_seen}
+use Rattle.run_answers.specs.Library.{MayCallLibraryNext}
+use Rattle.run_answers.specs.Picks.{IsPick}
+use Rattle.run_answers.specs.Starting.{MayCallNext, MayStartNext, numbered}
+use Rattle.run_answers.specs.Taking.{MayTakeNext}
 use Rattle.code_view.specs.Numbering.{meaning_of}
 use Rattle.value_facts.specs.Sources.{StepsPlaced}
 use Rattle.value_facts.specs.Unresulted.{StepsUnresulted}

@@ -11,15 +11,15 @@ use Rattle.run_state.specs.declared.halt.Halt.{Halt}
 use Rattle.run_state.specs.declared.machine.Machine.{Machine}
 use Rattle.run_state.specs.Stands.{Stands}
 use Rattle.run_control.specs.View.{Meaning}
-use Rattle.run_machine.specs.declared.pick.Pick.{Pick}
-use Rattle.run_machine.specs.Answering.{AnswersCanonical}
-use Rattle.run_machine.specs.Completing.{CompletesNext}
-use Rattle.run_machine.specs.Keeping.{KeepsPick}
-use Rattle.run_machine.specs.Library.{AnswersNextLibrary}
-use Rattle.run_machine.specs.LibraryCompletes.{CompletesNextLibrary}
-use Rattle.run_machine.specs.Picks.{IsPick}
-use Rattle.run_machine.specs.Starting.{AnswersNextBody, AnswersNextCall}
-use Rattle.run_machine.specs.Taking.{AnswersNext}
+use Rattle.run_answers.specs.declared.pick.Pick.{Pick}
+use Rattle.run_answers.specs.Answering.{AnswersCanonical}
+use Rattle.run_answers.specs.Completing.{CompletesNext}
+use Rattle.run_answers.specs.Keeping.{KeepsPick}
+use Rattle.run_answers.specs.Library.{AnswersNextLibrary}
+use Rattle.run_answers.specs.LibraryCompletes.{CompletesNextLibrary}
+use Rattle.run_answers.specs.Picks.{IsPick}
+use Rattle.run_answers.specs.Starting.{AnswersNextBody, AnswersNextCall}
+use Rattle.run_answers.specs.Taking.{AnswersNext}
 use Rattle.run_facts.specs.Going.{IsGoing}
 use Rattle.value_facts.specs.Held.{HoldsOnly, KeepsSmall}
 use Rattle.value_facts.specs.Sources.{IsPlaced}

@@ -6,9 +6,9 @@ use Rattle.c_model.specs.Program.{tree_of}
 use Rattle.c_model.specs.Runs.{Entry, Outcome, Running, State}
 use Rattle.c_model.specs.Steps.{Begun, Local, is_done, taken_by}
 use Rattle.c_model.specs.World.{World}
-use Rattle.run_machine.specs.declared.pick.Pick.{Pick}
-use Rattle.run_machine.specs.declared.pick.Pick.TheVariants as pick
-use Rattle.run_machine.specs.Completing.{completed_seen}
+use Rattle.run_answers.specs.declared.pick.Pick.{Pick}
+use Rattle.run_answers.specs.declared.pick.Pick.TheVariants as pick
+use Rattle.run_answers.specs.Completing.{completed_seen}
 
 -- 1. In the definitions.
 

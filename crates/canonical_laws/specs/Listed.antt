@@ -9,8 +9,8 @@ use Rattle.library_laws.specs.Called.{items_of}
 use Rattle.c_model.specs.Runs.{Entry, State}
 use Rattle.c_model.specs.World.{World}
 use Rattle.frame_numbers.specs.Numbers.{number_in}
-use Rattle.run_machine.specs.declared.pick.Pick.{Pick}
-use Rattle.run_machine.specs.declared.pick.Pick.TheVariants as pick
+use Rattle.run_answers.specs.declared.pick.Pick.{Pick}
+use Rattle.run_answers.specs.declared.pick.Pick.TheVariants as pick
 
 -- 1. Numbers of frames.
 

@@ -48,19 +48,19 @@ use Rattle.c_model.specs.Runs.{created_after}
 use Rattle.program_view.specs.Objects as view
 use Rattle.program_view.specs.Objects.{decl_of}
 use Rattle.run_objects.specs.Extents.{extent_of, extent_or_byte, has_constant_elements}
-use Rattle.run_code.specs.declared.expressions.Laid.{Laid}
-use Rattle.run_code.specs.declared.steps.BlockCode.{BlockCode}
-use Rattle.run_code.specs.declared.steps.FunctionCode.{FunctionCode}
-use Rattle.run_code.specs.declared.steps.ObjectCode.{ObjectCode}
-use Rattle.run_code.specs.declared.steps.Range.{Range}
-use Rattle.run_code.specs.declared.tables.Tables.{Tables}
-use Rattle.run_code.specs.Blocks.{AreBlocksFrom, AreObjectsFrom, IsBlockAt, IsBlockOf, IsObjectAt, IsObjectOf}
-use Rattle.run_code.specs.Blocks.{access_by, counted_by, firsts_from, objects_in, pointer_access, rows_of, rows_of_block}
-use Rattle.run_code.specs.Functions.{HasBlocks, laid_in}
-use Rattle.run_code.specs.Initializers.{HaveNumbers}
-use Rattle.run_code.proofs.Followed.{initializers_numbered, initializers_within}
-use Rattle.run_code.proofs.InTurn.{expression_at}
-use Rattle.run_code.specs.InRange.{IsBlock, part_of}
+use Rattle.run_layout.specs.declared.expressions.Laid.{Laid}
+use Rattle.run_layout.specs.declared.steps.BlockCode.{BlockCode}
+use Rattle.run_layout.specs.declared.steps.FunctionCode.{FunctionCode}
+use Rattle.run_layout.specs.declared.steps.ObjectCode.{ObjectCode}
+use Rattle.run_layout.specs.declared.steps.Range.{Range}
+use Rattle.run_layout.specs.declared.tables.Tables.{Tables}
+use Rattle.run_layout.specs.Blocks.{AreBlocksFrom, AreObjectsFrom, IsBlockAt, IsBlockOf, IsObjectAt, IsObjectOf}
+use Rattle.run_layout.specs.Blocks.{access_by, counted_by, firsts_from, objects_in, pointer_access, rows_of, rows_of_block}
+use Rattle.run_layout.specs.Functions.{HasBlocks, laid_in}
+use Rattle.run_layout.specs.Initializers.{HaveNumbers}
+use Rattle.run_layout.proofs.Followed.{initializers_numbered, initializers_within}
+use Rattle.run_layout.proofs.InTurn.{expression_at}
+use Rattle.run_layout.specs.InRange.{IsBlock, part_of}
 use Rattle.code_view.specs.Blocks.{BlocksStandInCode, ExpressionsStandInCode, OpenBlocksAreThere}
 use Rattle.code_view.specs.Blocks.{HasBlockAt, Made, StandsBlock, StandsObject, made_by, made_of, taken_at}
 use Rattle.code_view.specs.Numbering.{body_decls, decls_in, function_decls, row_decls}

@@ -14,9 +14,9 @@ use Rattle.c_typed.specs.declared.program.Program.{Program}
 use Rattle.c_typed.specs.Lawful.{IsLawful, FunctionIsLawful, BodyIsLawful, ExpressionIsLawful}
 use Rattle.c_typed.specs.Sites.{Expression, no_block, expressions}
 use Rattle.elaborate.specs.Expressions.{body_trees, full_trees}
-use Rattle.run_code.specs.declared.steps.Expression.{Expression as Laid}
-use Rattle.run_code.specs.declared.whole.Code.{Code}
-use Rattle.run_code.specs.Roots.{block_in, trees_in, code_trees}
+use Rattle.run_layout.specs.declared.steps.Expression.{Expression as Laid}
+use Rattle.run_layout.specs.declared.whole.Code.{Code}
+use Rattle.run_layout.specs.Roots.{block_in, trees_in, code_trees}
 use Rattle.code_view.specs.Known.{AreInOrder}
 use Rattle.code_view.proofs.Full.{body_full}
 use Rattle.code_view.proofs.Whole.{body_there, where_some, each_at, block_form}

@@ -21,18 +21,18 @@ use Rattle.c_typed.specs.Tree.{Tree, Trees, node, size, sizes, tree_of, trees_of
 use Rattle.c_typed.specs.Tree.{first_class, class_over, conversion_class, member_class}
 use Rattle.program_view.proofs.Seen.{operands_in, by_size, same_tree}
 use Rattle.elaborate.specs.Terms.{term_for}
-use Rattle.run_code.specs.declared.nodes.NodeInfo.{NodeInfo}
-use Rattle.run_code.specs.declared.steps.Act.{Act}
-use Rattle.run_code.specs.declared.steps.Due.{Due}
-use Rattle.run_code.specs.declared.steps.Expression.{Expression as Laid}
-use Rattle.run_code.specs.declared.steps.Listed.{Listed}
-use Rattle.run_code.specs.declared.steps.Listed.TheVariants as listed
-use Rattle.run_code.specs.declared.tables.Tables.{Tables}
-use Rattle.run_code.specs.EventActs.{head_at, sight_of, Sight, IsAct, IsEffect}
-use Rattle.run_code.specs.LaidOut.{IsLaidOut}
-use Rattle.run_code.specs.Listings.{event, entry_of, flat}
-use Rattle.run_code.specs.Numbered.{IsAt, AreBelow, AreNoted, AreNodes}
-use Rattle.run_code.specs.OfTrees.{listing_in, HasListing}
+use Rattle.run_layout.specs.declared.nodes.NodeInfo.{NodeInfo}
+use Rattle.run_layout.specs.declared.steps.Act.{Act}
+use Rattle.run_layout.specs.declared.steps.Due.{Due}
+use Rattle.run_layout.specs.declared.steps.Expression.{Expression as Laid}
+use Rattle.run_layout.specs.declared.steps.Listed.{Listed}
+use Rattle.run_layout.specs.declared.steps.Listed.TheVariants as listed
+use Rattle.run_layout.specs.declared.tables.Tables.{Tables}
+use Rattle.run_layout.specs.EventActs.{head_at, sight_of, Sight, IsAct, IsEffect}
+use Rattle.run_layout.specs.LaidOut.{IsLaidOut}
+use Rattle.run_layout.specs.Listings.{event, entry_of, flat}
+use Rattle.run_layout.specs.Numbered.{IsAt, AreBelow, AreNoted, AreNodes}
+use Rattle.run_layout.specs.OfTrees.{listing_in, HasListing}
 use Rattle.code_view.specs.Events.{IsOneOf, IsListedAt, stores, EventsAreOfClasses, EventsAreEvaluated, EffectsStore, EventsAreOfCode, EventsAreInCode}
 use Rattle.code_view.proofs.Whole.{each_at}
 use Rattle.code_view.proofs.Listed.{seen_root}

@@ -37,12 +37,12 @@ use Rattle.c_model.specs.Values.{Value, Int, Ptr, address_after, integer_of, tru
 use Rattle.c_model.specs.World.{World}
 use Rattle.program_view.specs.Trees.{expr_of, exprs_of, is_pointer, constant_head}
 use Rattle.program_view.proofs.Seen.{node_in, operands_in, own_type, head_in, expr_at, by_size, same_tree}
-use Rattle.run_code.specs.declared.steps.Operand.{Operand}
-use Rattle.run_code.specs.declared.steps.Operand.TheVariants as operand
-use Rattle.run_code.specs.AtOnce.{is_known, truth_of}
-use Rattle.run_code.specs.Branches.{IsChoiceOf, is_choice}
-use Rattle.run_code.specs.Chosen.{IsKnown, Views, ViewAll}
-use Rattle.run_code.specs.Resolved.{NodeResolved, node_resolved, tree_resolved, resolved, converted, member_of, constant_of, null_of, object_of}
+use Rattle.run_layout.specs.declared.steps.Operand.{Operand}
+use Rattle.run_layout.specs.declared.steps.Operand.TheVariants as operand
+use Rattle.run_layout.specs.AtOnce.{is_known, truth_of}
+use Rattle.run_layout.specs.Branches.{IsChoiceOf, is_choice}
+use Rattle.run_layout.specs.Chosen.{IsKnown, Views, ViewAll}
+use Rattle.run_layout.specs.Resolved.{NodeResolved, node_resolved, tree_resolved, resolved, converted, member_of, constant_of, null_of, object_of}
 use Rattle.code_view.specs.Known.{IsLawfulTree, TreesAreLawful, IsPlaced, NamedIsPlaced, CodeIsKnown}
 use Rattle.code_view.proofs.Viewed.{all_both}
 use Rattle.code_view.proofs.Own.{all_own}

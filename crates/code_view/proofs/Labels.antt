@@ -16,8 +16,8 @@ use Rattle.c_model.specs.Steps.{body_of}
 use Rattle.c_model.specs.World.{World}
 use Rattle.program_view.specs.Statements.{defined, definition}
 use Rattle.program_view.specs.View.{function_of}
-use Rattle.run_code.specs.declared.whole.Code.{Code}
-use Rattle.run_code.specs.Roots.{as_block, block_in, HasCode, HaveCode}
+use Rattle.run_layout.specs.declared.whole.Code.{Code}
+use Rattle.run_layout.specs.Roots.{as_block, block_in, HasCode, HaveCode}
 use Rattle.run_state.specs.Meaning.{StandsProgram}
 use Rattle.code_view.specs.Labels.{DefinedKeepLabels}
 use Rattle.code_view.proofs.Whole.{function_body}

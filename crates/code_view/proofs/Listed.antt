@@ -13,7 +13,7 @@ use Rattle.c_typed.specs.Lawful.{IsPlain, IsPlainTree, Root, root_of, operands_o
 use Rattle.c_typed.specs.Lawful.{SiteIsLawful, InitialFits, ExpressionIsLawful}
 use Rattle.c_typed.specs.Sites.{Head, Site, Seen, SeenNode, seen_node, seen_tree, type_seen, all_sites, seen, sites, Blocks, Expression, Use}
 use Rattle.c_typed.specs.Sites.{unused, tested, selects, returned, initializes}
-use Rattle.run_code.specs.Fitting.{AreLawful}
+use Rattle.run_layout.specs.Fitting.{AreLawful}
 use Rattle.code_view.proofs.Viewed.{all_both}
 
 -- the constants of an initializer list are lawful

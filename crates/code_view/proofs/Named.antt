@@ -42,8 +42,8 @@ use Rattle.program_view.specs.Trees.{expr_of, exprs_of, constant_head, is_pointe
 use Rattle.program_view.proofs.Seen.{node_in, operands_in, own_type, head_in, expr_at, by_size}
 use Rattle.run_acts.specs.Contents.{StandsAt}
 use Rattle.run_acts.proofs.Starting.{all_at}
-use Rattle.run_code.specs.declared.steps.BlockCode.{BlockCode}
-use Rattle.run_code.specs.EventActs.{head_at}
+use Rattle.run_layout.specs.declared.steps.BlockCode.{BlockCode}
+use Rattle.run_layout.specs.EventActs.{head_at}
 use Rattle.run_state.specs.declared.machine.Machine.{Machine}
 use Rattle.run_state.specs.Operands.{StandsObjects, is_open, IsThere, is_integer, IsNamed}
 use Rattle.run_state.specs.Stands.{StandsMemory, StandLocals}

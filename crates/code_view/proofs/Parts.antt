@@ -12,8 +12,8 @@ use Rattle.c_typed.specs.Lawful.{root_of, operands_of}
 use Rattle.c_typed.specs.Sites.{Site, Seen, SeenNode, seen_node, seen_tree, type_seen, all_sites, seen, sites, type_at}
 use Rattle.c_typed.specs.Tree.{size, sizes, tree_of, trees_of}
 use Rattle.program_view.proofs.Seen.{operands_in, own_type, by_size, size_at}
-use Rattle.run_code.specs.declared.nodes.NodeInfo.{NodeInfo}
-use Rattle.run_code.specs.Numbered.{IsAt, AreBelow, AreNoted, AreNodes}
+use Rattle.run_layout.specs.declared.nodes.NodeInfo.{NodeInfo}
+use Rattle.run_layout.specs.Numbered.{IsAt, AreBelow, AreNoted, AreNodes}
 use Rattle.code_view.proofs.Viewed.{all_both}
 use Rattle.code_view.proofs.Listed.{seen_root, sites_of}
 

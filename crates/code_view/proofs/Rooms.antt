@@ -21,25 +21,25 @@ use Rattle.c_model.specs.Program.{Expr, expr, Exprs, tree_of}
 use Rattle.c_model.specs.Steps.{at_node, at_node_among}
 use Rattle.program_view.specs.Trees.{expr_of, exprs_of, constant_head, is_pointer}
 use Rattle.program_view.proofs.Seen.{node_in, operands_in, own_type, head_in, expr_at, by_size, size_at, same_tree}
-use Rattle.run_code.specs.declared.nodes.NodeInfo.{NodeInfo}
-use Rattle.run_code.specs.declared.steps.Act.{Act}
-use Rattle.run_code.specs.declared.steps.Act.TheVariants as act
-use Rattle.run_code.specs.declared.steps.Due.{Due}
-use Rattle.run_code.specs.declared.steps.Expression.{Expression as Laid}
-use Rattle.run_code.specs.declared.steps.Listed.{Listed}
-use Rattle.run_code.specs.declared.steps.Listed.TheVariants as listed
-use Rattle.run_code.specs.declared.steps.Operand.{Operand}
-use Rattle.run_code.specs.declared.steps.Operand.TheVariants.{Done}
-use Rattle.run_code.specs.declared.tables.Tables.{Tables}
-use Rattle.run_code.specs.declared.whole.Code.{Code}
-use Rattle.run_code.specs.EventActs.{head_at, room_of, sight_of, Sight, IsValue, IsEffect, IsBody, IsAct, IsDue}
-use Rattle.run_code.specs.LaidOut.{LaidOutBy}
-use Rattle.run_code.specs.Numbered.{IsAt, AreBelow, AreNoted, AreNodes}
-use Rattle.run_code.specs.Rooms.{gives_old, IsOld, IsRoomedBy}
+use Rattle.run_layout.specs.declared.nodes.NodeInfo.{NodeInfo}
+use Rattle.run_layout.specs.declared.steps.Act.{Act}
+use Rattle.run_layout.specs.declared.steps.Act.TheVariants as act
+use Rattle.run_layout.specs.declared.steps.Due.{Due}
+use Rattle.run_layout.specs.declared.steps.Expression.{Expression as Laid}
+use Rattle.run_layout.specs.declared.steps.Listed.{Listed}
+use Rattle.run_layout.specs.declared.steps.Listed.TheVariants as listed
+use Rattle.run_layout.specs.declared.steps.Operand.{Operand}
+use Rattle.run_layout.specs.declared.steps.Operand.TheVariants.{Done}
+use Rattle.run_layout.specs.declared.tables.Tables.{Tables}
+use Rattle.run_layout.specs.declared.whole.Code.{Code}
+use Rattle.run_layout.specs.EventActs.{head_at, room_of, sight_of, Sight, IsValue, IsEffect, IsBody, IsAct, IsDue}
+use Rattle.run_layout.specs.LaidOut.{LaidOutBy}
+use Rattle.run_layout.specs.Numbered.{IsAt, AreBelow, AreNoted, AreNodes}
+use Rattle.run_layout.specs.Rooms.{gives_old, IsOld, IsRoomedBy}
 use Rattle.run_state.specs.Stands.{IsUpdate}
 use Rattle.code_view.specs.Events.{IsListedAt}
 use Rattle.code_view.specs.Rooms.{IsListedIn, IsUpdateRoomOf, kept_at, RoomsAreThere}
-use Rattle.run_code.specs.OfTrees.{listing_in}
+use Rattle.run_layout.specs.OfTrees.{listing_in}
 use Rattle.code_view.proofs.Events.{effects_store, head_root, in_part, behind as from_there}
 use Rattle.code_view.proofs.Listed.{seen_root}
 use Rattle.code_view.proofs.Parts.{same_node, operands_below}

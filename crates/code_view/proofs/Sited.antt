@@ -13,8 +13,8 @@ use Rattle.c_typed.specs.declared.tree.Change.TheVariants as change
 use Rattle.c_typed.specs.declared.tree.Node.TheOpen as shape
 use Rattle.c_typed.specs.Lawful.{There, IsPointer, AccessIs, StepsOver, UpdateTypes, TypesAre}
 use Rattle.c_typed.specs.Sites.{Head, Blocks}
-use Rattle.run_code.specs.EventActs.{pointed, change_access}
-use Rattle.run_code.specs.Fitting.{AccessFits, HeadFits, first_operand}
+use Rattle.run_layout.specs.EventActs.{pointed, change_access}
+use Rattle.run_layout.specs.Fitting.{AccessFits, HeadFits, first_operand}
 use Rattle.code_view.proofs.Listed.{HeadLists}
 
 by_access : (t : CType) (a b : Access) → b ≡ a → AccessFits a t → AccessFits b t

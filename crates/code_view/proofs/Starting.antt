@@ -10,7 +10,7 @@ use Rattle.c_model.specs.World.{Limits}
 use Rattle.program_view.specs.View.{main_values, standing_of}
 use Rattle.run_acts.proofs.Viewed.{as_viewed}
 use Rattle.run_statements.specs.declared.numbers.Numbers.{Numbers}
-use Rattle.run_code.specs.OfTrees.{ListsTrees}
+use Rattle.run_layout.specs.OfTrees.{ListsTrees}
 use Rattle.run_state.specs.Begins.{StartIsWithin, StartsAs}
 use Rattle.run_state.specs.Meaning.{StandsProgram, world_with}
 use Rattle.run_state.specs.declared.machine.Machine.{Machine}

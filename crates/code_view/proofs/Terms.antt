@@ -12,7 +12,7 @@ use Rattle.c_typed.specs.Tree.{Tree, Trees, node, none, more, size, kinds_of}
 use Rattle.core_ir.specs.Term.{Term, act, unseq, invoke, terms_from}
 use Rattle.elaborate.specs.Terms.{head_of, rest_of, choice_of, comma_of, node_term, term_for, terms_for}
 use Rattle.code_view.specs.Events.{IsOneOf}
-use Rattle.run_code.specs.Listings.{Entry, event, operand, continuation, flat, all_flat}
+use Rattle.run_layout.specs.Listings.{Entry, event, operand, continuation, flat, all_flat}
 
 -- the event is one of a node, in the tree whose root has the number k
 abbrev mutual

@@ -34,11 +34,12 @@ use Rattle.program_view.specs.View.{function_of}
 use Rattle.program_view.proofs.Equations.{stmt-block, definition-block}
 use Rattle.run_statements.specs.declared.numbers.Numbers.{Numbers}
 use Rattle.run_statements.specs.Bodies.{Stands, IsStatement}
-use Rattle.run_code.specs.declared.steps.Expression.{Expression as Laid}
-use Rattle.run_code.specs.declared.steps.FunctionCode.{FunctionCode}
-use Rattle.run_code.specs.declared.whole.Code.{Code}
-use Rattle.run_code.specs.Fitting.{AccessFits, SiteFits, TreeFits, StoreFits}
-use Rattle.run_code.specs.Roots.{as_block, block_in, trees_in, code_trees, IsCodeOf, AreCodeOf, IsNumberedBy}
+use Rattle.run_layout.specs.declared.steps.Expression.{Expression as Laid}
+use Rattle.run_layout.specs.declared.steps.FunctionCode.{FunctionCode}
+use Rattle.run_layout.specs.declared.whole.Code.{Code}
+use Rattle.run_layout.specs.Fitting.{AccessFits, SiteFits, TreeFits, StoreFits}
+use Rattle.run_layout.specs.Roots.{as_block, block_in, trees_in, code_trees}
+use Rattle.run_code.specs.Statements.{IsCodeOf, AreCodeOf, IsNumberedBy}
 use Rattle.run_state.specs.Meaning.{AccessSuits}
 use Rattle.code_view.specs.Numbering.{RowHas, root_by, row_decls, body_decls, function_decls, decls_in, switch_by, meaning_of}
 use Rattle.code_view.specs.Laws.{RootsStand, BodiesStand, SwitchesStand, TreesFit, ConstantsAreLawful, LawfulCodeStands}

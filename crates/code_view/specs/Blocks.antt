@@ -11,20 +11,20 @@ use Rattle.c_typed.specs.declared.tree.Typed.{Typed}
 use Rattle.elaborate.specs.Expressions.{block_trees}
 use Rattle.c_model.specs.Program.{Decl}
 use Rattle.c_model.specs.Runs.{created_after}
-use Rattle.run_code.specs.declared.nodes.NodeInfo.{NodeInfo}
-use Rattle.run_code.specs.declared.steps.BlockCode.{BlockCode}
-use Rattle.run_code.specs.declared.steps.Expression.{Expression as Laid}
-use Rattle.run_code.specs.declared.steps.FunctionCode.{FunctionCode}
-use Rattle.run_code.specs.declared.steps.ObjectCode.{ObjectCode}
-use Rattle.run_code.specs.declared.steps.StoreCode.{StoreCode}
-use Rattle.run_code.specs.declared.tables.Tables.{Tables}
-use Rattle.run_code.specs.declared.whole.Code.{Code}
-use Rattle.run_code.specs.Blocks.{firsts_from, rows_of_block}
-use Rattle.run_code.specs.Functions.{HaveBlocks, HaveExpressions, laid_in}
-use Rattle.run_code.specs.Initializers.{NumberInitializers, NumberWithin}
-use Rattle.run_code.specs.InRange.{part_of}
-use Rattle.run_code.specs.LaidOut.{LaidOutBy}
-use Rattle.run_code.specs.Roots.{block_in}
+use Rattle.run_layout.specs.declared.nodes.NodeInfo.{NodeInfo}
+use Rattle.run_layout.specs.declared.steps.BlockCode.{BlockCode}
+use Rattle.run_layout.specs.declared.steps.Expression.{Expression as Laid}
+use Rattle.run_layout.specs.declared.steps.FunctionCode.{FunctionCode}
+use Rattle.run_layout.specs.declared.steps.ObjectCode.{ObjectCode}
+use Rattle.run_layout.specs.declared.steps.StoreCode.{StoreCode}
+use Rattle.run_layout.specs.declared.tables.Tables.{Tables}
+use Rattle.run_layout.specs.declared.whole.Code.{Code}
+use Rattle.run_layout.specs.Blocks.{firsts_from, rows_of_block}
+use Rattle.run_layout.specs.Functions.{HaveBlocks, HaveExpressions, laid_in}
+use Rattle.run_layout.specs.Initializers.{NumberInitializers, NumberWithin}
+use Rattle.run_layout.specs.InRange.{part_of}
+use Rattle.run_layout.specs.LaidOut.{LaidOutBy}
+use Rattle.run_layout.specs.Roots.{block_in}
 use Rattle.run_state.specs.declared.machine.Machine.{Machine}
 use Rattle.run_state.specs.Operands.{IsThere, is_open}
 use Rattle.code_view.specs.Numbering.{decls_in}

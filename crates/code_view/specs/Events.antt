@@ -10,17 +10,17 @@ use Rattle.c_model.specs.Program.{Expr, tree_of}
 use Rattle.c_model.specs.Steps.{Scene}
 use Rattle.c_model.specs.World.{World}
 use Rattle.program_view.specs.Trees.{expr_of}
-use Rattle.run_code.specs.declared.nodes.NodeInfo.{NodeInfo}
-use Rattle.run_code.specs.declared.steps.Act.{Act}
-use Rattle.run_code.specs.declared.steps.Act.TheVariants as act
-use Rattle.run_code.specs.declared.steps.Due.{Due}
-use Rattle.run_code.specs.declared.steps.Expression.{Expression as Laid}
-use Rattle.run_code.specs.declared.steps.Listed.{Listed}
-use Rattle.run_code.specs.declared.steps.Listed.TheVariants as listed
-use Rattle.run_code.specs.declared.whole.Code.{Code}
-use Rattle.run_code.specs.Chosen.{Views}
-use Rattle.run_code.specs.LaidOut.{LaidOutBy, IsLaidOut}
-use Rattle.run_code.specs.OfTrees.{ListsTrees}
+use Rattle.run_layout.specs.declared.nodes.NodeInfo.{NodeInfo}
+use Rattle.run_layout.specs.declared.steps.Act.{Act}
+use Rattle.run_layout.specs.declared.steps.Act.TheVariants as act
+use Rattle.run_layout.specs.declared.steps.Due.{Due}
+use Rattle.run_layout.specs.declared.steps.Expression.{Expression as Laid}
+use Rattle.run_layout.specs.declared.steps.Listed.{Listed}
+use Rattle.run_layout.specs.declared.steps.Listed.TheVariants as listed
+use Rattle.run_layout.specs.declared.whole.Code.{Code}
+use Rattle.run_layout.specs.Chosen.{Views}
+use Rattle.run_layout.specs.LaidOut.{LaidOutBy, IsLaidOut}
+use Rattle.run_layout.specs.OfTrees.{ListsTrees}
 use Rattle.code_view.specs.Known.{AreInOrder, NamesArePlaced}
 
 -- the event is listed of the full expression

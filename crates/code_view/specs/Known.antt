@@ -13,10 +13,10 @@ use Rattle.mem_spec.specs.Acts.{base_in}
 use Rattle.c_model.specs.Steps.{Scene, name_of}
 use Rattle.c_model.specs.World.{World}
 use Rattle.program_view.specs.Trees.{expr_of}
-use Rattle.run_code.specs.declared.steps.Expression.{Expression as Laid}
-use Rattle.run_code.specs.declared.whole.Code.{Code}
-use Rattle.run_code.specs.Chosen.{Views}
-use Rattle.run_code.specs.Roots.{code_trees, roots_in}
+use Rattle.run_layout.specs.declared.steps.Expression.{Expression as Laid}
+use Rattle.run_layout.specs.declared.whole.Code.{Code}
+use Rattle.run_layout.specs.Chosen.{Views}
+use Rattle.run_layout.specs.Roots.{code_trees, roots_in}
 
 -- the full expressions of the code are those of the program's functions in turn, as `code_of` gives them
 abbrev pub AreInOrder : Program → Code → Type 0

@@ -8,9 +8,9 @@ use Rattle.c_model.specs.World.{World}
 use Rattle.run_control.specs.declared.statement.Statement.{Statement}
 use Rattle.run_statements.specs.declared.jumps.Jumps.{Jumps}
 use Rattle.run_statements.specs.Jumping.{HasJumps}
-use Rattle.run_code.specs.declared.steps.FunctionCode.{FunctionCode}
-use Rattle.run_code.specs.declared.whole.Code.{Code}
-use Rattle.run_code.specs.Roots.{HaveCode}
+use Rattle.run_layout.specs.declared.steps.FunctionCode.{FunctionCode}
+use Rattle.run_layout.specs.declared.whole.Code.{Code}
+use Rattle.run_layout.specs.Roots.{HaveCode}
 use Rattle.run_state.specs.Begins.{KeepsLabels}
 use Rattle.run_state.specs.Meaning.{StandsProgram}
 

@@ -11,11 +11,12 @@ use Rattle.program_view.specs.Trees.{expr_of}
 use Rattle.run_control.specs.View.{stmt_of}
 use Rattle.run_control.specs.Targets.{AllEqual, bodies}
 use Rattle.run_statements.specs.declared.numbers.Numbers.{Numbers}
-use Rattle.run_code.specs.declared.steps.Expression.{Expression as Laid}
-use Rattle.run_code.specs.declared.steps.FunctionCode.{FunctionCode}
-use Rattle.run_code.specs.declared.whole.Code.{Code}
-use Rattle.run_code.specs.Fitting.{TreeFits, AreFit}
-use Rattle.run_code.specs.Roots.{code_trees, IsNumberedBy}
+use Rattle.run_layout.specs.declared.steps.Expression.{Expression as Laid}
+use Rattle.run_layout.specs.declared.steps.FunctionCode.{FunctionCode}
+use Rattle.run_layout.specs.declared.whole.Code.{Code}
+use Rattle.run_layout.specs.Fitting.{TreeFits, AreFit}
+use Rattle.run_layout.specs.Roots.{code_trees}
+use Rattle.run_code.specs.Statements.{IsNumberedBy}
 use Rattle.run_state.specs.Meaning.{StandsProgram, StandsCode}
 use Rattle.code_view.specs.Numbering.{meaning_of}
 

@@ -13,11 +13,11 @@ use Rattle.c_model.specs.Program.{Expr, expr, Listed, tree_of}
 use Rattle.c_model.specs.Steps.{Scene}
 use Rattle.c_model.specs.World.{World}
 use Rattle.program_view.specs.Trees.{expr_of}
-use Rattle.run_code.specs.declared.nodes.NodeInfo.{NodeInfo}
-use Rattle.run_code.specs.declared.steps.Expression.{Expression as Laid}
-use Rattle.run_code.specs.Chosen.{Views}
-use Rattle.run_code.specs.EventActs.{head_at}
-use Rattle.run_code.specs.Numbered.{AreNodes}
+use Rattle.run_layout.specs.declared.nodes.NodeInfo.{NodeInfo}
+use Rattle.run_layout.specs.declared.steps.Expression.{Expression as Laid}
+use Rattle.run_layout.specs.Chosen.{Views}
+use Rattle.run_layout.specs.EventActs.{head_at}
+use Rattle.run_layout.specs.Numbered.{AreNodes}
 use Rattle.run_state.specs.declared.machine.Machine.{Machine}
 use Rattle.run_state.specs.Operands.{IsNamed, IsThere, StandsObjects}
 use Rattle.run_state.specs.Stands.{StandsMemory}

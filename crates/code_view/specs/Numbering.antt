@@ -14,8 +14,8 @@ use Rattle.program_view.specs.Objects.{decl_of}
 use Rattle.run_control.specs.View.{Meaning}
 use Rattle.run_statements.specs.declared.numbers.Numbers.{Numbers}
 use Rattle.run_statements.specs.Bodies.{body_of}
-use Rattle.run_code.specs.declared.steps.Expression.{Expression}
-use Rattle.run_code.specs.declared.whole.Code.{Code}
+use Rattle.run_layout.specs.declared.steps.Expression.{Expression}
+use Rattle.run_layout.specs.declared.whole.Code.{Code}
 
 -- a number stands for the objects of its block
 abbrev pub RowHas : List Tag → (ℕ → List Decl) → BlockRow → Type 0

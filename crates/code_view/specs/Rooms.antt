@@ -6,18 +6,18 @@ use Rattle.c_typed.specs.Tree.{size}
 use Rattle.c_model.specs.Program.{Expr, Exprs, tree_of}
 use Rattle.c_model.specs.Steps.{at_node}
 use Rattle.program_view.specs.Trees.{expr_of}
-use Rattle.run_code.specs.declared.nodes.NodeInfo.{NodeInfo}
-use Rattle.run_code.specs.declared.steps.Act.{Act}
-use Rattle.run_code.specs.declared.steps.Act.TheVariants as act
-use Rattle.run_code.specs.declared.steps.Due.{Due}
-use Rattle.run_code.specs.declared.steps.Expression.{Expression as Laid}
-use Rattle.run_code.specs.declared.steps.Listed.{Listed}
-use Rattle.run_code.specs.declared.steps.Listed.TheVariants as listed
-use Rattle.run_code.specs.declared.steps.Operand.{Operand}
-use Rattle.run_code.specs.declared.steps.Operand.TheVariants.{Done}
-use Rattle.run_code.specs.declared.whole.Code.{Code}
-use Rattle.run_code.specs.LaidOut.{LaidOutBy}
-use Rattle.run_code.specs.OfTrees.{ListsTrees, listing_in}
+use Rattle.run_layout.specs.declared.nodes.NodeInfo.{NodeInfo}
+use Rattle.run_layout.specs.declared.steps.Act.{Act}
+use Rattle.run_layout.specs.declared.steps.Act.TheVariants as act
+use Rattle.run_layout.specs.declared.steps.Due.{Due}
+use Rattle.run_layout.specs.declared.steps.Expression.{Expression as Laid}
+use Rattle.run_layout.specs.declared.steps.Listed.{Listed}
+use Rattle.run_layout.specs.declared.steps.Listed.TheVariants as listed
+use Rattle.run_layout.specs.declared.steps.Operand.{Operand}
+use Rattle.run_layout.specs.declared.steps.Operand.TheVariants.{Done}
+use Rattle.run_layout.specs.declared.whole.Code.{Code}
+use Rattle.run_layout.specs.LaidOut.{LaidOutBy}
+use Rattle.run_layout.specs.OfTrees.{ListsTrees, listing_in}
 use Rattle.run_state.specs.Stands.{IsUpdate}
 use Rattle.code_view.specs.Events.{stores}
 

@@ -12,9 +12,9 @@ use Rattle.c_model.specs.Program.{Standing}
 use Rattle.c_model.specs.World.{Limits}
 use Rattle.program_view.specs.View.{main_values, standing_of, world_of}
 use Rattle.run_statements.specs.declared.numbers.Numbers.{Numbers}
-use Rattle.run_code.specs.declared.whole.Code.{Code}
-use Rattle.run_code.specs.OfTrees.{AreTermsOf, ListsTrees}
-use Rattle.run_code.specs.Roots.{AreInBlocks}
+use Rattle.run_layout.specs.declared.whole.Code.{Code}
+use Rattle.run_layout.specs.OfTrees.{AreTermsOf, ListsTrees}
+use Rattle.run_layout.specs.Roots.{AreInBlocks}
 use Rattle.run_state.specs.Begins.{BeginsAsDefined, StartIsWithin, StartsAs}
 use Rattle.run_state.specs.Meaning.{world_with}
 use Rattle.run_state.specs.Stands.{HoldsAll}

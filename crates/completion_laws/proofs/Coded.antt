@@ -45,9 +45,9 @@ use Rattle.c_typed.specs.Sites.{Seen, SeenNode, seen_node, seen_tree}
 use Rattle.c_typed.specs.Tree.{Tree, Trees, node, none, more, size, sizes, tree_of, trees_of, is_quiet_class, class_of, kinds_of, node_class, typed_tree}
 use Rattle.c_typed.specs.Tree.{first_class, class_over, conversion_class, member_class}
 use Rattle.c_model.specs.Completions.{parent_in, parent_among}
-use Rattle.run_code.specs.declared.nodes.NodeInfo.{NodeInfo}
-use Rattle.run_code.specs.EventActs.{head_at, ends_with}
-use Rattle.run_code.specs.Numbered.{IsAt, AreBelow, AreNoted, AreNodes}
+use Rattle.run_layout.specs.declared.nodes.NodeInfo.{NodeInfo}
+use Rattle.run_layout.specs.EventActs.{head_at, ends_with}
+use Rattle.run_layout.specs.Numbered.{IsAt, AreBelow, AreNoted, AreNodes}
 use Rattle.completion_laws.proofs.Ahead.{among_first, among_rest, if_true, if_false}
 use Rattle.completion_laws.proofs.Lists.{other}
 use Rattle.completion_laws.proofs.Last.{class_in, class_among, class_root, class_below, class_first, class_rest, ends_at}

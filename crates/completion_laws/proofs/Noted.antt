@@ -54,15 +54,15 @@ use Rattle.c_model.specs.World.{World}
 use Rattle.c_model.proofs.Decided.{has_due}
 use Rattle.c_model.proofs.Listed.{same_place_eq}
 use Rattle.listing_laws.proofs.Agreeing.{lists_alike}
-use Rattle.run_code.specs.declared.nodes.NodeInfo.{NodeInfo}
-use Rattle.run_code.specs.declared.steps.Due.{Due}
-use Rattle.run_code.specs.declared.steps.Expression.{Expression}
-use Rattle.run_code.specs.declared.steps.Listed.{Listed}
-use Rattle.run_code.specs.declared.steps.Listed.TheVariants as listed
-use Rattle.run_code.specs.declared.tables.Tables.{Tables}
-use Rattle.run_code.specs.EventActs.{IsEntry}
-use Rattle.run_code.specs.LaidOut.{LaidOutBy}
-use Rattle.run_code.specs.OfTrees.{IsListingOf}
+use Rattle.run_layout.specs.declared.nodes.NodeInfo.{NodeInfo}
+use Rattle.run_layout.specs.declared.steps.Due.{Due}
+use Rattle.run_layout.specs.declared.steps.Expression.{Expression}
+use Rattle.run_layout.specs.declared.steps.Listed.{Listed}
+use Rattle.run_layout.specs.declared.steps.Listed.TheVariants as listed
+use Rattle.run_layout.specs.declared.tables.Tables.{Tables}
+use Rattle.run_layout.specs.EventActs.{IsEntry}
+use Rattle.run_layout.specs.LaidOut.{LaidOutBy}
+use Rattle.run_layout.specs.OfTrees.{IsListingOf}
 use Rattle.run_listing.specs.Along.{part_of, events_of}
 use Rattle.run_listing.specs.Cursor.{IsListed, StandsStraight}
 use Rattle.run_listing.specs.Straight.{PartsAlike, PartsFurther}

@@ -7,13 +7,13 @@ use Rattle.c_model.specs.Completions.{Completed, Incomplete, completed_by}
 use Rattle.c_model.specs.Program.{tree_of}
 use Rattle.c_model.specs.Steps.{Begun, Scene, is_done, taken_by}
 use Rattle.c_model.specs.World.{World}
-use Rattle.run_code.specs.declared.nodes.NodeInfo.{NodeInfo}
-use Rattle.run_code.specs.declared.steps.Due.{Due}
-use Rattle.run_code.specs.declared.steps.Expression.{Expression}
-use Rattle.run_code.specs.declared.steps.Listed.{Listed}
-use Rattle.run_code.specs.declared.steps.Listed.TheVariants as listed
-use Rattle.run_code.specs.declared.tables.Tables.{Tables}
-use Rattle.run_code.specs.LaidOut.{LaidOutBy}
+use Rattle.run_layout.specs.declared.nodes.NodeInfo.{NodeInfo}
+use Rattle.run_layout.specs.declared.steps.Due.{Due}
+use Rattle.run_layout.specs.declared.steps.Expression.{Expression}
+use Rattle.run_layout.specs.declared.steps.Listed.{Listed}
+use Rattle.run_layout.specs.declared.steps.Listed.TheVariants as listed
+use Rattle.run_layout.specs.declared.tables.Tables.{Tables}
+use Rattle.run_layout.specs.LaidOut.{LaidOutBy}
 use Rattle.run_listing.specs.Along.{part_of, events_of}
 use Rattle.run_listing.specs.Cursor.{IsListed, StandsStraight}
 use Rattle.completion_laws.specs.Completed.{with_above}

@@ -18,7 +18,7 @@ use Rattle.c_model.specs.Values.{Value, Int, Ptr, Fun, Whole, Missing, Nothing}
 use Rattle.c_model.specs.World.{World}
 use Rattle.value_facts.specs.Held.{HoldsOnly}
 use Rattle.value_facts.specs.Sources.{IsPlaced}
-use Rattle.run_machine.specs.Passing.{FitsAt, TakesValue, align_by, seen_by, size_by}
+use Rattle.run_answers.specs.Passing.{FitsAt, TakesValue, align_by, seen_by, size_by}
 use Rattle.argument_laws.specs.Arguments.{ArgumentsAreTaken, ArgumentsAreThere, HaveArguments}
 use Rattle.argument_laws.specs.Taking.{FitsPlace, TakesArgument, bytes_by, multiple_by, sees}
 use Rattle.control_laws.specs.Asked.{ArgumentsAreAsked}

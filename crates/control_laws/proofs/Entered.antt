@@ -21,8 +21,8 @@ use Rattle.c_model.specs.World.{World}
 use Rattle.program_view.specs.Objects.{decl_of}
 use Rattle.program_view.specs.Statements.{stmt_of}
 use Rattle.program_view.specs.Text.{Text, TextIsKept, block_by, text_of}
-use Rattle.run_code.specs.Blocks.{rows_of_block}
-use Rattle.run_code.specs.Roots.{block_in}
+use Rattle.run_layout.specs.Blocks.{rows_of_block}
+use Rattle.run_layout.specs.Roots.{block_in}
 use Rattle.frame_laws.specs.Scopes.{BodyFits}
 use Rattle.frame_laws.specs.Frames.{AreOrdered, IsFresh, IsInBody, IsOfFunction, IsOfInitializer, IsOutermost, IsScoped, function_round, number_of}
 use Rattle.control_laws.proofs.Laws.{body_there, each_at, where_some}

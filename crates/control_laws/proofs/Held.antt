@@ -11,17 +11,17 @@ use Rattle.c_model.specs.Steps.{Begun, Local}
 use Rattle.c_model.specs.World.{World}
 use Rattle.run_control.specs.declared.work.Work.{Work}
 use Rattle.run_control.specs.View.{Meaning}
-use Rattle.run_code.specs.declared.steps.BlockCode.{BlockCode}
-use Rattle.run_code.specs.OfTrees.{ListsTrees}
-use Rattle.run_code.specs.Roots.{HaveCode}
+use Rattle.run_layout.specs.declared.steps.BlockCode.{BlockCode}
+use Rattle.run_layout.specs.OfTrees.{ListsTrees}
+use Rattle.run_layout.specs.Roots.{HaveCode}
 use Rattle.run_statements.specs.declared.numbers.Numbers.{Numbers}
 use Rattle.run_state.specs.declared.machine.Machine.{Machine}
 use Rattle.run_state.specs.declared.machine.Open.{Open}
 use Rattle.run_state.specs.declared.machine.Stage.{Stage}
 use Rattle.run_state.specs.Meaning.{StandsProgram}
 use Rattle.run_state.specs.Stands.{IsAbove, SeesLocals, StandFrames, StandsBegun, StandsFrame}
-use Rattle.run_machine.specs.Ending.{HasRoomBelow, HasRoomIn, KeepToRooms, KeepsTo}
-use Rattle.run_machine.specs.Entering.{AreBelow, KeepPlaces}
+use Rattle.run_answers.specs.Ending.{HasRoomBelow, HasRoomIn, KeepToRooms, KeepsTo}
+use Rattle.run_answers.specs.Entering.{AreBelow, KeepPlaces}
 use Rattle.frame_laws.specs.Facts.{AllWait}
 use Rattle.frame_laws.specs.Frames.{AreOrdered, function_round, objects_round, or_else}
 use Rattle.frame_laws.specs.Reached.{AllWaitNext, WaitsNext}

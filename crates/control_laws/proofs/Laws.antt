@@ -17,8 +17,8 @@ use Rattle.c_model.specs.Runs.{State}
 use Rattle.c_model.specs.Steps.{body_of}
 use Rattle.c_model.specs.World.{World}
 use Rattle.program_view.specs.Text.{TextIsKept}
-use Rattle.run_code.specs.declared.steps.Listed.{Listed}
-use Rattle.run_code.specs.Roots.{as_block, block_in}
+use Rattle.run_layout.specs.declared.steps.Listed.{Listed}
+use Rattle.run_layout.specs.Roots.{as_block, block_in}
 use Rattle.run_control.specs.View.{Meaning}
 use Rattle.run_listing.specs.Along.{part_of}
 use Rattle.run_state.specs.declared.machine.Machine.{Machine}

@@ -18,22 +18,22 @@ use Rattle.c_model.specs.World.{World}
 use Rattle.c_model.proofs.FramesKeep.{due_lt}
 use Rattle.program_view.proofs.Seen.{same_tree}
 use Rattle.run_control.specs.View.{Meaning}
-use Rattle.run_code.specs.declared.nodes.NodeInfo.{NodeInfo}
-use Rattle.run_code.specs.declared.steps.Expression.{Expression as Laid}
-use Rattle.run_code.specs.declared.steps.Listed.{Listed}
-use Rattle.run_code.specs.Functions.{HasExpressions, HaveExpressions, laid_in}
-use Rattle.run_code.specs.Initializers.{NumberInitializers}
-use Rattle.run_code.specs.LaidOut.{LaidOutBy}
-use Rattle.run_code.specs.Named.{IsExpressionOf}
-use Rattle.run_code.specs.OfTrees.{ListsTrees, listing_in}
+use Rattle.run_layout.specs.declared.nodes.NodeInfo.{NodeInfo}
+use Rattle.run_layout.specs.declared.steps.Expression.{Expression as Laid}
+use Rattle.run_layout.specs.declared.steps.Listed.{Listed}
+use Rattle.run_layout.specs.Functions.{HasExpressions, HaveExpressions, laid_in}
+use Rattle.run_layout.specs.Initializers.{NumberInitializers}
+use Rattle.run_layout.specs.LaidOut.{LaidOutBy}
+use Rattle.run_layout.specs.Named.{IsExpressionOf}
+use Rattle.run_layout.specs.OfTrees.{ListsTrees, listing_in}
 use Rattle.run_listing.specs.Along.{part_of}
 use Rattle.run_state.specs.declared.machine.Machine.{Machine}
 use Rattle.run_state.specs.declared.machine.Open.{Open}
 use Rattle.run_state.specs.declared.machine.Stage.{Stage}
 use Rattle.run_state.specs.Stands.{IsUpdate, StandsExpression}
-use Rattle.run_machine.specs.Ending.{IsInRooms, IsRoomFree, IsUpdateRoom, stage_part}
-use Rattle.run_machine.specs.Taking.{HasRooms}
-use Rattle.run_machine.specs.Beginning.{IsAmong}
+use Rattle.run_answers.specs.Ending.{IsInRooms, IsRoomFree, IsUpdateRoom, stage_part}
+use Rattle.run_answers.specs.Taking.{HasRooms}
+use Rattle.run_answers.specs.Beginning.{IsAmong}
 use Rattle.control_laws.proofs.Bodies.{body_first, body_node}
 use Rattle.control_laws.proofs.Laws.{Laws, each_at, part_same, there_some}
 use Rattle.control_laws.proofs.Seen.{OfCode, firsts}

@@ -21,9 +21,9 @@ use Rattle.program_view.specs.Statements.{definition, stmt_of}
 use Rattle.program_view.specs.Text.{Text, TextIsKept, block_by, text_of}
 use Rattle.program_view.specs.View as view
 use Rattle.program_view.proofs.Equations.{definition-block, stmt-block}
-use Rattle.run_code.specs.Blocks.{firsts_from, rows_of, rows_of_block}
-use Rattle.run_code.specs.Functions.{HaveBlocks}
-use Rattle.run_code.specs.Roots.{block_in, HaveCode}
+use Rattle.run_layout.specs.Blocks.{firsts_from, rows_of, rows_of_block}
+use Rattle.run_layout.specs.Functions.{HaveBlocks}
+use Rattle.run_layout.specs.Roots.{block_in, HaveCode}
 use Rattle.run_state.specs.declared.machine.Machine.{Machine}
 use Rattle.run_state.specs.declared.machine.Open.{Open}
 use Rattle.run_state.specs.Meaning.{StandsProgram}

@@ -23,17 +23,17 @@ use Rattle.program_view.specs.Trees.{expr_of}
 use Rattle.run_control.specs.declared.work.Use.{Use}
 use Rattle.run_control.specs.declared.work.Use.TheVariants as for_use
 use Rattle.run_control.specs.View.{Meaning, is_nothing}
-use Rattle.run_code.specs.declared.steps.Expression.{Expression as Laid}
+use Rattle.run_layout.specs.declared.steps.Expression.{Expression as Laid}
 use Rattle.run_statements.specs.declared.numbers.Numbers.{Numbers}
 use Rattle.run_state.specs.declared.machine.Machine.{Machine}
 use Rattle.run_state.specs.declared.machine.Open.{Open}
 use Rattle.run_state.specs.declared.machine.Stage.{Stage}
 use Rattle.run_state.specs.Stands.{StandsBegun, StandsDone, StandsExpression}
 use Rattle.run_listing.specs.Cursor.{StandsStraight}
-use Rattle.run_machine.specs.Answering.{CanGoOn}
-use Rattle.run_machine.specs.Jumps.{HasCases}
-use Rattle.run_machine.specs.Settling.{CanSettle, GoesBehind, IsUsable}
-use Rattle.run_machine.specs.Taking.{StandsOpen}
+use Rattle.run_answers.specs.Answering.{CanGoOn}
+use Rattle.run_answers.specs.Jumps.{HasCases}
+use Rattle.run_answers.specs.Settling.{CanSettle, GoesBehind, IsUsable}
+use Rattle.run_answers.specs.Taking.{StandsOpen}
 use Rattle.code_view.specs.Named.{NamedIsOpen, NamesAreOpen, SlotIsOpen}
 use Rattle.frame_laws.specs.Facts.{IsBehind}
 use Rattle.frame_laws.specs.Frames.{open_blocks}

@@ -15,19 +15,19 @@ use Rattle.c_model.specs.Steps.{Local, body_of}
 use Rattle.c_model.specs.Values.{Value}
 use Rattle.c_model.specs.World.{World}
 use Rattle.program_view.specs.Statements.{stmt_of}
-use Rattle.run_code.specs.declared.steps.BlockCode.{BlockCode}
-use Rattle.run_code.specs.declared.steps.ObjectCode.{ObjectCode}
-use Rattle.run_code.specs.Blocks.{rows_of_block}
-use Rattle.run_code.specs.Chosen.{Views}
-use Rattle.run_code.specs.InRange.{part_of}
+use Rattle.run_layout.specs.declared.steps.BlockCode.{BlockCode}
+use Rattle.run_layout.specs.declared.steps.ObjectCode.{ObjectCode}
+use Rattle.run_layout.specs.Blocks.{rows_of_block}
+use Rattle.run_layout.specs.Chosen.{Views}
+use Rattle.run_layout.specs.InRange.{part_of}
 use Rattle.run_statements.specs.declared.numbers.Numbers.{Numbers}
 use Rattle.run_state.specs.declared.machine.Machine.{Machine}
 use Rattle.run_state.specs.declared.machine.Open.{Open}
 use Rattle.run_state.specs.Stands.{IsAbove, SeesLocals}
-use Rattle.run_machine.specs.Answering.{CanStep, CanTake, HasObjects, IsDeclared}
-use Rattle.run_machine.specs.Beginning.{CanBegin, next_turn}
-use Rattle.run_machine.specs.Entering.{AreBelow, Birth, CanEnter, CanEnterFirst, HasBirths, KeepPlaces, TakesAs, birth_in, birth_of}
-use Rattle.run_machine.specs.Jumps.{HasLabels}
+use Rattle.run_answers.specs.Answering.{CanStep, CanTake, HasObjects, IsDeclared}
+use Rattle.run_answers.specs.Beginning.{CanBegin, next_turn}
+use Rattle.run_answers.specs.Entering.{AreBelow, Birth, CanEnter, CanEnterFirst, HasBirths, KeepPlaces, TakesAs, birth_in, birth_of}
+use Rattle.run_answers.specs.Jumps.{HasLabels}
 use Rattle.code_view.specs.Blocks.{Made, StandsObject, made_by, made_of, taken_at}
 use Rattle.frame_laws.specs.Facts.{is_begin}
 use Rattle.frame_laws.specs.Frames.{open_blocks}

@@ -27,8 +27,8 @@ use Rattle.run_state.specs.declared.machine.Machine.{Machine}
 use Rattle.run_state.specs.declared.machine.Open.{Open}
 use Rattle.run_state.specs.Operands.{IsThere, StandsObjects, is_open}
 use Rattle.run_state.specs.Stands.{IsAbove, StandLocals, StandsFrame}
-use Rattle.run_machine.specs.Beginning.{next_turn}
-use Rattle.run_machine.specs.Ending.{CanEnd, HasRoomBelow, IsFunctionIn, KeepToRooms}
+use Rattle.run_answers.specs.Beginning.{next_turn}
+use Rattle.run_answers.specs.Ending.{CanEnd, HasRoomBelow, IsFunctionIn, KeepToRooms}
 use Rattle.code_view.specs.Blocks.{HasBlockAt}
 use Rattle.code_view.specs.Known.{AreInOrder}
 use Rattle.code_view.specs.Named.{NamedIsOpen, NamesAreOpen, SlotIsOpen}

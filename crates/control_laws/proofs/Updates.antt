@@ -17,21 +17,21 @@ use Rattle.c_model.specs.Program.{Expr, Exprs, expr, tree_of}
 use Rattle.c_model.specs.Steps.{Begun, at_node}
 use Rattle.program_view.specs.Trees.{expr_of, exprs_of, is_pointer}
 use Rattle.program_view.proofs.Seen.{expr_at, head_in, node_in, operands_in, own_type, same_tree}
-use Rattle.run_code.specs.declared.nodes.NodeInfo.{NodeInfo}
-use Rattle.run_code.specs.declared.steps.Act.{Act}
-use Rattle.run_code.specs.declared.steps.Act.TheVariants as act
-use Rattle.run_code.specs.declared.steps.Due.{Due}
-use Rattle.run_code.specs.declared.steps.Expression.{Expression}
-use Rattle.run_code.specs.declared.steps.Listed.{Listed}
-use Rattle.run_code.specs.declared.steps.Listed.TheVariants as listed
-use Rattle.run_code.specs.declared.steps.Operand.TheVariants.{Done}
-use Rattle.run_code.specs.declared.tables.Tables.{Tables}
-use Rattle.run_code.specs.EventActs.{IsAct, IsDue, IsEffect, Sight, head_at, room_of, sight_of}
-use Rattle.run_code.specs.LaidOut.{LaidOutBy}
+use Rattle.run_layout.specs.declared.nodes.NodeInfo.{NodeInfo}
+use Rattle.run_layout.specs.declared.steps.Act.{Act}
+use Rattle.run_layout.specs.declared.steps.Act.TheVariants as act
+use Rattle.run_layout.specs.declared.steps.Due.{Due}
+use Rattle.run_layout.specs.declared.steps.Expression.{Expression}
+use Rattle.run_layout.specs.declared.steps.Listed.{Listed}
+use Rattle.run_layout.specs.declared.steps.Listed.TheVariants as listed
+use Rattle.run_layout.specs.declared.steps.Operand.TheVariants.{Done}
+use Rattle.run_layout.specs.declared.tables.Tables.{Tables}
+use Rattle.run_layout.specs.EventActs.{IsAct, IsDue, IsEffect, Sight, head_at, room_of, sight_of}
+use Rattle.run_layout.specs.LaidOut.{LaidOutBy}
 use Rattle.run_listing.specs.Along.{IsListed, part_of}
 use Rattle.run_state.specs.Stands.{IsUpdate}
-use Rattle.run_events.proofs.Nodes.{head_is, node_is}
-use Rattle.run_machine.specs.Ending.{IsUpdateRoom}
+use Rattle.run_answers.proofs.Nodes.{head_is, node_is}
+use Rattle.run_answers.specs.Ending.{IsUpdateRoom}
 
 -- ---- an entry of a part is one of the whole
 taken_front : {A : Type 0} (n : ℕ) (xs : List A) (i : ℕ) (x : A) → slice_get (take n xs) i ≡ Some x → (i < n) × (slice_get xs i ≡ Some x)

@@ -10,13 +10,13 @@ use Rattle.c_model.specs.Steps.{Begun, Control, auto_name}
 use Rattle.c_model.specs.Values.{Value}
 use Rattle.c_model.specs.World.{World}
 use Rattle.run_statements.specs.declared.numbers.Numbers.{Numbers}
-use Rattle.run_code.specs.declared.nodes.NodeInfo.{NodeInfo}
-use Rattle.run_code.specs.declared.steps.Expression.{Expression as Laid}
-use Rattle.run_code.specs.Initializers.{NumberInitializers}
+use Rattle.run_layout.specs.declared.nodes.NodeInfo.{NodeInfo}
+use Rattle.run_layout.specs.declared.steps.Expression.{Expression as Laid}
+use Rattle.run_layout.specs.Initializers.{NumberInitializers}
 use Rattle.run_state.specs.declared.machine.Machine.{Machine}
 use Rattle.run_state.specs.declared.machine.Stage.{Stage}
-use Rattle.run_machine.specs.Answering.{MayGoOn}
-use Rattle.run_machine.specs.Passing.{TakesValue}
+use Rattle.run_answers.specs.Answering.{MayGoOn}
+use Rattle.run_answers.specs.Passing.{TakesValue}
 use Rattle.code_view.specs.Numbering.{meaning_of}
 use Rattle.run_laws.specs.Open.{IsLawfulCode, IsOpen}
 use Rattle.value_facts.specs.Small.{AreSmall, HasSmallBytes, ListsAreSmall}

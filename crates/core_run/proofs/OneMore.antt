@@ -8,8 +8,8 @@ use Rattle.c_model.specs.Runs.{Ends, No_row, Outcome, Over, Raises, Refused, Run
 use Rattle.c_model.specs.World.{World}
 use Rattle.frame_numbers.specs.Numbers.{NumbersStay, number_in}
 use Rattle.run_state.specs.declared.machine.Machine.{Machine}
-use Rattle.run_machine.specs.declared.pick.Pick.{Pick}
-use Rattle.run_machine.specs.declared.pick.Pick.TheVariants as pick
+use Rattle.run_answers.specs.declared.pick.Pick.{Pick}
+use Rattle.run_answers.specs.declared.pick.Pick.TheVariants as pick
 use Rattle.canonical_laws.specs.Along.{HasRowsOf}
 use Rattle.core_run.specs.Calls.{row_by}
 use Rattle.core_run.specs.Canonical.{Suits}

@@ -16,11 +16,11 @@ use Rattle.run_statements.specs.declared.numbers.Numbers.{Numbers}
 use Rattle.run_state.specs.declared.halt.Halt.{Halt}
 use Rattle.run_state.specs.declared.halt.Halt.TheVariants as halt
 use Rattle.run_state.specs.declared.machine.Machine.{Machine}
-use Rattle.run_machine.specs.declared.pick.Pick.{Pick}
-use Rattle.run_machine.specs.declared.pick.Pick.TheVariants as pick
-use Rattle.run_machine.specs.Raising.{RaisesNext}
-use Rattle.run_machine.specs.Rows.{GrowsNext}
-use Rattle.run_machine.specs.Starting.{numbered}
+use Rattle.run_answers.specs.declared.pick.Pick.{Pick}
+use Rattle.run_answers.specs.declared.pick.Pick.TheVariants as pick
+use Rattle.run_answers.specs.Raising.{RaisesNext}
+use Rattle.run_answers.specs.Rows.{GrowsNext}
+use Rattle.run_answers.specs.Starting.{numbered}
 use Rattle.c_model.specs.Completions.{Incomplete}
 use Rattle.control_laws.specs.Asked.{ArgumentsAreAsked}
 use Rattle.control_laws.specs.Control.{ControlGoesOn}

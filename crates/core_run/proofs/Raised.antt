@@ -12,14 +12,14 @@ use Rattle.c_model.specs.Steps.{Begun, Control, Ev, Pick as Model_pick, line_at,
 use Rattle.c_model.specs.World.{World}
 use Rattle.program_view.proofs.Seen.{expr_at}
 use Rattle.run_statements.specs.declared.numbers.Numbers.{Numbers}
-use Rattle.run_code.specs.declared.steps.Due.{Due}
+use Rattle.run_layout.specs.declared.steps.Due.{Due}
 use Rattle.run_state.specs.declared.halt.Halt.{Halt}
 use Rattle.run_state.specs.declared.halt.Halt.TheVariants as halt
 use Rattle.run_state.specs.declared.machine.Machine.{Machine}
-use Rattle.run_events.proofs.Nodes.{node_is}
-use Rattle.run_machine.specs.declared.pick.Pick.{Pick}
-use Rattle.run_machine.specs.Raising.{IsRaisedNext, RaisesNext}
-use Rattle.run_machine.specs.Rows.{GrowsNext}
+use Rattle.run_answers.proofs.Nodes.{node_is}
+use Rattle.run_answers.specs.declared.pick.Pick.{Pick}
+use Rattle.run_answers.specs.Raising.{IsRaisedNext, RaisesNext}
+use Rattle.run_answers.specs.Rows.{GrowsNext}
 use Rattle.code_view.specs.Numbering.{meaning_of}
 use Rattle.run_laws.proofs.Given.{entry_is, next_listed, root_is}
 use Rattle.control_laws.specs.Asked.{ArgumentsAreAsked}

@@ -21,10 +21,10 @@ use Rattle.run_state.specs.declared.halt.Halt.{Halt}
 use Rattle.run_state.specs.declared.halt.Halt.TheVariants as halt
 use Rattle.run_state.specs.declared.machine.Machine.{Machine}
 use Rattle.run_state.specs.Operands.{AreAddresses}
-use Rattle.run_machine.specs.declared.pick.Pick.{Pick}
-use Rattle.run_machine.specs.declared.pick.Pick.TheVariants as pick
-use Rattle.run_machine.specs.Answering.{MayGoOn}
-use Rattle.run_machine.specs.Rows.{GrowsNext, KeepsAnswered}
+use Rattle.run_answers.specs.declared.pick.Pick.{Pick}
+use Rattle.run_answers.specs.declared.pick.Pick.TheVariants as pick
+use Rattle.run_answers.specs.Answering.{MayGoOn}
+use Rattle.run_answers.specs.Rows.{GrowsNext, KeepsAnswered}
 use Rattle.code_view.specs.Numbering.{meaning_of}
 use Rattle.value_facts.specs.Small.{EndInTime}
 use Rattle.control_laws.specs.Asked.{ArgumentsAreAsked}

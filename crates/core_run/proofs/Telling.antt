@@ -4,8 +4,8 @@ use Rattle.std.specs.Prelude.{Option, Some, None}
 use Rattle.ub_base.specs.declared.names.Event.{Event}
 use Rattle.ub_base.specs.declared.names.Item.{Item}
 use Rattle.ub_base.specs.Frames.{Row}
-use Rattle.run_machine.specs.declared.pick.Pick.{Pick}
-use Rattle.run_machine.specs.declared.pick.Pick.TheVariants.{Step, Starts, Event as EventPick}
+use Rattle.run_answers.specs.declared.pick.Pick.{Pick}
+use Rattle.run_answers.specs.declared.pick.Pick.TheVariants.{Step, Starts, Event as EventPick}
 use Rattle.core_run.specs.declared.watch.Go.{Go}
 use Rattle.core_run.specs.declared.watch.Go.TheVariants.{On, Stop}
 use Rattle.core_run.specs.declared.watch.Ran.{Ran}

@@ -4,9 +4,9 @@ use Rattle.ub_base.specs.declared.names.Item.{Item}
 use Rattle.c_model.specs.Completions.{Completed as Model_completed}
 use Rattle.c_model.specs.Runs.{Entry, Outcome, Running, State, canonical_after, canonical_pick, step, trace_of}
 use Rattle.c_model.specs.World.{World}
-use Rattle.run_machine.specs.declared.pick.Completed.TheVariants as completion
-use Rattle.run_machine.specs.declared.pick.Pick.{Pick}
-use Rattle.run_machine.specs.declared.pick.Pick.TheVariants as pick
+use Rattle.run_answers.specs.declared.pick.Completed.TheVariants as completion
+use Rattle.run_answers.specs.declared.pick.Pick.{Pick}
+use Rattle.run_answers.specs.declared.pick.Pick.TheVariants as pick
 use Rattle.canonical_laws.specs.Completes.{completed_told, completed_with}
 use Rattle.canonical_laws.specs.Listed.{TellsEntry, event_told}
 use Rattle.core_run.specs.Calls.{Call, Heard, Tells, calls_of, picked}

@@ -16,11 +16,12 @@ use Rattle.core_ir.specs.Term.{Term, Terms, core_step, cores_step, terms_of, ter
 use Rattle.elaborate.specs.Expressions.{program_trees}
 use Rattle.elaborate.specs.Formed.{EachFormed}
 use Rattle.prov_memory.specs.Memory.{Kept, empty}
-use Rattle.run_code.specs.declared.whole.Code.{Code}
-use Rattle.run_code.specs.Fitting.{AreFit, TreeFits}
-use Rattle.run_code.specs.Functions.{HaveBlocks, HaveExpressions, laid_in}
-use Rattle.run_code.specs.OfTrees.{AreTermsOf, ListsTrees}
-use Rattle.run_code.specs.Roots.{AreInBlocks, HaveCode, IsNumberedBy, code_trees}
+use Rattle.run_layout.specs.declared.whole.Code.{Code}
+use Rattle.run_layout.specs.Fitting.{AreFit, TreeFits}
+use Rattle.run_layout.specs.Functions.{HaveBlocks, HaveExpressions, laid_in}
+use Rattle.run_layout.specs.OfTrees.{AreTermsOf, ListsTrees}
+use Rattle.run_layout.specs.Roots.{AreInBlocks, HaveCode, code_trees}
+use Rattle.run_code.specs.Statements.{IsNumberedBy}
 use Rattle.code_view.specs.Known.{AreInOrder}
 use Rattle.code_view.specs.Laws.{TreesAreFormed}
 use Rattle.mem_laws.specs.MoreRows.{Extends}

@@ -18,9 +18,9 @@ use Rattle.run_statements.specs.declared.numbers.Numbers.{Numbers}
 use Rattle.run_state.specs.declared.halt.Halt.{Halt}
 use Rattle.run_state.specs.declared.halt.Halt.TheVariants as halt
 use Rattle.run_state.specs.declared.machine.Machine.{Machine}
-use Rattle.run_machine.specs.declared.pick.Pick.{Pick}
-use Rattle.run_machine.specs.declared.pick.Pick.TheVariants as pick
-use Rattle.run_machine.specs.Starting.{numbered}
+use Rattle.run_answers.specs.declared.pick.Pick.{Pick}
+use Rattle.run_answers.specs.declared.pick.Pick.TheVariants as pick
+use Rattle.run_answers.specs.Starting.{numbered}
 use Rattle.canonical_laws.specs.Along.{IsAlong}
 use Rattle.canonical_laws.specs.Listed.{NumbersAre, TopIsListed, event_of}
 use Rattle.core_run.specs.Calls.{Heard, row_by}

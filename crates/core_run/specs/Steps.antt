@@ -1,8 +1,8 @@
 -- What one pick adds to the counts of a run.
 use Rattle.std.specs.Prelude.{◌≡◌, ℕ, ◌+◌, List, [], ◌∷◌, ◌++◌, Option, ◌⊎◌}
 use Rattle.ub_base.specs.Frames.{Row}
-use Rattle.run_machine.specs.declared.pick.Pick.{Pick}
-use Rattle.run_machine.specs.declared.pick.Pick.TheVariants.{Step, Starts, Event}
+use Rattle.run_answers.specs.declared.pick.Pick.{Pick}
+use Rattle.run_answers.specs.declared.pick.Pick.TheVariants.{Step, Starts, Event}
 use Rattle.core_run.specs.Calls.{Heard, GoesOn, AnswersEnd, row_by}
 use Rattle.core_run.specs.declared.watch.Ran.{Ran}
 use Rattle.core_run.specs.declared.watch.Ran.TheVariants.{Ended, Raised, Stopped, OutOfSteps, Outside}

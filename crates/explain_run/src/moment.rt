@@ -4,7 +4,7 @@ use crate::opened::opened_by;
 use explain_facts::{Aim, Moment, Shown};
 use exposure::Prov;
 use prov_memory::{MemByte, Value};
-use run_code::{Act, Listed, Operand};
+use run_layout::{Act, Listed, Operand};
 use run_machine::Machine;
 use ub_base::{Event, NoMemory, ObjName};
 

@@ -4,7 +4,7 @@ use c_typed::{Node, Typed};
 use c_types::LibFunc;
 use explain_facts::{Touch, Unallocated, node_at, operand_number};
 use prov_memory::Value;
-use run_code::Listed;
+use run_layout::Listed;
 use run_machine::Machine;
 use ub_base::{Event, Kind};
 

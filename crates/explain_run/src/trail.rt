@@ -4,7 +4,7 @@ use crate::nulls::unallocated;
 use crate::opened::opened_of;
 use c_typed::Slot;
 use explain_facts::{Named, Sought, Touch, Trail};
-use run_code::Range;
+use run_layout::Range;
 use run_machine::Machine;
 use std::alloc::Global;
 use ub_base::{Event, Item, NoMemory, ObjName};

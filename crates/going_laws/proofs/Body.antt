@@ -4,7 +4,7 @@ use Rattle.std.specs.Prelude.{if◌then◌else◌}
 use Rattle.ub_base.specs.declared.clause.Kind.TheVariants.{Val}
 use Rattle.c_typed.specs.Order.{Taken, is_due, place}
 use Rattle.c_model.specs.Program.{tree_of}
-use Rattle.run_machine.proofs.Given.{given_value, taken_given}
+use Rattle.run_answers.proofs.Given.{given_value, taken_given}
 use Rattle.going_laws.proofs.Steps.{BodyKeeps}
 
 pub body_keeps : BodyKeeps

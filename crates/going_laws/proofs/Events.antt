@@ -11,16 +11,16 @@ use Rattle.c_model.specs.Steps.{Begun, Ev, MayPick, Scene, with_given}
 use Rattle.c_model.specs.Values.{Value}
 use Rattle.c_model.specs.World.{World}
 use Rattle.seq_order.specs.Marked.{taken_in}
-use Rattle.run_code.specs.Chosen.{IsKept}
-use Rattle.run_code.specs.declared.whole.Code.{Code}
+use Rattle.run_layout.specs.Chosen.{IsKept}
+use Rattle.run_layout.specs.declared.whole.Code.{Code}
 use Rattle.run_statements.specs.declared.numbers.Numbers.{Numbers}
 use Rattle.run_state.specs.declared.machine.Machine.{Machine}
 use Rattle.run_state.specs.declared.machine.Open.{Open}
 use Rattle.run_state.specs.declared.machine.Stage.{Stage}
 use Rattle.run_state.specs.declared.watch.Begun.{Begun as Shown}
 use Rattle.run_state.specs.Stands.{Stands}
-use Rattle.run_machine.specs.Answering.{IsWithin}
-use Rattle.run_machine.specs.Taking.{StandsOpen, after_event, store_after}
+use Rattle.run_answers.specs.Answering.{IsWithin}
+use Rattle.run_answers.specs.Taking.{StandsOpen, after_event, store_after}
 use Rattle.code_view.specs.Numbering.{meaning_of}
 use Rattle.frame_laws.specs.Laws.{StepsOrdered}
 use Rattle.frame_laws.specs.Named.{LawfulIsScoped}

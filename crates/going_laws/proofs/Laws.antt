@@ -6,14 +6,14 @@ use Rattle.c_typed.specs.declared.tree.Place.{Place}
 use Rattle.c_model.specs.Runs.{Outcome, Running, State, canonical_after, canonical_pick, on_running, step}
 use Rattle.c_model.specs.Steps.{Begun, Ev, Local, MayPick}
 use Rattle.c_model.specs.World.{World}
-use Rattle.run_code.specs.Keeping.{KeepsAtBegin}
+use Rattle.run_layout.specs.Keeping.{KeepsAtBegin}
 use Rattle.run_statements.specs.declared.numbers.Numbers.{Numbers}
 use Rattle.run_state.specs.declared.machine.Machine.{Machine}
 use Rattle.run_state.specs.declared.machine.Stage.{Stage}
 use Rattle.run_state.specs.Stands.{Stands}
-use Rattle.run_machine.specs.Answering.{IsWithin}
-use Rattle.run_machine.specs.Picks.{BelowIsShown}
-use Rattle.run_machine.specs.Starting.{numbered, started_state}
+use Rattle.run_answers.specs.Answering.{IsWithin}
+use Rattle.run_answers.specs.Picks.{BelowIsShown}
+use Rattle.run_answers.specs.Starting.{numbered, started_state}
 use Rattle.code_view.specs.Numbering.{meaning_of}
 use Rattle.frame_laws.specs.Laws.{StepsOrdered}
 use Rattle.frame_laws.specs.Named.{LawfulIsScoped}

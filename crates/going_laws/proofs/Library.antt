@@ -14,19 +14,19 @@ use Rattle.c_model.specs.Runs.{State}
 use Rattle.c_model.specs.Steps.{Begun}
 use Rattle.c_model.specs.World.{World}
 use Rattle.run_control.specs.View.{Meaning}
-use Rattle.run_code.specs.Choices.{ChoosesAt}
-use Rattle.run_code.specs.declared.nodes.NodeInfo.{NodeInfo}
-use Rattle.run_code.specs.declared.steps.Due.{Due}
-use Rattle.run_code.specs.declared.steps.Expression.{Expression as Laid}
-use Rattle.run_code.specs.declared.steps.Listed.TheVariants as listed
+use Rattle.run_layout.specs.Choices.{ChoosesAt}
+use Rattle.run_layout.specs.declared.nodes.NodeInfo.{NodeInfo}
+use Rattle.run_layout.specs.declared.steps.Due.{Due}
+use Rattle.run_layout.specs.declared.steps.Expression.{Expression as Laid}
+use Rattle.run_layout.specs.declared.steps.Listed.TheVariants as listed
 use Rattle.run_statements.specs.declared.numbers.Numbers.{Numbers}
 use Rattle.run_state.specs.declared.machine.Machine.{Machine}
 use Rattle.run_state.specs.declared.machine.Stage.{Stage}
 use Rattle.run_state.specs.declared.watch.Begun.{Begun as Shown}
-use Rattle.run_machine.specs.Ending.{NotesWay}
-use Rattle.run_machine.specs.Library.{TakesCall}
-use Rattle.run_machine.specs.Picks.{at_cursor}
-use Rattle.run_machine.specs.Taking.{Decides, DecidesBy}
+use Rattle.run_answers.specs.Ending.{NotesWay}
+use Rattle.run_answers.specs.Library.{TakesCall}
+use Rattle.run_answers.specs.Picks.{at_cursor}
+use Rattle.run_answers.specs.Taking.{Decides, DecidesBy}
 use Rattle.code_view.specs.Numbering.{meaning_of}
 use Rattle.frame_laws.specs.Laws.{StepsOrdered}
 use Rattle.frame_laws.specs.Named.{LawfulIsScoped}

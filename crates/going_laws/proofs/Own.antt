@@ -3,14 +3,14 @@ use Rattle.std.proofs.Common.{arith, ◌≡◌, ◌+◌, ◌-◌, ◌<◌, ℕ, 
 use Rattle.std.proofs.Common.{subst}
 use Rattle.c_typed.specs.declared.program.Program.{Program}
 use Rattle.c_typed.specs.declared.tree.Typed.{Typed}
-use Rattle.run_code.specs.declared.nodes.NodeInfo.{NodeInfo}
-use Rattle.run_code.specs.declared.steps.Expression.{Expression as Laid}
-use Rattle.run_code.specs.declared.steps.FunctionCode.{FunctionCode}
-use Rattle.run_code.specs.declared.whole.Code.{Code}
-use Rattle.run_code.specs.Functions.{AreLaidFrom, IsLaidAt, laid_in}
-use Rattle.run_code.specs.LaidOut.{LaidOutBy}
+use Rattle.run_layout.specs.declared.nodes.NodeInfo.{NodeInfo}
+use Rattle.run_layout.specs.declared.steps.Expression.{Expression as Laid}
+use Rattle.run_layout.specs.declared.steps.FunctionCode.{FunctionCode}
+use Rattle.run_layout.specs.declared.whole.Code.{Code}
+use Rattle.run_layout.specs.Functions.{AreLaidFrom, IsLaidAt, laid_in}
+use Rattle.run_layout.specs.LaidOut.{LaidOutBy}
 use Rattle.run_statements.specs.declared.numbers.Numbers.{Numbers}
-use Rattle.run_machine.specs.Beginning.{IsAmong}
+use Rattle.run_answers.specs.Beginning.{IsAmong}
 use Rattle.run_facts.specs.SetUp.{IsItsCode}
 
 -- the full expression of this number, with the numbers of its function's objects and the nodes

@@ -3,14 +3,14 @@ use Rattle.std.proofs.Common.{arith, ◌≡◌, ◌+◌, ◌-◌, ◌<◌, ◌�
 use Rattle.std.proofs.Common.{refl, sym, ap, ◌∙◌}
 use Rattle.std.specs.Prelude.{min}
 use Rattle.ub_base.specs.declared.names.Event.{Event}
-use Rattle.run_code.specs.declared.steps.Due.{Due}
-use Rattle.run_code.specs.declared.steps.Operand.{Operand}
+use Rattle.run_layout.specs.declared.steps.Due.{Due}
+use Rattle.run_layout.specs.declared.steps.Operand.{Operand}
 use Rattle.run_state.specs.declared.machine.Machine.{Machine}
 use Rattle.run_state.specs.declared.machine.Open.{Open}
 use Rattle.run_state.specs.declared.machine.Stage.{Stage}
-use Rattle.run_events.specs.Opens.{StartsFunction, StartsInitializer, started_on}
-use Rattle.run_machine.specs.Picks.{at_cursor}
-use Rattle.run_machine.specs.Taking.{IsPast}
+use Rattle.run_answers.specs.Opens.{StartsFunction, StartsInitializer, started_on}
+use Rattle.run_answers.specs.Picks.{at_cursor}
+use Rattle.run_answers.specs.Taking.{IsPast}
 use Rattle.run_facts.specs.Frames.{Sees, SeesFunction, function_of}
 use Rattle.going_laws.proofs.Starts.{HasStarted}
 

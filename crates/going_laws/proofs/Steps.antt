@@ -22,22 +22,22 @@ use Rattle.program_view.proofs.Seen.{same_tree}
 use Rattle.seq_order.specs.Marked.{taken_in}
 use Rattle.run_control.specs.declared.work.Work.{Work}
 use Rattle.run_control.specs.View.{Meaning}
-use Rattle.run_code.specs.Chosen.{IsKept, Views, with_chosen}
-use Rattle.run_code.specs.InRange.{part_of}
-use Rattle.run_code.specs.Keeping.{KeepsAtBegin}
-use Rattle.run_code.specs.OfTrees.{HasListing}
-use Rattle.run_code.specs.declared.steps.Expression.{Expression as Laid}
-use Rattle.run_code.specs.declared.whole.Code.{Code}
+use Rattle.run_layout.specs.Chosen.{IsKept, Views, with_chosen}
+use Rattle.run_layout.specs.InRange.{part_of}
+use Rattle.run_layout.specs.Keeping.{KeepsAtBegin}
+use Rattle.run_layout.specs.OfTrees.{HasListing}
+use Rattle.run_layout.specs.declared.steps.Expression.{Expression as Laid}
+use Rattle.run_layout.specs.declared.whole.Code.{Code}
 use Rattle.run_statements.specs.declared.numbers.Numbers.{Numbers}
 use Rattle.run_state.specs.declared.machine.Machine.{Machine}
 use Rattle.run_state.specs.declared.machine.Open.{Open}
 use Rattle.run_state.specs.declared.machine.Stage.{Stage}
 use Rattle.run_state.specs.declared.watch.Begun.{Begun as Shown}
 use Rattle.run_state.specs.Stands.{IsAbove, Stands, StandFrames, StandsBegun, StandsExpression, StandsFrame}
-use Rattle.run_machine.specs.Answering.{CanGoOn, CanStep, CanTake, IsWithin, MayGoOn}
-use Rattle.run_machine.specs.Beginning.{CanBegin, IsAmong}
-use Rattle.run_machine.specs.Keeping.{BeginsExpression, EndsTop, KeepsFrames, KeepsStep, begins, ends, first_stage, frame_with, stays}
-use Rattle.run_machine.specs.Picks.{BelowIsShown, top_of}
+use Rattle.run_answers.specs.Answering.{CanGoOn, CanStep, CanTake, IsWithin, MayGoOn}
+use Rattle.run_answers.specs.Beginning.{CanBegin, IsAmong}
+use Rattle.run_answers.specs.Keeping.{BeginsExpression, EndsTop, KeepsFrames, KeepsStep, begins, ends, first_stage, frame_with, stays}
+use Rattle.run_answers.specs.Picks.{BelowIsShown, top_of}
 use Rattle.code_view.specs.Numbering.{meaning_of}
 use Rattle.frame_laws.specs.Laws.{StepsOrdered}
 use Rattle.frame_laws.specs.Named.{LawfulIsScoped}

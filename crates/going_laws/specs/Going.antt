@@ -13,18 +13,18 @@ use Rattle.c_model.specs.Runs.{Running, State, canonical_pick, step}
 use Rattle.c_model.specs.Steps.{Begun, Control, Ev, with_given}
 use Rattle.c_model.specs.Values.{Value}
 use Rattle.c_model.specs.World.{World}
-use Rattle.run_code.specs.declared.nodes.NodeInfo.{NodeInfo}
-use Rattle.run_code.specs.declared.steps.Due.{Due}
-use Rattle.run_code.specs.declared.steps.Expression.{Expression as Laid}
+use Rattle.run_layout.specs.declared.nodes.NodeInfo.{NodeInfo}
+use Rattle.run_layout.specs.declared.steps.Due.{Due}
+use Rattle.run_layout.specs.declared.steps.Expression.{Expression as Laid}
 use Rattle.run_statements.specs.declared.numbers.Numbers.{Numbers}
 use Rattle.run_state.specs.declared.machine.Machine.{Machine}
 use Rattle.run_state.specs.declared.machine.Stage.{Stage}
 use Rattle.run_state.specs.Stands.{Stands}
-use Rattle.run_machine.specs.Answering.{IsWithin, MayGoOn}
-use Rattle.run_machine.specs.Keeping.{KeepsStep}
-use Rattle.run_machine.specs.Library.{TakesCall}
-use Rattle.run_machine.specs.Starting.{CallsFunction, StartsIsolated, numbered}
-use Rattle.run_machine.specs.Taking.{StandsOpen, TakesEvent, after_event, store_after}
+use Rattle.run_answers.specs.Answering.{IsWithin, MayGoOn}
+use Rattle.run_answers.specs.Keeping.{KeepsStep}
+use Rattle.run_answers.specs.Library.{TakesCall}
+use Rattle.run_answers.specs.Starting.{CallsFunction, StartsIsolated, numbered}
+use Rattle.run_answers.specs.Taking.{StandsOpen, TakesEvent, after_event, store_after}
 use Rattle.code_view.specs.Numbering.{meaning_of}
 use Rattle.run_laws.specs.Open.{IsOpen}
 use Rattle.run_facts.specs.Going.{IsGoing}

@@ -6,9 +6,9 @@
 ghost use Rattle.going_laws.specs.Going.{EventGoesOn, LibraryGoesOn, InitializerGoesOn, CallGoesOn, StepGoesOn};
 
 use frame_laws::{law_ordered, law_reached, law_scoped};
-use run_code::law_choices;
+use run_answers::law_picks;
 use run_laws::law_open;
-use run_machine::law_picks;
+use run_layout::law_choices;
 
 /// Behind each canonical pick of a machine that is going, in a world in which its program's code and its rows keep the rules of a run, it is going again,
 /// with one pick more: behind an event that isn't a body (`events`), the body of a call of a library function (`libraries`), one that starts the frame

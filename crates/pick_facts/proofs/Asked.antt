@@ -20,16 +20,16 @@ use Rattle.c_model.proofs.FramesKeep.{due_lt}
 use Rattle.program_view.specs.Trees.{expr_of, exprs_of}
 use Rattle.program_view.proofs.Seen.{expr_at, head_in, node_in, operands_in, own_type, same_tree}
 use Rattle.run_control.specs.View.{Meaning}
-use Rattle.run_code.specs.declared.nodes.NodeInfo.{NodeInfo}
-use Rattle.run_code.specs.declared.steps.Due.{Due}
-use Rattle.run_code.specs.Roots.{AreInBlocks}
+use Rattle.run_layout.specs.declared.nodes.NodeInfo.{NodeInfo}
+use Rattle.run_layout.specs.declared.steps.Due.{Due}
+use Rattle.run_layout.specs.Roots.{AreInBlocks}
 use Rattle.run_statements.specs.declared.numbers.Numbers.{Numbers}
 use Rattle.run_state.specs.declared.machine.Machine.{Machine}
 use Rattle.run_state.specs.declared.machine.Stage.{Stage}
-use Rattle.run_events.proofs.Nodes.{node_is}
-use Rattle.run_machine.specs.Library.{HasFunctions}
-use Rattle.run_machine.specs.Picks.{ComesNext, FollowsCanonical}
-use Rattle.run_machine.specs.Starting.{AreCallable}
+use Rattle.run_answers.proofs.Nodes.{node_is}
+use Rattle.run_answers.specs.Library.{HasFunctions}
+use Rattle.run_answers.specs.Picks.{ComesNext, FollowsCanonical}
+use Rattle.run_answers.specs.Starting.{AreCallable}
 use Rattle.code_view.specs.Numbering.{meaning_of}
 use Rattle.run_laws.specs.Calls.{HasPlaces, IsCallBody}
 use Rattle.run_laws.specs.LibraryCalls.{CallsLibrary, OpenMayCallLibraryNext}

@@ -10,15 +10,15 @@ use Rattle.prov_memory.specs.declared.value.Value.{Value as Kept_value}
 use Rattle.run_control.specs.declared.work.Use.{Use}
 use Rattle.run_control.specs.declared.work.Use.TheVariants as for_use
 use Rattle.run_control.specs.View.{Meaning, use_of}
-use Rattle.run_code.specs.declared.steps.Operand.{Operand}
+use Rattle.run_layout.specs.declared.steps.Operand.{Operand}
 use Rattle.run_statements.specs.declared.numbers.Numbers.{Numbers}
 use Rattle.run_state.specs.declared.machine.Machine.{Machine}
 use Rattle.run_state.specs.declared.machine.Open.{Open}
 use Rattle.run_state.specs.declared.machine.Stage.{Stage}
 use Rattle.run_state.specs.Stands.{StandsBegun, StandsFrame}
-use Rattle.run_machine.specs.declared.pick.Completed.{Completed}
-use Rattle.run_machine.specs.Keeping.{EndsTop, KeepsFrames, KeepsStep, ResultAfter, ResultBehind, StaysClosed, begins, ends, machine_with, stays}
-use Rattle.run_machine.specs.Taking.{EventStands}
+use Rattle.run_answers.specs.declared.pick.Completed.{Completed}
+use Rattle.run_answers.specs.Keeping.{EndsTop, KeepsFrames, KeepsStep, ResultAfter, ResultBehind, StaysClosed, begins, ends, machine_with, stays}
+use Rattle.run_answers.specs.Taking.{EventStands}
 use Rattle.code_view.specs.Numbering.{meaning_of}
 use Rattle.value_facts.specs.Unresulted.{ResultIsLast}
 use Rattle.control_laws.proofs.Laws.{top_frame}

@@ -9,14 +9,14 @@ use Rattle.c_model.specs.World.{World}
 use Rattle.prov_memory.specs.declared.value.Value.{Value as Kept_value}
 use Rattle.prov_memory.specs.Memory.{Kept}
 use Rattle.run_control.specs.View.{Meaning}
-use Rattle.run_code.specs.declared.nodes.NodeInfo.{NodeInfo}
-use Rattle.run_code.specs.declared.steps.Expression.{Expression as Laid}
+use Rattle.run_layout.specs.declared.nodes.NodeInfo.{NodeInfo}
+use Rattle.run_layout.specs.declared.steps.Expression.{Expression as Laid}
 use Rattle.run_statements.specs.declared.numbers.Numbers.{Numbers}
 use Rattle.run_state.specs.declared.machine.Machine.{Machine}
 use Rattle.run_state.specs.declared.machine.Stage.{Stage}
 use Rattle.run_state.specs.Stands.{StandsFrame, result_seen}
-use Rattle.run_machine.specs.Taking.{AreLawful, StandsOpen, untouched}
-use Rattle.run_machine.proofs.Still.{items_stand}
+use Rattle.run_answers.specs.Taking.{AreLawful, StandsOpen, untouched}
+use Rattle.run_answers.proofs.Still.{items_stand}
 use Rattle.code_view.specs.Known.{AreInOrder, TreesAreLawful}
 use Rattle.code_view.specs.Laws.{ConstantsAreLawful}
 use Rattle.code_view.specs.Numbering.{meaning_of}

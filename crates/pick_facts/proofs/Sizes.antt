@@ -22,7 +22,7 @@ use Rattle.c_types.specs.Types.{CType}
 use Rattle.value_facts.specs.Constants.{AreSmallExprs, IsSmallExpr}
 use Rattle.value_facts.specs.Small.{AreSmall, EndInTime, IsSmall}
 use Rattle.value_facts.proofs.Nodes.{SmallIf, later_kept, node_small, quiet_small}
-use Rattle.run_events.specs.LibraryCalls.{are_call_sizes}
+use Rattle.run_answers.specs.LibraryCalls.{are_call_sizes}
 
 -- ---- the operands of a node are small
 module _ (world : World) (ends : EndInTime world.rows) (f : Scene) (given : Place → Option Value) (small : AreSmall given) where

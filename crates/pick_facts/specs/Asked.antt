@@ -9,14 +9,14 @@ use Rattle.c_model.specs.Runs.{State, canonical_pick}
 use Rattle.c_model.specs.Steps.{Begun, Ev}
 use Rattle.c_model.specs.World.{World}
 use Rattle.run_control.specs.View.{Meaning}
-use Rattle.run_code.specs.declared.nodes.NodeInfo.{NodeInfo}
-use Rattle.run_code.specs.declared.steps.Expression.{Expression as Laid}
+use Rattle.run_layout.specs.declared.nodes.NodeInfo.{NodeInfo}
+use Rattle.run_layout.specs.declared.steps.Expression.{Expression as Laid}
 use Rattle.run_statements.specs.declared.numbers.Numbers.{Numbers}
 use Rattle.run_state.specs.declared.machine.Machine.{Machine}
 use Rattle.run_state.specs.declared.machine.Stage.{Stage}
-use Rattle.run_machine.specs.Library.{MayCallLibraryNext}
-use Rattle.run_machine.specs.Starting.{MayCallNext, MayStartNext}
-use Rattle.run_machine.specs.Taking.{MayTakeNext, untouched}
+use Rattle.run_answers.specs.Library.{MayCallLibraryNext}
+use Rattle.run_answers.specs.Starting.{MayCallNext, MayStartNext}
+use Rattle.run_answers.specs.Taking.{MayTakeNext, untouched}
 use Rattle.code_view.specs.Numbering.{meaning_of}
 use Rattle.value_facts.specs.Held.{HoldsOnly, KeepsSmall}
 use Rattle.value_facts.specs.Sources.{IsPlaced}

@@ -10,16 +10,16 @@ use Rattle.c_model.specs.Runs.{State, canonical_pick}
 use Rattle.c_model.specs.Steps.{Begun, Ev}
 use Rattle.c_model.specs.World.{World}
 use Rattle.run_control.specs.View.{Meaning}
-use Rattle.run_code.specs.declared.steps.Expression.{Expression as Laid}
+use Rattle.run_layout.specs.declared.steps.Expression.{Expression as Laid}
 use Rattle.run_statements.specs.declared.numbers.Numbers.{Numbers}
 use Rattle.run_state.specs.declared.machine.Machine.{Machine}
 use Rattle.run_state.specs.declared.machine.Stage.{Stage}
-use Rattle.run_machine.specs.declared.pick.Completed.{Completed}
-use Rattle.run_machine.specs.declared.pick.Pick.TheVariants as pick
-use Rattle.run_machine.specs.Keeping.{KeepsStep}
-use Rattle.run_machine.specs.Library.{AnswersNextLibrary, MayCallLibraryNext}
-use Rattle.run_machine.specs.Starting.{AnswersNextBody, AnswersNextCall, MayCallNext, MayStartNext}
-use Rattle.run_machine.specs.Taking.{AnswersNext, MayTakeNext}
+use Rattle.run_answers.specs.declared.pick.Completed.{Completed}
+use Rattle.run_answers.specs.declared.pick.Pick.TheVariants as pick
+use Rattle.run_answers.specs.Keeping.{KeepsStep}
+use Rattle.run_answers.specs.Library.{AnswersNextLibrary, MayCallLibraryNext}
+use Rattle.run_answers.specs.Starting.{AnswersNextBody, AnswersNextCall, MayCallNext, MayStartNext}
+use Rattle.run_answers.specs.Taking.{AnswersNext, MayTakeNext}
 use Rattle.value_facts.specs.Unresulted.{IsUnresulted}
 use Rattle.run_facts.specs.Going.{IsGoing}
 

@@ -11,8 +11,8 @@ use code_view::{law_blocks, law_constants, law_labels, law_named, law_trees, law
 use control_laws::law_open_frame;
 use pick_laws::law_next;
 use program_view::law_view;
+use run_answers::{law_events, law_picks};
 use run_laws::{law_asked, law_library_calls};
-use run_machine::{law_events, law_picks};
 use value_facts::{law_small_values, law_unresulted};
 
 /// Frames start one by one: a pick adds at most one to those that are held.

@@ -7,20 +7,20 @@ use Rattle.prov_memory.specs.Keeps.{RowsStay}
 use Rattle.c_model.specs.Runs.{Outcome, Running, State, canonical_pick, step}
 use Rattle.c_model.specs.Steps.{Begun, Control, Ev, MayPick, Pick as Model_pick}
 use Rattle.c_model.specs.World.{World}
-use Rattle.run_code.specs.declared.nodes.NodeInfo.{NodeInfo}
-use Rattle.run_code.specs.declared.steps.Expression.{Expression as Laid}
-use Rattle.run_code.specs.declared.whole.Code.{Code}
+use Rattle.run_layout.specs.declared.nodes.NodeInfo.{NodeInfo}
+use Rattle.run_layout.specs.declared.steps.Expression.{Expression as Laid}
+use Rattle.run_layout.specs.declared.whole.Code.{Code}
 use Rattle.run_statements.specs.declared.numbers.Numbers.{Numbers}
 use Rattle.run_state.specs.declared.halt.Halt.{Halt}
 use Rattle.run_state.specs.declared.halt.Halt.TheVariants as halt
 use Rattle.run_state.specs.declared.machine.Machine.{Machine}
 use Rattle.run_state.specs.declared.machine.Stage.{Stage}
 use Rattle.run_state.specs.Stands.{Stands}
-use Rattle.run_machine.specs.declared.pick.Pick.{Pick}
-use Rattle.run_machine.specs.declared.pick.Pick.TheVariants as pick
-use Rattle.run_machine.specs.Answering.{Answers, AnswersCanonical, AnswersPick, ComesTo, MayGoOn, newest_items}
-use Rattle.run_machine.specs.Keeping.{KeepsPick, KeepsStep}
-use Rattle.run_machine.specs.Starting.{
+use Rattle.run_answers.specs.declared.pick.Pick.{Pick}
+use Rattle.run_answers.specs.declared.pick.Pick.TheVariants as pick
+use Rattle.run_answers.specs.Answering.{Answers, AnswersCanonical, AnswersPick, ComesTo, MayGoOn, newest_items}
+use Rattle.run_answers.specs.Keeping.{KeepsPick, KeepsStep}
+use Rattle.run_answers.specs.Starting.{
   AnswersNextBody,
   AnswersNextCall,
   AnswersStart,
@@ -30,7 +30,7 @@ use Rattle.run_machine.specs.Starting.{
   StartsIsolated,
   numbered,
 }
-use Rattle.run_machine.specs.Taking.{AnswersNext, AnswersTaken, MayTakeNext, after_event, store_after, untouched}
+use Rattle.run_answers.specs.Taking.{AnswersNext, AnswersTaken, MayTakeNext, after_event, store_after, untouched}
 use Rattle.code_view.specs.Numbering.{meaning_of}
 use Rattle.run_laws.specs.Open.{IsOpen}
 use Rattle.run_facts.specs.Going.{IsGoing}

@@ -11,18 +11,18 @@ use Rattle.c_model.specs.Libraries.{result}
 use Rattle.c_model.specs.Runs.{Outcome, Running, State, canonical_pick, step}
 use Rattle.c_model.specs.Steps.{Begun, Ev}
 use Rattle.c_model.specs.World.{World}
-use Rattle.run_code.specs.declared.steps.Due.{Due}
-use Rattle.run_code.specs.declared.steps.Expression.{Expression as Laid}
+use Rattle.run_layout.specs.declared.steps.Due.{Due}
+use Rattle.run_layout.specs.declared.steps.Expression.{Expression as Laid}
 use Rattle.run_statements.specs.declared.numbers.Numbers.{Numbers}
 use Rattle.run_state.specs.declared.halt.Halt.{Halt}
 use Rattle.run_state.specs.declared.halt.Halt.TheVariants as halt
 use Rattle.run_state.specs.declared.machine.Machine.{Machine}
 use Rattle.run_state.specs.declared.machine.Stage.{Stage}
-use Rattle.run_machine.specs.declared.pick.Pick.{Pick}
-use Rattle.run_machine.specs.declared.pick.Pick.TheVariants as pick
-use Rattle.run_machine.specs.Library.{AnswersCalled, AnswersCalledNext, IsCalledNext, MayCallLibraryNext, untouched}
-use Rattle.run_machine.specs.Picks.{event_at}
-use Rattle.run_machine.specs.Taking.{after_event, store_after}
+use Rattle.run_answers.specs.declared.pick.Pick.{Pick}
+use Rattle.run_answers.specs.declared.pick.Pick.TheVariants as pick
+use Rattle.run_answers.specs.Library.{AnswersCalled, AnswersCalledNext, IsCalledNext, MayCallLibraryNext, untouched}
+use Rattle.run_answers.specs.Picks.{event_at}
+use Rattle.run_answers.specs.Taking.{after_event, store_after}
 use Rattle.code_view.specs.Numbering.{meaning_of}
 use Rattle.going_laws.specs.Going.{LibraryGoesOn}
 use Rattle.pick_laws.specs.Picks.{ComesOfLibrary, GoesFrom, GoesOnJoined, LibraryComes}

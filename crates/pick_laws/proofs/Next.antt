@@ -10,16 +10,16 @@ use Rattle.c_model.specs.Runs.{State, canonical_pick}
 use Rattle.c_model.specs.Steps.{Begun, Ev, Pick}
 use Rattle.c_model.specs.World.{World}
 use Rattle.seq_order.specs.Marked.{taken_in}
-use Rattle.run_code.specs.declared.nodes.NodeInfo.{NodeInfo}
-use Rattle.run_code.specs.declared.steps.Due.{Due}
-use Rattle.run_code.specs.declared.steps.Expression.{Expression as Laid}
+use Rattle.run_layout.specs.declared.nodes.NodeInfo.{NodeInfo}
+use Rattle.run_layout.specs.declared.steps.Due.{Due}
+use Rattle.run_layout.specs.declared.steps.Expression.{Expression as Laid}
 use Rattle.run_statements.specs.declared.numbers.Numbers.{Numbers}
 use Rattle.run_state.specs.declared.machine.Machine.{Machine}
 use Rattle.run_state.specs.declared.machine.Stage.{Stage}
 use Rattle.run_state.specs.declared.watch.Begun.{Begun as Shown}
 use Rattle.run_state.specs.Stands.{Stands}
 use Rattle.run_listing.specs.Along.{Next}
-use Rattle.run_machine.specs.Picks.{ByWay, ComesNext, Follows, FollowsCanonical, FollowsIn, ahead_part, at_cursor, top_of}
+use Rattle.run_answers.specs.Picks.{ByWay, ComesNext, Follows, FollowsCanonical, FollowsIn, ahead_part, at_cursor, top_of}
 use Rattle.code_view.specs.Numbering.{meaning_of}
 use Rattle.run_laws.specs.Calls.{OpenMayCallNext}
 use Rattle.run_laws.specs.Given.{IsReady, OpenMayTakeNext}

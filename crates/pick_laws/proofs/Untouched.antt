@@ -34,9 +34,9 @@ use Rattle.run_statements.specs.declared.numbers.Numbers.{Numbers}
 use Rattle.run_state.specs.declared.machine.Machine.{Machine}
 use Rattle.run_state.specs.declared.machine.Open.{Open}
 use Rattle.run_state.specs.declared.machine.Stage.{Stage}
-use Rattle.run_machine.proofs.Still.{items_stand}
-use Rattle.run_machine.specs.Answering.{IsWithin}
-use Rattle.run_machine.specs.Taking.{untouched}
+use Rattle.run_answers.proofs.Still.{items_stand}
+use Rattle.run_answers.specs.Answering.{IsWithin}
+use Rattle.run_answers.specs.Taking.{untouched}
 use Rattle.code_view.specs.Numbering.{meaning_of}
 use Rattle.run_facts.specs.Frames.{KeepFrames, KeepsBegun, KeepsFrame, Sees, function_of}
 use Rattle.run_facts.specs.Going.{IsGoing, locals_of}

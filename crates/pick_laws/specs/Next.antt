@@ -13,14 +13,14 @@ use Rattle.c_model.specs.Program.{Call, expr, Exprs}
 use Rattle.c_model.specs.Runs.{State, canonical_pick, library_of}
 use Rattle.c_model.specs.Steps.{Begun, Ev, Scene, at_node, called_by, values_of}
 use Rattle.c_model.specs.World.{World}
-use Rattle.run_code.specs.Initializers.{IsIsolated, NumberInitializers}
-use Rattle.run_code.specs.declared.nodes.NodeInfo.{NodeInfo}
-use Rattle.run_code.specs.declared.steps.Expression.{Expression as Laid}
+use Rattle.run_layout.specs.Initializers.{IsIsolated, NumberInitializers}
+use Rattle.run_layout.specs.declared.nodes.NodeInfo.{NodeInfo}
+use Rattle.run_layout.specs.declared.steps.Expression.{Expression as Laid}
 use Rattle.run_statements.specs.declared.numbers.Numbers.{Numbers}
 use Rattle.run_state.specs.declared.machine.Machine.{Machine}
 use Rattle.run_state.specs.declared.machine.Stage.{Stage}
-use Rattle.run_machine.specs.Starting.{AreCallable, MayCallNext, MayStartNext}
-use Rattle.run_machine.specs.Taking.{MayTakeNext}
+use Rattle.run_answers.specs.Starting.{AreCallable, MayCallNext, MayStartNext}
+use Rattle.run_answers.specs.Taking.{MayTakeNext}
 use Rattle.code_view.specs.Numbering.{meaning_of}
 use Rattle.run_laws.specs.Calls.{HasPlaces}
 use Rattle.run_laws.specs.Open.{IsOpen}

@@ -12,20 +12,20 @@ use Rattle.library_laws.specs.Called.{items_of}
 use Rattle.c_model.specs.Runs.{Entry, Ends, No_row, Outcome, Over, Raises, Running, State, canonical_pick, step}
 use Rattle.c_model.specs.Steps.{Begun, Control, Ev}
 use Rattle.c_model.specs.World.{World}
-use Rattle.run_code.specs.declared.nodes.NodeInfo.{NodeInfo}
-use Rattle.run_code.specs.declared.steps.Expression.{Expression as Laid}
+use Rattle.run_layout.specs.declared.nodes.NodeInfo.{NodeInfo}
+use Rattle.run_layout.specs.declared.steps.Expression.{Expression as Laid}
 use Rattle.run_statements.specs.declared.numbers.Numbers.{Numbers}
 use Rattle.run_state.specs.declared.halt.Halt.{Halt}
 use Rattle.run_state.specs.declared.halt.Halt.TheVariants as halt
 use Rattle.run_state.specs.declared.machine.Machine.{Machine}
 use Rattle.run_state.specs.declared.machine.Stage.{Stage}
-use Rattle.run_machine.specs.declared.pick.Pick.{Pick}
-use Rattle.run_machine.specs.declared.pick.Pick.TheVariants as pick
-use Rattle.run_machine.specs.Answering.{Answers, AnswersCanonical, MayGoOn, newest_items}
-use Rattle.run_machine.specs.Keeping.{KeepsPick}
-use Rattle.run_machine.specs.Library.{AnswersNextLibrary, MayCallLibraryNext}
-use Rattle.run_machine.specs.Starting.{AnswersNextBody, AnswersNextCall, MayCallNext, MayStartNext, numbered}
-use Rattle.run_machine.specs.Taking.{AnswersNext, MayTakeNext, untouched}
+use Rattle.run_answers.specs.declared.pick.Pick.{Pick}
+use Rattle.run_answers.specs.declared.pick.Pick.TheVariants as pick
+use Rattle.run_answers.specs.Answering.{Answers, AnswersCanonical, MayGoOn, newest_items}
+use Rattle.run_answers.specs.Keeping.{KeepsPick}
+use Rattle.run_answers.specs.Library.{AnswersNextLibrary, MayCallLibraryNext}
+use Rattle.run_answers.specs.Starting.{AnswersNextBody, AnswersNextCall, MayCallNext, MayStartNext, numbered}
+use Rattle.run_answers.specs.Taking.{AnswersNext, MayTakeNext, untouched}
 use Rattle.code_view.specs.Numbering.{meaning_of}
 use Rattle.run_laws.specs.Open.{IsOpen}
 use Rattle.run_facts.specs.Going.{IsGoing}

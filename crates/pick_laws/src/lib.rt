@@ -7,8 +7,8 @@ ghost use Rattle.pick_laws.specs.Next.{EventIsNext, InitializerIsNext, CallIsNex
 ghost use Rattle.pick_laws.specs.Picks.{ControlComes, EventComes, LibraryComes, InitializerComes, CallComes};
 
 use going_laws::law_going;
+use run_answers::law_picks;
 use run_laws::{law_calls, law_given, law_initial};
-use run_machine::law_picks;
 
 /// What run_machine promises of a canonical pick, of a machine that is going and can take it, comes to the outcome of the definitions' step: the run goes on
 /// and the machine is going again, or it ends with its status and what was written, raises the clause, passes the limit, or needs a row that isn't there. So

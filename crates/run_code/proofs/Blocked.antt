@@ -17,15 +17,15 @@ use Rattle.c_typed.specs.declared.statement.Entry.{Entry, fold-Entry}
 use Rattle.c_typed.specs.declared.statement.ForStart.{ForStart}
 use Rattle.c_typed.specs.Sites.{BlockRow, Summary, summary_step, entry_summary, start_summary, block_summary, entries_summary, declared_in}
 use Rattle.run_objects.specs.Extents.{extent_of, is_constant, HasForm}
-use Rattle.run_code.specs.declared.draft.FunctionDraft.{FunctionDraft}
-use Rattle.run_code.specs.declared.steps.BlockCode.{BlockCode}
-use Rattle.run_code.specs.declared.steps.FunctionCode.{FunctionCode}
-use Rattle.run_code.specs.declared.steps.ObjectCode.{ObjectCode}
-use Rattle.run_code.specs.declared.steps.Range.{Range}
-use Rattle.run_code.specs.declared.steps.StoreCode.{StoreCode}
-use Rattle.run_code.specs.declared.tables.Tables.{Tables}
-use Rattle.run_code.specs.EventActs.{AreGrown}
-use Rattle.run_code.specs.Blocks.{
+use Rattle.run_layout.specs.declared.draft.FunctionDraft.{FunctionDraft}
+use Rattle.run_layout.specs.declared.steps.BlockCode.{BlockCode}
+use Rattle.run_layout.specs.declared.steps.FunctionCode.{FunctionCode}
+use Rattle.run_layout.specs.declared.steps.ObjectCode.{ObjectCode}
+use Rattle.run_layout.specs.declared.steps.Range.{Range}
+use Rattle.run_layout.specs.declared.steps.StoreCode.{StoreCode}
+use Rattle.run_layout.specs.declared.tables.Tables.{Tables}
+use Rattle.run_layout.specs.EventActs.{AreGrown}
+use Rattle.run_layout.specs.Blocks.{
   AddsBlocks,
   AddsObject,
   AddsObjects,
@@ -42,8 +42,8 @@ use Rattle.run_code.specs.Blocks.{
   rows_of_block,
   start_rows,
 }
-use Rattle.run_code.specs.Functions.{HasBlocks}
-use Rattle.run_code.proofs.Grown.{grown_both, nothing_grown}
+use Rattle.run_layout.specs.Functions.{HasBlocks}
+use Rattle.run_layout.proofs.Grown.{grown_both, nothing_grown}
 
 -- ---- what stands in the tables stands there as more is added
 object_later : (tags : List Tag) (old new : Tables) (q : Qualified) (o : ObjectCode) → AreGrown old new → IsObjectOf tags old.stores.items q o →

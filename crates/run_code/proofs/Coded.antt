@@ -4,9 +4,10 @@ use Rattle.std.proofs.lemmas.List.{take_all}
 use Rattle.c_typed.specs.declared.program.Function.{Function}
 use Rattle.c_typed.specs.declared.statement.Block.{Block}
 use Rattle.run_statements.specs.declared.numbers.Numbers.{Numbers}
-use Rattle.run_code.specs.declared.steps.FunctionCode.{FunctionCode}
-use Rattle.run_code.specs.declared.whole.Code.{Code}
-use Rattle.run_code.specs.Roots.{block_in, IsCodeOf, AreCodeOf, HaveCode}
+use Rattle.run_layout.specs.declared.steps.FunctionCode.{FunctionCode}
+use Rattle.run_layout.specs.declared.whole.Code.{Code}
+use Rattle.run_layout.specs.Roots.{block_in, HaveCode}
+use Rattle.run_code.specs.Statements.{IsCodeOf, AreCodeOf}
 
 abbrev CodeAt : List (Option FunctionCode) → ℕ → Type 0
 CodeAt cs n = (c : FunctionCode) × (slice_get cs n ≡ Some (Some c))

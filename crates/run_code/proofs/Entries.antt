@@ -7,8 +7,8 @@ use Rattle.core_ir.specs.declared.term.Core.{Core}
 use Rattle.core_ir.specs.declared.term.Core.TheFolds.{the_lemmas}
 use Rattle.core_ir.specs.declared.term.Core as cores
 use Rattle.core_ir.specs.Term.{term_of, terms_from}
-use Rattle.run_code.specs.declared.steps.Listed.{Listed}
-use Rattle.run_code.specs.Listings.{Entry, operand, entry_of, entries_of, continuation, flat, all_flat}
+use Rattle.run_layout.specs.declared.steps.Listed.{Listed}
+use Rattle.run_layout.specs.Listings.{Entry, operand, entry_of, entries_of, continuation, flat, all_flat}
 
 -- what follows from a clause of what may fail
 pub on_ok : {A E : Type 0} (r : Result A E) (P Q : Type 0) → (P → Q) → OnOk r P → OnOk r Q

@@ -14,9 +14,9 @@ use Rattle.c_typed.specs.declared.tree.Node.{fold-Node}
 use Rattle.c_typed.specs.declared.tree.Node.TheVariants as nodes
 use Rattle.c_typed.specs.declared.tree.Typed.{Typed, out-Typed, fold_out-Typed}
 use Rattle.c_typed.specs.Sites.{Site, Seen, SeenNode, seen_node, seen_tree, seen, type_seen, all_sites, sites}
-use Rattle.run_code.specs.declared.nodes.NodeInfo.{NodeInfo}
-use Rattle.run_code.specs.EventActs.{head_at, pointed, first_type, change_access}
-use Rattle.run_code.specs.Fitting.{AccessFits, HeadFits, first_operand, SiteFits, TreeFits, RootFits, NodesFit}
+use Rattle.run_layout.specs.declared.nodes.NodeInfo.{NodeInfo}
+use Rattle.run_layout.specs.EventActs.{head_at, pointed, first_type, change_access}
+use Rattle.run_layout.specs.Fitting.{AccessFits, HeadFits, first_operand, SiteFits, TreeFits, RootFits, NodesFit}
 use Rattle.run_code.proofs.Heads.{head_at-Assign, head_at-Update}
 
 abbrev sites_seen : Seen → List Site

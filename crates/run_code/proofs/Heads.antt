@@ -10,13 +10,13 @@ use Rattle.c_typed.specs.declared.tree.Node.TheOpen as shape
 use Rattle.c_typed.specs.declared.tree.Node.TheVariants as nodes
 use Rattle.c_typed.specs.declared.tree.Typed.{Typed, out-Typed}
 use Rattle.c_typed.specs.Sites.{Head, Seen, SeenNode, seen_node, seen_tree}
-use Rattle.run_code.specs.declared.steps.Operand.{Operand}
-use Rattle.run_code.specs.declared.steps.Operand.TheVariants.{Done}
-use Rattle.run_code.specs.declared.steps.Act.{Act}
-use Rattle.run_code.specs.declared.steps.Act.TheVariants as act
-use Rattle.run_code.specs.declared.tables.Tables.{Tables}
-use Rattle.run_code.specs.Resolved.{value_at}
-use Rattle.run_code.specs.EventActs.{head_at, pointed, first_type, seen, amount, change_access, IsValue, Stores, IsEffect, Calls, IsBody}
+use Rattle.run_layout.specs.declared.steps.Operand.{Operand}
+use Rattle.run_layout.specs.declared.steps.Operand.TheVariants.{Done}
+use Rattle.run_layout.specs.declared.steps.Act.{Act}
+use Rattle.run_layout.specs.declared.steps.Act.TheVariants as act
+use Rattle.run_layout.specs.declared.tables.Tables.{Tables}
+use Rattle.run_layout.specs.Resolved.{value_at}
+use Rattle.run_layout.specs.EventActs.{head_at, pointed, first_type, seen, amount, change_access, IsValue, Stores, IsEffect, Calls, IsBody}
 
 abbrev head_seen : SeenNode → Head
 head_seen s = s.head

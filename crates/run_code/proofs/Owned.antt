@@ -10,10 +10,10 @@ use Rattle.c_typed.specs.declared.tree.Node.TheVariants as nodes
 use Rattle.c_typed.specs.declared.tree.Typed.{Typed, out-Typed}
 use Rattle.elaborate.specs.Expressions.{own_trees, full_trees}
 use Rattle.elaborate.proofs.Own.{own_isolated, own_other}
-use Rattle.run_code.specs.declared.nodes.NodeInfo.{NodeInfo}
-use Rattle.run_code.specs.Initializers.{IsIsolated, HasNumber, HaveNumbers, trees_of_node, trees_at, AreOwned}
-use Rattle.run_code.specs.Numbered.{AreKept}
-use Rattle.run_code.proofs.Collected.{by_number, by_place, same_some, slice_get-front, slice_get-seam, slice_get-set, slice_get-set_other, there}
+use Rattle.run_layout.specs.declared.nodes.NodeInfo.{NodeInfo}
+use Rattle.run_layout.specs.Initializers.{IsIsolated, HasNumber, HaveNumbers, trees_of_node, trees_at, AreOwned}
+use Rattle.run_layout.specs.Numbered.{AreKept}
+use Rattle.run_layout.proofs.Collected.{by_number, by_place, same_some, slice_get-front, slice_get-seam, slice_get-set, slice_get-set_other, there}
 
 -- ---- the own trees of a node, and of its operands
 is_isolated : (z : Node-F Node Typed) → ((u : Typed) × (z ≡ shape.Isolated u)) ⊎ ((u : Typed) → z ≡ shape.Isolated u → ⊥)

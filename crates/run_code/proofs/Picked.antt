@@ -1,9 +1,9 @@
 -- The value of one operand of several.
 use Rattle.std.proofs.Common.{arith, ◌≡◌, ◌-◌, ℕ, zero, suc, pos, List, [], ◌∷◌, length, Some, None, slice_get, refl, ap, ◌∙◌}
-use Rattle.run_code.specs.declared.steps.Operand.{Operand}
-use Rattle.run_code.specs.declared.steps.Operand.TheVariants.{Integer}
-use Rattle.run_code.specs.Resolved.{value_at}
-use Rattle.run_code.specs.EventActs.{last_of}
+use Rattle.run_layout.specs.declared.steps.Operand.{Operand}
+use Rattle.run_layout.specs.declared.steps.Operand.TheVariants.{Integer}
+use Rattle.run_layout.specs.Resolved.{value_at}
+use Rattle.run_layout.specs.EventActs.{last_of}
 
 pub value_found : (os : List Operand) (i : ℕ) (o : Operand) → slice_get os i ≡ Some o → o ≡ value_at os i
 value_found [] zero o h = absurd (cc)

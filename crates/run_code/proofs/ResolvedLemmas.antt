@@ -7,9 +7,9 @@ use Rattle.c_typed.specs.declared.tree.Node.{Node, fold-Node, fold-roll-Node}
 use Rattle.c_typed.specs.declared.tree.Node.TheOpen as shape
 use Rattle.c_typed.specs.declared.tree.Node.TheVariants as nodes
 use Rattle.c_typed.specs.declared.tree.Typed.{Typed, out-Typed, fold_out-Typed}
-use Rattle.run_code.specs.declared.steps.Operand.{Operand}
-use Rattle.run_code.specs.declared.steps.Operand.TheVariants.{Done}
-use Rattle.run_code.specs.Resolved.{NodeResolved, node_resolved, tree_resolved, resolved, first_resolved, by_conversion, member_of}
+use Rattle.run_layout.specs.declared.steps.Operand.{Operand}
+use Rattle.run_layout.specs.declared.steps.Operand.TheVariants.{Done}
+use Rattle.run_layout.specs.Resolved.{NodeResolved, node_resolved, tree_resolved, resolved, first_resolved, by_conversion, member_of}
 
 abbrev node_at : List ℕ → Node → NodeResolved
 node_at firsts = fold-Node NodeResolved (ℕ → Operand) (node_resolved firsts) tree_resolved

@@ -6,11 +6,11 @@ use Rattle.std.proofs.lemmas.Option.{slice_get_within}
 use Rattle.c_typed.specs.declared.tree.Node.TheOpen as shape
 use Rattle.c_typed.specs.declared.tree.Typed.{Typed, out-Typed}
 use Rattle.c_typed.specs.Sites.{Head}
-use Rattle.run_code.specs.declared.nodes.NodeInfo.{NodeInfo}
-use Rattle.run_code.specs.EventActs.{head_at}
-use Rattle.run_code.specs.Numbered.{AreKept}
-use Rattle.run_code.specs.Rooms.{gives_old, olds_with, IsOld, IsRoomedBy, AreRoomed}
-use Rattle.run_code.proofs.Collected.{by_number, by_place, same_some, slice_get-seam, slice_get-set, slice_get-set_other, there}
+use Rattle.run_layout.specs.declared.nodes.NodeInfo.{NodeInfo}
+use Rattle.run_layout.specs.EventActs.{head_at}
+use Rattle.run_layout.specs.Numbered.{AreKept}
+use Rattle.run_layout.specs.Rooms.{gives_old, olds_with, IsOld, IsRoomedBy, AreRoomed}
+use Rattle.run_layout.proofs.Collected.{by_number, by_place, same_some, slice_get-seam, slice_get-set, slice_get-set_other, there}
 
 -- one update more, where it gives the old value
 one_old : (h : Head) (olds : ℕ) → gives_old h ≡ true → olds_with h olds ≡ olds + 1

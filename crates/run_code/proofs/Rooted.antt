@@ -7,7 +7,6 @@ use Rattle.c_typed.specs.declared.statement.Body.{Body, out-Body, out-roll-Body,
 use Rattle.c_typed.specs.declared.statement.Body.TheOpen as form
 use Rattle.c_typed.specs.declared.statement.Body.TheOpen.{Body-F}
 use Rattle.c_typed.specs.declared.statement.Body.TheVariants as body
-use Rattle.c_typed.specs.declared.statement.Body.TheFolds as typed
 use Rattle.c_typed.specs.declared.statement.Block.{Block}
 use Rattle.c_typed.specs.declared.statement.Entry.{Entry}
 use Rattle.c_typed.specs.declared.statement.ForStart.{ForStart}
@@ -16,9 +15,11 @@ use Rattle.elaborate.specs.Expressions.{block_trees, body_trees, defined_trees, 
 use Rattle.run_statements.specs.declared.numbers.Numbers.{Numbers}
 use Rattle.run_statements.specs.Bodies.{Grows, IsStatement}
 use Rattle.run_statements.proofs.Forms.{statement_later}
-use Rattle.run_code.specs.declared.steps.Expression.{Expression}
-use Rattle.run_code.specs.declared.steps.FunctionCode.{FunctionCode}
-use Rattle.run_code.specs.Roots.{roots_in, as_block, block_in, trees_in, code_trees, IsCodeOf, AreCodeOf, IsInBlock, AreInBlocks}
+use Rattle.run_layout.specs.declared.steps.Expression.{Expression}
+use Rattle.run_layout.specs.declared.steps.FunctionCode.{FunctionCode}
+use Rattle.run_layout.proofs.Followed.{body_of_block}
+use Rattle.run_layout.specs.Roots.{roots_in, as_block, block_in, trees_in, code_trees, IsInBlock, AreInBlocks}
+use Rattle.run_code.specs.Statements.{IsCodeOf, AreCodeOf}
 
 -- a function that is defined by this block
 out_block : (x : Block) → as_block (out-Body (body.Block x)) ≡ Some x
@@ -97,9 +98,6 @@ laid_none a b old new f oc rest left before after cs more all is was gained code
   subst (λ z. AreCodeOf z after more) (sym n) (subst (λ fs. AreCodeOf a fs more) (sym was) (subst (AreCodeOf a (before ++ f ∷ [])) (sym gained)
       (code_more a before cs f oc h.2 (subst (λ o. IsCodeOf a o oc) (sym by) (subst (IsCodeOf a None) (sym code) tt))))),
 )
-
-pub body_of_block : (x : Block) → body_trees (body.Block x) ≡ block_trees x
-body_of_block x = search (rules, typed.the_lemmas)
 
 form_of : (z : Body-F Body Entry ForStart Block) (x : Block) → as_block z ≡ Some x → z ≡ form.Block x
 form_of (form.Block y) x e = let same : y ≡ x = cc in ap form.Block same

@@ -2,10 +2,10 @@
 use Rattle.std.proofs.Common.{◌≡◌, ◌+◌, ℕ, List, [], ◌∷◌, ◌++◌, append_assoc, Some, slice_get, sym, ap, subst, ◌∙◌}
 use Rattle.c_typed.specs.declared.tree.Typed.{Typed}
 use Rattle.c_typed.specs.Tree.{tree_of, size}
-use Rattle.run_code.specs.declared.nodes.NodeInfo.{NodeInfo}
-use Rattle.run_code.specs.declared.steps.Operand.{Operand}
-use Rattle.run_code.specs.Resolved.{resolved, operands_from}
-use Rattle.run_code.specs.Numbered.{AreNoted, AreBelow}
+use Rattle.run_layout.specs.declared.nodes.NodeInfo.{NodeInfo}
+use Rattle.run_layout.specs.declared.steps.Operand.{Operand}
+use Rattle.run_layout.specs.Resolved.{resolved, operands_from}
+use Rattle.run_layout.specs.Numbered.{AreNoted, AreBelow}
 
 same_info : (nodes : List NodeInfo) (n : ℕ) (x y : NodeInfo) → slice_get nodes n ≡ Some x → slice_get nodes n ≡ Some y → x ≡ y
 same_info nodes n x y e f = cc

@@ -3,14 +3,13 @@ ghost use Rattle.std.specs.Prelude.{◌≡◌, ◌+◌, ◌++◌, ◌≤◌, ℕ
 ghost use Rattle.c_typed.specs.declared.tree.Node.{out-Node};
 ghost use Rattle.c_typed.specs.declared.tree.Typed.{Typed as TypedOf, out-Typed};
 ghost use Rattle.c_typed.specs.Tree.{tree_of, size};
-ghost use Rattle.run_code.specs.Numbered.{IsAt, AreBelow, AreNoted};
-ghost use Rattle.run_code.specs.Branches.{Chooses};
-ghost use Rattle.run_code.specs.Choosing.{chooses};
-ghost use Rattle.run_code.specs.AtOnce.{first_evaluated, own_choice, operand_number as number_of_operand, chosen_of};
+ghost use Rattle.run_layout.specs.Numbered.{IsAt, AreBelow, AreNoted};
+ghost use Rattle.run_layout.specs.Branches.{Chooses};
+ghost use Rattle.run_layout.specs.Choosing.{chooses};
+ghost use Rattle.run_layout.specs.AtOnce.{first_evaluated, own_choice, operand_number as number_of_operand, chosen_of};
 
-use crate::nodes::NodeInfo;
-use crate::numbers::number_of;
 use c_typed::{Node, Typed};
+use run_layout::{NodeInfo, number_of};
 use ub_base::NoMemory;
 
 pub fn is_choice(node: &Node) -> bool

@@ -1,19 +1,8 @@
 // Code in the making.
 ghost use Rattle.std.specs.Prelude.{◌≡◌};
 
-use crate::expressions::{Expressions, Laid};
-use crate::nodes::Objects;
-use crate::steps::FunctionCode;
-use crate::whole::Code;
+use run_layout::{Code, Expressions, FunctionCode, FunctionDraft, Laid};
 use std::alloc::Global;
-
-// The function that is in the making.
-#[derive(Drop)]
-pub struct FunctionDraft {
-    pub objects: Objects,
-    // How many objects its blocks have so far.
-    pub count: u32,
-}
 
 #[derive(Drop)]
 pub struct Draft<'p> {

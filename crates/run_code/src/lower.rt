@@ -5,29 +5,29 @@ ghost use Rattle.c_typed.specs.declared.tree.Typed.{out-Typed};
 ghost use Rattle.c_typed.specs.Order.{place};
 ghost use Rattle.c_typed.specs.declared.program.Program.{Program as ProgramOf};
 ghost use Rattle.core_ir.specs.Term.{term_of};
-ghost use Rattle.run_code.specs.Roots.{roots_in};
-ghost use Rattle.run_code.specs.Listings.{entries_of, one, continuation, flat};
-ghost use Rattle.run_code.specs.Functions.{AddsExpression};
-ghost use Rattle.run_code.specs.OfTrees.{flat_of, AreOfTerms};
-ghost use Rattle.run_code.specs.declared.steps.Operand.{Operand as OperandOf};
-ghost use Rattle.run_code.specs.Resolved.{value_at};
-ghost use Rattle.run_code.specs.Numbered.{IsAt, AreNoted};
-ghost use Rattle.run_code.specs.InRange.{IsRange, IsChoice};
-ghost use Rattle.run_code.specs.AtOnce.{chosen_of, Lists};
-ghost use Rattle.run_code.specs.Choices.{Goes, IsChoiceOf, MakesChoice, ChoosesAt};
-ghost use Rattle.run_code.specs.Fitting.{AccessFits, RootFits, NodesFit, TreeFits, AreFit};
-ghost use Rattle.run_code.specs.EventActs.{head_at, pointed, first_type, later_types, seen, last_of, rest_of, GoesBy, room_of, change_access, IsValue, Stores, IsEffect, Calls, IsBody, IsAct, ends_with, IsDue, AreEntries, AreGrown};
+ghost use Rattle.run_layout.specs.Roots.{roots_in};
+ghost use Rattle.run_layout.specs.Listings.{entries_of, one, continuation, flat};
+ghost use Rattle.run_layout.specs.Functions.{AddsExpression};
+ghost use Rattle.run_layout.specs.OfTrees.{flat_of, AreOfTerms};
+ghost use Rattle.run_layout.specs.declared.steps.Operand.{Operand as OperandOf};
+ghost use Rattle.run_layout.specs.Resolved.{value_at};
+ghost use Rattle.run_layout.specs.Numbered.{IsAt, AreNoted};
+ghost use Rattle.run_layout.specs.InRange.{IsRange, IsChoice};
+ghost use Rattle.run_layout.specs.AtOnce.{chosen_of, Lists};
+ghost use Rattle.run_layout.specs.Choices.{Goes, IsChoiceOf, MakesChoice, ChoosesAt};
+ghost use Rattle.run_layout.specs.Fitting.{AccessFits, RootFits, NodesFit, TreeFits, AreFit};
+ghost use Rattle.run_layout.specs.EventActs.{head_at, pointed, first_type, later_types, seen, last_of, rest_of, GoesBy, room_of, change_access, IsValue, Stores, IsEffect, Calls, IsBody, IsAct, ends_with, IsDue, AreEntries, AreGrown};
 
 use crate::choices::{chosen, chosen_at_once, is_choice, operand_number};
 use crate::draft::Draft;
-use crate::nodes::{Counts, NodeInfo, collect, operands};
-use crate::numbers::{next_number, number_of, number_with};
-use crate::steps::{
-    Act, CallCode, Choice, Due, Expression, Listed, Operand, Range, StoreCode, Way,
-};
+use crate::nodes::{Counts, collect, operands};
 use c_typed::{Access, Change, Node, Place, Typed};
 use c_types::{FuncTy, Qual, Ty, copied};
 use core_ir::Core;
+use run_layout::{
+    Act, CallCode, Choice, Due, Expression, Listed, NodeInfo, Operand, Range, StoreCode, Way,
+    next_number, number_of, number_with,
+};
 use std::alloc::Global;
 use ub_base::{Items, Kind, NoMemory};
 

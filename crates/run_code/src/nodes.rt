@@ -2,67 +2,21 @@
 ghost use Rattle.std.specs.Prelude.{◌≡◌, ◌+◌, ◌<◌, ◌^◌, ℕ, List, OnOk, IfOk, suc, length, slice_get};
 ghost use Rattle.c_typed.specs.declared.tree.Typed.{out-Typed};
 ghost use Rattle.c_types.specs.Types.{type_of};
-ghost use Rattle.run_code.specs.EventActs.{head_at};
+ghost use Rattle.run_layout.specs.EventActs.{head_at};
 ghost use Rattle.elaborate.specs.Expressions.{own_trees};
-ghost use Rattle.run_code.specs.Initializers.{trees_at, AreOwned};
-ghost use Rattle.run_code.specs.Rooms.{olds_with, AreRoomed};
-ghost use Rattle.run_code.specs.Resolved.{object_of, local_number, constant_of, by_conversion, member_of, resolved, operands_from, value_at};
-ghost use Rattle.run_code.specs.Numbered.{AreAdded, AreNoted, AreBelow};
-ghost use Rattle.run_code.specs.AtOnce.{truth_of, is_known};
-ghost use Rattle.run_code.specs.Fitting.{TreeFits, NodesFit};
+ghost use Rattle.run_layout.specs.Initializers.{trees_at, AreOwned};
+ghost use Rattle.run_layout.specs.Rooms.{olds_with, AreRoomed};
+ghost use Rattle.run_layout.specs.Resolved.{object_of, local_number, constant_of, by_conversion, member_of, resolved, operands_from, value_at};
+ghost use Rattle.run_layout.specs.Numbered.{AreAdded, AreNoted, AreBelow};
+ghost use Rattle.run_layout.specs.Fitting.{TreeFits, NodesFit};
 ghost use Rattle.c_typed.specs.declared.program.Program.{Program as ProgramOf};
 
-use crate::numbers::{number_of, number_with};
-use crate::steps::Operand;
 use c_typed::{Conversion, Node, Slot, Typed};
 use c_types::Ty;
+use run_layout::{NodeInfo, Objects, Operand, number_of, number_with};
 use run_objects::function_address;
 use std::alloc::Global;
 use ub_base::NoMemory;
-
-// A node, the number of the node above, and where its value comes from.
-#[derive(Clone, Copy)]
-pub struct NodeInfo<'p> {
-    pub tree: &'p Typed,
-    pub parent: Option<u32>,
-    pub operand: Operand,
-    // The first number after all below it.
-    pub next: u32,
-    // The number of the full expression of its own tree, if it is an isolated initializer.
-    pub initializer: u32,
-    // The room behind those of the nodes for what an Update will store, if that isn't its value.
-    pub room: u32,
-}
-
-// The number of a block's first object in its function.
-#[derive(Drop)]
-pub struct Objects {
-    pub first: Vec<u32>,
-}
-
-impl Objects {
-    pub fn number(&self, block: u32, object: u32) -> u32
-        ensures { result ≡ local_number (slice_get self.now.first.items block) object }
-    {
-        match self.first.get(block as usize) {
-            Some(first) => first.saturating_add(object),
-            None => u32::MAX,
-        }
-    }
-
-    // A pointer to the object of a slot.
-    pub fn slot(&self, slot: Slot) -> Operand
-        ensures { result ≡ object_of self.now.first.items slot }
-    {
-        match slot {
-            Slot::Static(object) => Operand::Static { object, offset: 0 },
-            Slot::Auto { block, decl } => Operand::Local {
-                object: self.number(block, decl),
-                offset: 0,
-            },
-        }
-    }
-}
 
 // A constant of this type (6.6): of a pointer type it is null.
 fn constant(ty: &Ty, number: i128) -> Operand
@@ -127,29 +81,6 @@ pub fn operand_of(objects: &Objects, root: &Typed, number: u32) -> Operand
             None => Operand::Done(number),
         },
         _ => Operand::Done(number),
-    }
-}
-
-impl Operand {
-    // The node has no event.
-    pub fn is_quiet(self) -> bool
-        ensures { result ≡ is_known self }
-    {
-        match self {
-            Operand::Done(_) => false,
-            _ => true,
-        }
-    }
-
-    // Whether a quiet value is unequal to 0. Objects and functions stand at no address 0.
-    pub fn truth(self) -> bool
-        ensures { result ≡ truth_of self }
-    {
-        match self {
-            Operand::Integer(value) => value != 0,
-            Operand::Address(addr) | Operand::Function(addr) => addr != 0,
-            _ => true,
-        }
     }
 }
 

@@ -1,20 +1,19 @@
 // The blocks of a function with their objects.
 ghost use Rattle.std.specs.Prelude.{◌≡◌, ◌+◌, ◌∷◌, [], ℕ, map, max, length, IfOk, OnOk};
 ghost use Rattle.run_objects.specs.Extents.{extent_of};
-ghost use Rattle.run_code.specs.Blocks.{access_by, entry_rows, rows_of, rows_of_block, start_rows, AddsObject, AddsObjects, AddsBlocks};
-ghost use Rattle.run_code.specs.InRange.{IsRange};
-ghost use Rattle.run_code.specs.EventActs.{AreGrown};
-ghost use Rattle.run_code.specs.Fitting.{AccessFits, AreFit};
+ghost use Rattle.run_layout.specs.Blocks.{access_by, entry_rows, rows_of, rows_of_block, start_rows, AddsObject, AddsObjects, AddsBlocks};
+ghost use Rattle.run_layout.specs.InRange.{IsRange};
+ghost use Rattle.run_layout.specs.EventActs.{AreGrown};
+ghost use Rattle.run_layout.specs.Fitting.{AccessFits, AreFit};
 ghost use Rattle.c_types.specs.Types.{type_of, qualified_of};
 ghost use Rattle.c_typed.specs.Sites.{BlockRow};
 ghost use Rattle.c_typed.specs.declared.statement.Block.{out-Block};
 ghost use Rattle.c_typed.specs.declared.program.Program.{Program as ProgramOf};
 
 use crate::draft::Draft;
-use crate::numbers::{next_number, number_with, range_from};
-use crate::steps::{BlockCode, ObjectCode, Range, StoreCode};
 use c_typed::{Access, Block, Body, Entry, ForStart};
 use c_types::{IntKind, Qual, Tags, Ty};
+use run_layout::{BlockCode, ObjectCode, Range, StoreCode, next_number, number_with, range_from};
 use run_objects::{counted, extent, is_constant, shape_of, total};
 use ub_base::NoMemory;
 

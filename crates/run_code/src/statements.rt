@@ -6,27 +6,27 @@ ghost use Rattle.c_typed.specs.Tree.{tree_of};
 ghost use Rattle.c_typed.specs.declared.statement.Body.TheVariants as body_form;
 ghost use Rattle.run_statements.specs.Bodies.{Grows, IsStatement};
 ghost use Rattle.run_statements.specs.declared.numbers.Numbers.{Numbers as NumbersOf};
-ghost use Rattle.run_code.specs.Roots.{roots_in, code_trees, IsNumberedBy, HaveCode, AreInBlocks};
-ghost use Rattle.run_code.specs.Blocks.{rows_of_block};
-ghost use Rattle.run_code.specs.Functions.{HasBlocks, HaveBlocks, HasExpressions, HaveExpressions, IsMore, AddsExpressions, laid_in};
+ghost use Rattle.run_layout.specs.Roots.{roots_in, code_trees, HaveCode, AreInBlocks};
+ghost use Rattle.run_code.specs.Statements.{IsNumberedBy};
+ghost use Rattle.run_layout.specs.Blocks.{rows_of_block};
+ghost use Rattle.run_layout.specs.Functions.{HasBlocks, HaveBlocks, HasExpressions, HaveExpressions, IsMore, AddsExpressions, laid_in};
 ghost use Rattle.c_types.specs.declared.ty.FuncTy.{out-FuncTy};
-ghost use Rattle.run_code.specs.EventActs.{AreGrown};
-ghost use Rattle.run_code.specs.LaidOut.{IsLaidOut};
-ghost use Rattle.run_code.specs.OfTrees.{AreOfTerms, ListsTrees, AreTermsOf};
+ghost use Rattle.run_layout.specs.EventActs.{AreGrown};
+ghost use Rattle.run_layout.specs.LaidOut.{IsLaidOut};
+ghost use Rattle.run_layout.specs.OfTrees.{AreOfTerms, ListsTrees, AreTermsOf};
 ghost use Rattle.elaborate.specs.Formed.{EachFormed};
-ghost use Rattle.run_code.specs.Fitting.{TreeFits, AreFit};
+ghost use Rattle.run_layout.specs.Fitting.{TreeFits, AreFit};
 ghost use Rattle.c_typed.specs.declared.program.Program.{Program as ProgramOf};
 
-use crate::draft::{Draft, FunctionDraft, finished};
-use crate::expressions::Expressions;
-use crate::nodes::Objects;
-use crate::numbers::{next_number, number_of, range_from};
-use crate::steps::{FunctionCode, Range};
-use crate::whole::Code;
+use crate::draft::{Draft, finished};
 use c_typed::{Block, Body, Function, Program, Typed};
 use c_types::Tags;
 use core_ir::Core;
 use run_control::Statement;
+use run_layout::{
+    Code, Expressions, FunctionCode, FunctionDraft, Objects, Range, next_number, number_of,
+    range_from,
+};
 use run_statements::{Numbers, block};
 use std::alloc::Global;
 use ub_base::NoMemory;

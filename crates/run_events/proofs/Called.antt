@@ -48,16 +48,16 @@ use Rattle.c_model.specs.Steps.{function_of}
 use Rattle.c_model.specs.Values.{function_address, function_in}
 use Rattle.run_acts.specs.Calls.{AreFunctions, IsFunction, checked_call, type_by}
 use Rattle.run_acts.specs.Views.{value_in}
-use Rattle.run_code.specs.declared.steps.CallCode.{CallCode}
-use Rattle.run_code.specs.declared.steps.Operand.{Operand}
-use Rattle.run_code.specs.declared.steps.Operand.TheVariants as operand
+use Rattle.run_layout.specs.declared.steps.CallCode.{CallCode}
+use Rattle.run_layout.specs.declared.steps.Operand.{Operand}
+use Rattle.run_layout.specs.declared.steps.Operand.TheVariants as operand
 use Rattle.run_state.specs.declared.machine.Machine.{Machine}
 use Rattle.run_state.specs.Operands.{into_local, operand_in, pointer_into}
-use Rattle.run_events.specs.declared.acts.Outcome.{Outcome}
-use Rattle.run_events.specs.declared.fault.Fault.{Fault}
-use Rattle.run_events.specs.declared.fault.Fault.TheVariants as fault
+use Rattle.run_answers.specs.declared.outcome.Outcome.{Outcome}
+use Rattle.run_answers.specs.declared.fault.Fault.{Fault}
+use Rattle.run_answers.specs.declared.fault.Fault.TheVariants as fault
 use Rattle.run_events.proofs.Library.{wants_memory}
-use Rattle.run_events.specs.Calling.{CallsFound, Runs, RunsWhere, library_in, type_of_call}
+use Rattle.run_answers.specs.Calling.{CallsFound, Runs, RunsWhere, library_in, type_of_call}
 
 -- ---- anything but a function pointer leads to no function
 pointer_leads_none : {A : Type 0} (f : A → Kept_value) (o : Option A) (h : Kept_value) (k : Kept) → ((a : A) → function_in (value_in k (f a)) ≡ 0) →
@@ -158,7 +158,6 @@ module _ (old : Machine) (os : List Operand) (ts : List Qual) (event : Event) wh
   refused agree ty (Some f) c rows s is = refused_where (is_some f.1.body || is_some f.1.library) (agree f.1.ty ty) f.0 f.1 c rows s is
 
 module _ (old : Machine) (os : List Operand) (ts : List Qual) (event : Event) (new : Machine) where
-
   module _ (result : Result Outcome Fault) where
     runs_where : (callable agrees : Bool) (k n : ℕ) (f : Function) (rows : List Row) (s : Store) →
         run rows (require callable InvalidPointer >> (require agrees IncompatibleCall >> Give k)) s ≡ act_of (Ok n) [] s →

@@ -11,16 +11,16 @@ use Rattle.prov_memory.specs.Memory.{Kept}
 use Rattle.c_model.specs.Values.{truth}
 use Rattle.seq_order.specs.Marked.{taken_in}
 use Rattle.run_acts.specs.Views.{value_in}
-use Rattle.run_code.specs.declared.steps.Choice.{Choice}
-use Rattle.run_code.specs.declared.steps.Way.{Way}
-use Rattle.run_code.specs.declared.whole.Code.{Code}
-use Rattle.run_code.specs.Chosen.{by_way, with_chosen}
-use Rattle.run_code.specs.InRange.{part_of, way_of}
+use Rattle.run_layout.specs.declared.steps.Choice.{Choice}
+use Rattle.run_layout.specs.declared.steps.Way.{Way}
+use Rattle.run_layout.specs.declared.whole.Code.{Code}
+use Rattle.run_layout.specs.Chosen.{by_way, with_chosen}
+use Rattle.run_layout.specs.InRange.{part_of, way_of}
 use Rattle.run_state.specs.declared.machine.Machine.{Machine}
 use Rattle.run_state.specs.declared.watch.Begun.{Begun}
 use Rattle.run_state.specs.Operands.{operand_in}
-use Rattle.run_events.specs.Choices.{HasChosen}
-use Rattle.run_events.specs.Ways.{Chooses, made_by}
+use Rattle.run_answers.specs.Choices.{HasChosen}
+use Rattle.run_answers.specs.Ways.{Chooses, made_by}
 
 pub on_ok : {A E : Type 0} (r : Result A E) (P Q : Type 0) → OnOk r P → (P → Q) → OnOk r Q
 on_ok (Ok x) P Q h f = f h

@@ -65,15 +65,15 @@ use Rattle.c_model.specs.Libraries.{result, typed}
 use Rattle.library_laws.specs.Called.{called_with}
 use Rattle.run_acts.specs.Kept.{IsOf}
 use Rattle.run_acts.specs.Views.{value_in}
-use Rattle.run_code.specs.declared.steps.Operand.{Operand}
+use Rattle.run_layout.specs.declared.steps.Operand.{Operand}
 use Rattle.run_state.specs.declared.machine.Machine.{Machine}
 use Rattle.run_state.specs.Operands.{operand_in}
 use Rattle.run_state.specs.Stands.{Holds}
-use Rattle.run_events.specs.declared.acts.Outcome.{Outcome}
-use Rattle.run_events.specs.declared.acts.Outcome.TheVariants as outcome
-use Rattle.run_events.specs.declared.fault.Fault.{Fault}
-use Rattle.run_events.specs.declared.fault.Fault.TheVariants as fault
-use Rattle.run_events.specs.LibraryCalls.{
+use Rattle.run_answers.specs.declared.outcome.Outcome.{Outcome}
+use Rattle.run_answers.specs.declared.outcome.Outcome.TheVariants as outcome
+use Rattle.run_answers.specs.declared.fault.Fault.{Fault}
+use Rattle.run_answers.specs.declared.fault.Fault.TheVariants as fault
+use Rattle.run_answers.specs.LibraryCalls.{
   Arguments,
   AreArguments,
   CallsLibrary,
@@ -87,8 +87,8 @@ use Rattle.run_events.specs.LibraryCalls.{
   call_in,
   types_seen,
 }
-use Rattle.run_events.specs.Performs.{store_in}
-use Rattle.run_events.proofs.Doing.{cell_of}
+use Rattle.run_answers.specs.Performs.{store_in}
+use Rattle.run_answers.proofs.Doing.{cell_of}
 use Rattle.run_events.proofs.Rooms.{no_fewer}
 
 -- ---- the arguments, one after the other

@@ -1,12 +1,12 @@
 -- Only the body of an isolated initializer is said to open a frame.
 use Rattle.std.proofs.Common.{◌≡◌, ℕ, refl, Result}
 use Rattle.ub_base.specs.declared.names.Event.{Event}
-use Rattle.run_code.specs.declared.steps.Act.{Act}
-use Rattle.run_code.specs.declared.steps.Act.TheVariants as act
+use Rattle.run_layout.specs.declared.steps.Act.{Act}
+use Rattle.run_layout.specs.declared.steps.Act.TheVariants as act
 use Rattle.run_state.specs.declared.machine.Machine.{Machine}
-use Rattle.run_events.specs.declared.acts.Outcome.{Outcome}
-use Rattle.run_events.specs.declared.fault.Fault.{Fault}
-use Rattle.run_events.specs.Opens.{Opens}
+use Rattle.run_answers.specs.declared.outcome.Outcome.{Outcome}
+use Rattle.run_answers.specs.declared.fault.Fault.{Fault}
+use Rattle.run_answers.specs.Opens.{Opens}
 
 pub opens_none : (old new : Machine) (a : Act) (event : Event) (r : Result Outcome Fault) → ((n : ℕ) → a ≡ act.Initialize n → ⊥) → Opens old a event new r
 opens_none old new (act.Store n place value) event r is_none = tt

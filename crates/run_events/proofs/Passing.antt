@@ -35,13 +35,13 @@ use Rattle.prov_memory.specs.declared.value.Value.{Value}
 use Rattle.run_control.specs.declared.statement.Statement.{Statement}
 use Rattle.run_control.specs.declared.work.Work.TheVariants as work
 use Rattle.run_control.specs.Stacked.{Stacked}
-use Rattle.run_code.specs.declared.steps.FunctionCode.{FunctionCode}
-use Rattle.run_code.specs.declared.steps.Operand.{Operand}
-use Rattle.run_code.specs.declared.steps.Operand.TheVariants as operand
+use Rattle.run_layout.specs.declared.steps.FunctionCode.{FunctionCode}
+use Rattle.run_layout.specs.declared.steps.Operand.{Operand}
+use Rattle.run_layout.specs.declared.steps.Operand.TheVariants as operand
 use Rattle.run_state.specs.declared.machine.Local.{Local}
 use Rattle.run_state.specs.declared.machine.Machine.{Machine}
 use Rattle.run_state.specs.Operands.{operand_in}
-use Rattle.run_events.specs.Opens.{HasPassed, IsBefore, IsOnTop, OpensFrame, PassesFirst, started_on}
+use Rattle.run_answers.specs.Opens.{HasPassed, IsBefore, IsOnTop, OpensFrame, PassesFirst, started_on}
 
 -- an operand gives the same where only values in rooms behind its own have changed
 same_given : (old m : Machine) (room : ℕ) (o : Operand) (h : Value) → m ≡ record old { values = m.values } →

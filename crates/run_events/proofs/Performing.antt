@@ -13,19 +13,19 @@ use Rattle.mem_spec.specs.Script.{Script, run}
 use Rattle.c_model.specs.Values.{Value, Nothing, pointer_of}
 use Rattle.run_acts.specs.Contents.{CanHoldAll}
 use Rattle.run_acts.proofs.Starting.{can_hold_all}
-use Rattle.run_code.specs.declared.steps.Act.{Act}
-use Rattle.run_code.specs.declared.steps.Act.TheVariants as act
-use Rattle.run_code.specs.declared.steps.Operand.{Operand}
+use Rattle.run_layout.specs.declared.steps.Act.{Act}
+use Rattle.run_layout.specs.declared.steps.Act.TheVariants as act
+use Rattle.run_layout.specs.declared.steps.Operand.{Operand}
 use Rattle.run_state.specs.declared.machine.Machine.{Machine}
 use Rattle.run_state.specs.Stands.{StandsTables}
-use Rattle.run_events.specs.declared.acts.Outcome.{Outcome}
-use Rattle.run_events.specs.declared.acts.Outcome.TheVariants as outcome
-use Rattle.run_events.specs.declared.fault.Fault.{Fault}
-use Rattle.run_events.specs.declared.fault.Fault.TheVariants as fault
-use Rattle.run_events.specs.Acts.{filled_from, given_by, script_in, stored_by, value_script, AreGiven, IsGiven}
-use Rattle.run_events.specs.Performs.{gives_value, kept_room, store_in, CanPerform, Does, Effects, IsDone, Performs}
+use Rattle.run_answers.specs.declared.outcome.Outcome.{Outcome}
+use Rattle.run_answers.specs.declared.outcome.Outcome.TheVariants as outcome
+use Rattle.run_answers.specs.declared.fault.Fault.{Fault}
+use Rattle.run_answers.specs.declared.fault.Fault.TheVariants as fault
+use Rattle.run_answers.specs.Acts.{filled_from, given_by, script_in, stored_by, value_script, AreGiven, IsGiven}
+use Rattle.run_answers.specs.Performs.{gives_value, kept_room, store_in, CanPerform, Does, Effects, IsDone, Performs}
 use Rattle.run_events.proofs.Rooms.{no_update}
-use Rattle.run_events.proofs.Worlds.{filled_same, stored_same, value_same}
+use Rattle.run_answers.proofs.Worlds.{filled_same, stored_same, value_same}
 
 -- ---- effects
 all_at : {A : Type 0} (P : A → Type 0) (xs : List A) (n : ℕ) → All P xs → ForSome (slice_get xs n) P

@@ -18,15 +18,15 @@ use Rattle.run_acts.specs.declared.values.Pointer.{Pointer}
 use Rattle.run_acts.specs.Kept.{IsOf}
 use Rattle.run_acts.specs.Stores.{CanStore, SeesAs}
 use Rattle.run_acts.specs.Views.{value_in, pointer_at}
-use Rattle.run_code.specs.declared.steps.StoreCode.{StoreCode}
+use Rattle.run_layout.specs.declared.steps.StoreCode.{StoreCode}
 use Rattle.run_state.specs.declared.machine.Machine.{Machine}
 use Rattle.run_state.specs.Stands.{IsVia, StandsTables}
-use Rattle.run_events.specs.Acts.{stored_by}
-use Rattle.run_events.specs.Performs.{store_in, CanPut, Puts}
-use Rattle.run_events.proofs.Doing.{cell_of}
-use Rattle.run_events.proofs.MoreRows.{put_more}
+use Rattle.run_answers.specs.Acts.{stored_by}
+use Rattle.run_answers.specs.Performs.{store_in, CanPut, Puts}
+use Rattle.run_answers.proofs.Doing.{cell_of}
+use Rattle.run_answers.proofs.MoreRows.{put_more}
 use Rattle.run_events.proofs.Stored.{each_at}
-use Rattle.run_events.proofs.Worlds.{in_rows, known_in}
+use Rattle.run_answers.proofs.Worlds.{in_rows, known_in}
 
 module _ (m : Machine) (number : ℕ) (s : StoreCode) (via : Via) (p : Pointer) (v : Kept_value) (new : Kept)
     (store_there : slice_get m.code.now.tables.stores.items number ≡ Some s) (via_there : slice_get m.vias.items number ≡ Some via) where

@@ -13,13 +13,13 @@ use Rattle.prov_memory.specs.Memory.{Kept, store_of}
 use Rattle.c_model.specs.Values.{Value}
 use Rattle.run_acts.specs.Kept.{IsOf}
 use Rattle.run_acts.specs.Views.{value_in}
-use Rattle.run_code.specs.declared.steps.Act.{Act}
-use Rattle.run_code.specs.declared.steps.Act.TheVariants as act
+use Rattle.run_layout.specs.declared.steps.Act.{Act}
+use Rattle.run_layout.specs.declared.steps.Act.TheVariants as act
 use Rattle.run_state.specs.declared.machine.Machine.{Machine}
 use Rattle.run_state.specs.Stands.{Holds}
-use Rattle.run_events.specs.declared.acts.Outcome.TheVariants as outcome
-use Rattle.run_events.specs.Acts.{script_in}
-use Rattle.run_events.specs.Performs.{kept_room, store_in, ChangesOnly, Does, HoldsUpdate, IsDone, TouchesMemory, TouchesValues}
+use Rattle.run_answers.specs.declared.outcome.Outcome.TheVariants as outcome
+use Rattle.run_answers.specs.Acts.{script_in}
+use Rattle.run_answers.specs.Performs.{kept_room, store_in, ChangesOnly, Does, HoldsUpdate, IsDone, TouchesMemory, TouchesValues}
 
 -- ---- rooms
 within : {A : Type 0} (xs : List A) (n : ℕ) (x : A) → slice_get xs n ≡ Some x → n < length xs

@@ -28,19 +28,19 @@ use Rattle.run_acts.specs.Fills.{AreFillings}
 use Rattle.run_acts.specs.Kept.{IsOf, AreOf}
 use Rattle.run_acts.specs.Stores.{CanStore, SeesAs}
 use Rattle.run_acts.specs.Views.{value_in, pointer_at}
-use Rattle.run_code.specs.declared.steps.Operand.{Operand}
-use Rattle.run_code.specs.declared.steps.StoreCode.{StoreCode}
+use Rattle.run_layout.specs.declared.steps.Operand.{Operand}
+use Rattle.run_layout.specs.declared.steps.StoreCode.{StoreCode}
 use Rattle.run_state.specs.declared.machine.Machine.{Machine}
 use Rattle.run_state.specs.Operands.{operand_in}
 use Rattle.run_state.specs.Stands.{AreBytes, AreEach, IsVia, StandsTables}
-use Rattle.run_events.specs.declared.acts.Outcome.{Outcome}
-use Rattle.run_events.specs.declared.acts.Outcome.TheVariants as outcome
-use Rattle.run_events.specs.declared.fault.Fault.{Fault}
-use Rattle.run_events.specs.declared.fault.Fault.TheVariants as fault
-use Rattle.run_events.specs.Acts.{filled_from, given_by, stored_by, IsGiven}
-use Rattle.run_events.specs.Performs.{store_in, CanAct, Effects}
-use Rattle.run_events.specs.Faults.{fault_of}
-use Rattle.run_events.proofs.Doing.{Of, cell_of, copy_of, given_as, given_copy, pointer_made, rows_kept}
+use Rattle.run_answers.specs.declared.outcome.Outcome.{Outcome}
+use Rattle.run_answers.specs.declared.outcome.Outcome.TheVariants as outcome
+use Rattle.run_answers.specs.declared.fault.Fault.{Fault}
+use Rattle.run_answers.specs.declared.fault.Fault.TheVariants as fault
+use Rattle.run_answers.specs.Acts.{filled_from, given_by, stored_by, IsGiven}
+use Rattle.run_answers.specs.Performs.{store_in, CanAct, Effects}
+use Rattle.run_answers.specs.Faults.{fault_of}
+use Rattle.run_answers.proofs.Doing.{Of, cell_of, copy_of, given_as, given_copy, pointer_made, rows_kept}
 
 -- ---- lists that go together
 pub each_at : {A B : Type 0} (P : A → B → Type 0) (xs : List A) (ys : List B) (n : ℕ) (x : A) (y : B) → AreEach P xs ys → slice_get xs n ≡ Some x

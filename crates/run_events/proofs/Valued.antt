@@ -40,20 +40,20 @@ use Rattle.run_acts.specs.declared.values.Pointer.{Pointer}
 use Rattle.run_acts.specs.Kept.{IsOf}
 use Rattle.run_acts.specs.Updates.{CanChange, IsNearChange}
 use Rattle.run_acts.specs.Views.{value_in, pointer_at}
-use Rattle.run_code.specs.declared.steps.Act.{Act}
-use Rattle.run_code.specs.declared.steps.Act.TheVariants as act
-use Rattle.run_code.specs.declared.steps.Operand.{Operand}
-use Rattle.run_code.specs.declared.steps.Operand.TheVariants as operand
+use Rattle.run_layout.specs.declared.steps.Act.{Act}
+use Rattle.run_layout.specs.declared.steps.Act.TheVariants as act
+use Rattle.run_layout.specs.declared.steps.Operand.{Operand}
+use Rattle.run_layout.specs.declared.steps.Operand.TheVariants as operand
 use Rattle.run_state.specs.declared.machine.Machine.{Machine}
 use Rattle.run_state.specs.Stands.{Holds}
-use Rattle.run_events.specs.declared.acts.Outcome.{Outcome}
-use Rattle.run_events.specs.declared.acts.Outcome.TheVariants as outcome
-use Rattle.run_events.specs.declared.fault.Fault.{Fault}
-use Rattle.run_events.specs.declared.fault.Fault.TheVariants as fault
-use Rattle.run_events.specs.Acts.{given_by, AreGiven, IsGiven}
-use Rattle.run_events.specs.Performs.{gives_value, is_pointer_act, store_in, CanAct, ChangesOnly, Does, IsDone, TouchesValues}
-use Rattle.run_events.specs.Faults.{fault_of}
-use Rattle.run_events.proofs.Doing.{Of, cell_of, given_as, pointer_made}
+use Rattle.run_answers.specs.declared.outcome.Outcome.{Outcome}
+use Rattle.run_answers.specs.declared.outcome.Outcome.TheVariants as outcome
+use Rattle.run_answers.specs.declared.fault.Fault.{Fault}
+use Rattle.run_answers.specs.declared.fault.Fault.TheVariants as fault
+use Rattle.run_answers.specs.Acts.{given_by, AreGiven, IsGiven}
+use Rattle.run_answers.specs.Performs.{gives_value, is_pointer_act, store_in, CanAct, ChangesOnly, Does, IsDone, TouchesValues}
+use Rattle.run_answers.specs.Faults.{fault_of}
+use Rattle.run_answers.proofs.Doing.{Of, cell_of, given_as, pointer_made}
 use Rattle.run_events.proofs.Rooms.{no_fewer}
 
 -- ---- integers

@@ -9,20 +9,19 @@ ghost use Rattle.prov_memory.specs.Memory.{HasCell, Kept};
 ghost use Rattle.prov_memory.specs.Sound.{IsSound};
 ghost use Rattle.run_acts.specs.Kept.{IsOf};
 ghost use Rattle.run_acts.specs.Views.{value_in, pointer_at};
-ghost use Rattle.run_code.specs.Named.{IsNamed};
+ghost use Rattle.run_layout.specs.Named.{IsNamed};
 ghost use Rattle.c_typed.specs.declared.tree.Access.TheVariants as accesses;
 ghost use Rattle.c_typed.specs.declared.tree.Conversion.TheVariants as conversions;
 ghost use Rattle.run_acts.specs.Loads.{integer_act};
-ghost use Rattle.run_code.specs.declared.steps.Act.{Act as ActOf};
-ghost use Rattle.run_code.specs.declared.steps.Act.TheVariants as acts;
-ghost use Rattle.run_code.specs.declared.steps.Operand.TheVariants as operands;
+ghost use Rattle.run_layout.specs.declared.steps.Act.{Act as ActOf};
+ghost use Rattle.run_layout.specs.declared.steps.Act.TheVariants as acts;
+ghost use Rattle.run_layout.specs.declared.steps.Operand.TheVariants as operands;
 ghost use Rattle.run_state.specs.Stands.{StandsTables};
-ghost use Rattle.run_events.specs.Acts.{either_truth, filled_from, given_by, script_in, stored_by, is_body_act, AreGiven, IsGiven};
-ghost use Rattle.run_events.specs.Calling.{CallsNumbered};
-ghost use Rattle.run_events.specs.Opens.{Opens};
-ghost use Rattle.run_events.specs.Performs.{gives_value, kept_room, is_pointer_act, CanAct, CanPerform, CanPut, ChangesOnly, Does, Effects, Performs, Puts, TouchesMemory, TouchesSpare};
+ghost use Rattle.run_answers.specs.Acts.{either_truth, filled_from, given_by, script_in, stored_by, is_body_act, AreGiven, IsGiven};
+ghost use Rattle.run_answers.specs.Calling.{CallsNumbered};
+ghost use Rattle.run_answers.specs.Opens.{Opens};
+ghost use Rattle.run_answers.specs.Performs.{gives_value, kept_room, is_pointer_act, CanAct, CanPerform, CanPut, ChangesOnly, Does, Effects, Performs, Puts, TouchesMemory, TouchesSpare};
 
-use crate::fault::Fault;
 use crate::frames::{call, initialize};
 use c_typed::{Access, Change, Conversion, EqOp, RelOp, UnOp};
 use c_types::{BinOp, IntKind, Ty};
@@ -31,20 +30,10 @@ use run_acts::{
     Filling, Pointer, answer, binary, changed, convert, distance, equal, fill, load, member, moved,
     part, related, store, unary,
 };
-use run_code::{Act, Operand, StoreCode};
+use run_answers::Fault;
+use run_layout::{Act, Operand, StoreCode};
 use run_state::Machine;
 use ub_base::{Clause, Event, Items, NoMemory};
-
-/// What an event came to.
-#[derive(Clone, Copy, Debug, PartialEq, Eq)]
-pub enum Outcome {
-    /// Its act is done. The value of a node is in its room.
-    Done,
-    /// A frame has started.
-    Started,
-    /// The end of the run, with its status.
-    End(u8),
-}
 
 fn number(value: bool) -> Value
     ensures seen { (m : Kept) → value_in m result ≡ bool_value value }

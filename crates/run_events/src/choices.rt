@@ -1,9 +1,9 @@
 // The operands that nodes choose to evaluate.
 ghost use Rattle.std.specs.Prelude.{◌≡◌, ◌∷◌, [], ◌<◌, length, OnOk};
-ghost use Rattle.run_events.specs.Choices.{HasChosen};
-ghost use Rattle.run_events.specs.Ways.{Chooses};
+ghost use Rattle.run_answers.specs.Choices.{HasChosen};
+ghost use Rattle.run_answers.specs.Ways.{Chooses};
 
-use run_code::Code;
+use run_layout::Code;
 use run_state::Machine;
 use ub_base::NoMemory;
 

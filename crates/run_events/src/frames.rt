@@ -5,19 +5,19 @@ ghost use Rattle.prov_memory.specs.Memory.{Kept};
 ghost use Rattle.prov_memory.specs.declared.value.Value.{Value as Kept_value};
 ghost use Rattle.run_acts.specs.Views.{value_in};
 ghost use Rattle.run_state.specs.Operands.{operand_in};
-ghost use Rattle.run_events.specs.Calling.{library_in, Calls};
-ghost use Rattle.run_events.specs.Depth.{StartsWithin};
-ghost use Rattle.run_events.specs.LibraryCalls.{types_seen, AreArguments, CallsLibrary, CanCall, IsAnswered, TakesAnswer, TouchesStreams};
-ghost use Rattle.run_events.specs.Opens.{started_on, IsOnTop, OpensFrame, OpensFunction, OpensInitializer, Passes};
+ghost use Rattle.run_answers.specs.Calling.{library_in, Calls};
+ghost use Rattle.run_answers.specs.Depth.{StartsWithin};
+ghost use Rattle.run_answers.specs.LibraryCalls.{types_seen, AreArguments, CallsLibrary, CanCall, IsAnswered, TakesAnswer, TouchesStreams};
+ghost use Rattle.run_answers.specs.Opens.{started_on, IsOnTop, OpensFrame, OpensFunction, OpensInitializer, Passes};
 
 use crate::acts::{Outcome, in_room};
-use crate::fault::Fault;
 use c_typed::Program;
 use c_types::LibFunc;
 use prov_memory::{LibAnswer, Values};
 use run_acts::{as_function, callee};
-use run_code::{CallCode, FunctionCode, Operand, Range};
+use run_answers::Fault;
 use run_control::Use;
+use run_layout::{CallCode, FunctionCode, Operand, Range};
 use run_state::{Machine, Open};
 use ub_base::{Cause, Clause, Event, Items, NoMemory};
 

@@ -4,11 +4,8 @@
 
 mod acts;
 mod choices;
-mod fault;
 mod frames;
-mod laws;
 
-pub use acts::{Outcome, perform, put_at};
+pub use acts::{perform, put_at};
 pub use choices::{choose, choose_at_once};
-pub use fault::Fault;
-pub use laws::law_acts;
+pub use run_answers::{Fault, Outcome};

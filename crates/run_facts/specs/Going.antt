@@ -8,7 +8,7 @@ use Rattle.run_control.specs.View.{Meaning}
 use Rattle.run_statements.specs.declared.numbers.Numbers.{Numbers}
 use Rattle.run_state.specs.declared.machine.Machine.{Machine}
 use Rattle.run_state.specs.Stands.{Stands}
-use Rattle.run_machine.specs.Answering.{IsWithin}
+use Rattle.run_answers.specs.Answering.{IsWithin}
 use Rattle.code_view.specs.Numbering.{meaning_of}
 use Rattle.frame_laws.specs.Frames.{AreOrdered}
 use Rattle.frame_laws.specs.Reached.{AreReached}

@@ -3,11 +3,11 @@ use Rattle.std.specs.Prelude.{◌≡◌, ℕ, ◌^◌}
 use Rattle.c_typed.specs.declared.program.Program.{Program}
 use Rattle.c_typed.specs.Lawful.{IsLawful}
 use Rattle.c_model.specs.World.{World, Limits}
-use Rattle.run_code.specs.declared.whole.Code.{Code}
-use Rattle.run_code.specs.Functions.{HaveBlocks, HaveExpressions, laid_in}
-use Rattle.run_code.specs.OfTrees.{ListsTrees}
-use Rattle.run_code.specs.Roots.{AreInBlocks, HaveCode}
-use Rattle.run_machine.specs.Passing.{RowsAreLawful}
+use Rattle.run_layout.specs.declared.whole.Code.{Code}
+use Rattle.run_layout.specs.Functions.{HaveBlocks, HaveExpressions, laid_in}
+use Rattle.run_layout.specs.OfTrees.{ListsTrees}
+use Rattle.run_layout.specs.Roots.{AreInBlocks, HaveCode}
+use Rattle.run_answers.specs.Passing.{RowsAreLawful}
 use Rattle.run_state.specs.Begins.{KeepsLabels}
 use Rattle.run_state.specs.Meaning.{StandsProgram}
 use Rattle.run_state.specs.Operands.{AreAddresses}

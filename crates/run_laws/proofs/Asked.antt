@@ -1,12 +1,12 @@
 -- What code_view gives of code is what run_machine asks of it.
 use Rattle.std.proofs.Common.{◌≡◌, ℕ, true, false, List, refl, sym, subst, ◌∙◌}
 use Rattle.c_model.specs.Steps.{Begun}
-use Rattle.run_code.specs.declared.steps.Act.{Act}
-use Rattle.run_code.specs.declared.steps.Act.TheVariants as act
-use Rattle.run_code.specs.declared.steps.Listed.{Listed}
-use Rattle.run_code.specs.OfTrees.{listing_in}
-use Rattle.run_events.specs.Performs.{gives_value, kept_room}
-use Rattle.run_machine.specs.Ending.{IsUpdateRoom}
+use Rattle.run_layout.specs.declared.steps.Act.{Act}
+use Rattle.run_layout.specs.declared.steps.Act.TheVariants as act
+use Rattle.run_layout.specs.declared.steps.Listed.{Listed}
+use Rattle.run_layout.specs.OfTrees.{listing_in}
+use Rattle.run_answers.specs.Performs.{gives_value, kept_room}
+use Rattle.run_answers.specs.Ending.{IsUpdateRoom}
 use Rattle.code_view.specs.Events.{stores}
 use Rattle.code_view.specs.Rooms.{HasRoomsOf, IsUpdateRoomOf, RoomsAreThere, kept_at}
 use Rattle.run_laws.specs.Asked.{RoomsAreAsked, CodeHasRooms, EventsAreAsked, LabelsAreAsked}

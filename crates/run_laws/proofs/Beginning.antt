@@ -13,19 +13,19 @@ use Rattle.program_view.specs.Trees.{expr_of}
 use Rattle.program_view.proofs.Seen.{same_tree}
 use Rattle.seq_order.specs.Marked.{taken_in}
 use Rattle.run_control.specs.View.{Meaning}
-use Rattle.run_code.specs.declared.nodes.NodeInfo.{NodeInfo}
-use Rattle.run_code.specs.declared.steps.Expression.{Expression as Laid}
-use Rattle.run_code.specs.Chosen.{IsKept, Views, with_chosen}
-use Rattle.run_code.specs.InRange.{part_of}
-use Rattle.run_code.specs.Keeping.{KeepsAtBegin}
-use Rattle.run_code.specs.LaidOut.{LaidOutBy}
-use Rattle.run_code.specs.OfTrees.{HasListing}
+use Rattle.run_layout.specs.declared.nodes.NodeInfo.{NodeInfo}
+use Rattle.run_layout.specs.declared.steps.Expression.{Expression as Laid}
+use Rattle.run_layout.specs.Chosen.{IsKept, Views, with_chosen}
+use Rattle.run_layout.specs.InRange.{part_of}
+use Rattle.run_layout.specs.Keeping.{KeepsAtBegin}
+use Rattle.run_layout.specs.LaidOut.{LaidOutBy}
+use Rattle.run_layout.specs.OfTrees.{HasListing}
 use Rattle.run_state.specs.declared.machine.Machine.{Machine}
 use Rattle.run_state.specs.declared.machine.Stage.{Stage}
 use Rattle.run_state.specs.declared.watch.Begun.{Begun as Shown}
 use Rattle.run_state.specs.Operands.{AreAddresses, StandsObjects}
 use Rattle.run_state.specs.Stands.{Stands, StandsExpression}
-use Rattle.run_machine.specs.Picks.{top_of}
+use Rattle.run_answers.specs.Picks.{top_of}
 use Rattle.code_view.specs.Named.{NamesAreOpen, OpenIsKnown}
 use Rattle.run_laws.specs.Beginning.{BeginsOpen, HasJustBegun}
 use Rattle.run_laws.specs.Open.{IsLawfulCode}

@@ -33,29 +33,29 @@ use Rattle.program_view.specs.Trees.{expr_of, exprs_of}
 use Rattle.program_view.proofs.Seen.{node_in, operands_in, own_type, head_in, expr_at, same_tree}
 use Rattle.run_acts.specs.Calls.{type_by}
 use Rattle.run_control.specs.View.{Meaning}
-use Rattle.run_code.specs.declared.nodes.NodeInfo.{NodeInfo}
-use Rattle.run_code.specs.declared.steps.Due.{Due}
-use Rattle.run_code.specs.declared.steps.Expression.{Expression as Laid}
-use Rattle.run_code.specs.declared.steps.Operand.{Operand}
-use Rattle.run_code.specs.declared.steps.Operand.TheVariants as operand
-use Rattle.run_code.specs.EventActs as code
-use Rattle.run_code.specs.EventActs.{GoesBy, IsAct, head_at, later_types, pointed, rest_of, sight_of}
-use Rattle.run_code.specs.Numbered.{AreBelow}
-use Rattle.run_code.specs.Resolved as resolved
-use Rattle.run_code.specs.Resolved.{NodeResolved, by_conversion, constant_of, member_of, node_resolved, null_of, object_of, operands_from, tree_resolved}
+use Rattle.run_layout.specs.declared.nodes.NodeInfo.{NodeInfo}
+use Rattle.run_layout.specs.declared.steps.Due.{Due}
+use Rattle.run_layout.specs.declared.steps.Expression.{Expression as Laid}
+use Rattle.run_layout.specs.declared.steps.Operand.{Operand}
+use Rattle.run_layout.specs.declared.steps.Operand.TheVariants as operand
+use Rattle.run_layout.specs.EventActs as code
+use Rattle.run_layout.specs.EventActs.{GoesBy, IsAct, head_at, later_types, pointed, rest_of, sight_of}
+use Rattle.run_layout.specs.Numbered.{AreBelow}
+use Rattle.run_layout.specs.Resolved as resolved
+use Rattle.run_layout.specs.Resolved.{NodeResolved, by_conversion, constant_of, member_of, node_resolved, null_of, object_of, operands_from, tree_resolved}
 use Rattle.run_listing.specs.Along.{IsListed}
 use Rattle.run_state.specs.declared.machine.Machine.{Machine}
 use Rattle.run_state.specs.declared.machine.Stage.{Stage}
 use Rattle.run_state.specs.Operands.{Gives}
-use Rattle.run_events.specs.Calling.{type_of_call}
-use Rattle.run_events.specs.Nodes.{head_of}
-use Rattle.run_events.specs.Opens.{IsBefore}
-use Rattle.run_events.specs.Takes.{CallTakesGiven, NodeStands}
-use Rattle.run_events.proofs.Nodes.{head_is, node_is}
-use Rattle.run_machine.specs.Picks.{whole_part, NextIsPermitted}
-use Rattle.run_machine.specs.Starting.{ArePassed}
-use Rattle.run_machine.specs.Taking.{past_event, passed_stage}
-use Rattle.run_machine.specs.Starting as starting
+use Rattle.run_answers.specs.Calling.{type_of_call}
+use Rattle.run_answers.specs.Nodes.{head_of}
+use Rattle.run_answers.specs.Opens.{IsBefore}
+use Rattle.run_answers.specs.Takes.{CallTakesGiven, NodeStands}
+use Rattle.run_answers.proofs.Nodes.{head_is, node_is}
+use Rattle.run_answers.specs.Picks.{whole_part, NextIsPermitted}
+use Rattle.run_answers.specs.Starting.{ArePassed}
+use Rattle.run_answers.specs.Taking.{past_event, passed_stage}
+use Rattle.run_answers.specs.Starting as starting
 use Rattle.code_view.specs.Named.{OpenIsNamed}
 use Rattle.run_laws.specs.Asked.{CodeHasRooms}
 use Rattle.run_laws.specs.Calls.{CallsOwn, HasPlaces, IsCallBody, IsCallCode, OpenIsCall, OpenIsCallCode, OpenMayCall, OpenMayCallNext}

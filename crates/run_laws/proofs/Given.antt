@@ -19,24 +19,24 @@ use Rattle.c_model.specs.Steps.{Begun, Ev, MayPick, Scene}
 use Rattle.c_model.specs.World.{World}
 use Rattle.program_view.specs.Trees.{expr_of}
 use Rattle.run_control.specs.View.{Meaning}
-use Rattle.run_code.specs.declared.nodes.NodeInfo.{NodeInfo}
-use Rattle.run_code.specs.declared.steps.Due.{Due}
-use Rattle.run_code.specs.declared.steps.Expression.{Expression as Laid}
-use Rattle.run_code.specs.declared.steps.Listed.{Listed}
-use Rattle.run_code.specs.declared.steps.Listed.TheVariants as listed
-use Rattle.run_code.specs.Chosen.{Views}
-use Rattle.run_code.specs.EventActs.{IsDue, IsEntry}
-use Rattle.run_code.specs.OfTrees.{listing_in}
+use Rattle.run_layout.specs.declared.nodes.NodeInfo.{NodeInfo}
+use Rattle.run_layout.specs.declared.steps.Due.{Due}
+use Rattle.run_layout.specs.declared.steps.Expression.{Expression as Laid}
+use Rattle.run_layout.specs.declared.steps.Listed.{Listed}
+use Rattle.run_layout.specs.declared.steps.Listed.TheVariants as listed
+use Rattle.run_layout.specs.Chosen.{Views}
+use Rattle.run_layout.specs.EventActs.{IsDue, IsEntry}
+use Rattle.run_layout.specs.OfTrees.{listing_in}
 use Rattle.run_listing.specs.Along.{IsListed, part_of}
 use Rattle.run_state.specs.declared.machine.Machine.{Machine}
 use Rattle.run_state.specs.declared.machine.Stage.{Stage}
 use Rattle.run_state.specs.Operands.{AreAddresses, StandsObjects}
 use Rattle.run_state.specs.Stands.{StandLocals, StandsDone, StandsExpression, StandsValues}
-use Rattle.run_events.specs.Nodes.{ActsAreOfNodes, IsActOf, head_of, TakesGiven}
-use Rattle.run_events.specs.Takes as takes
-use Rattle.run_events.specs.Takes.{NodeStands, PermittedTakesGiven}
-use Rattle.run_machine.specs.Picks.{whole_part, ComesNext, NextIsPermitted}
-use Rattle.run_machine.specs.Taking.{HasRooms, IsAt, IsEventOf, past_event, passed_stage}
+use Rattle.run_answers.specs.Nodes.{ActsAreOfNodes, IsActOf, head_of, TakesGiven}
+use Rattle.run_answers.specs.Takes as takes
+use Rattle.run_answers.specs.Takes.{NodeStands, PermittedTakesGiven}
+use Rattle.run_answers.specs.Picks.{whole_part, ComesNext, NextIsPermitted}
+use Rattle.run_answers.specs.Taking.{HasRooms, IsAt, IsEventOf, past_event, passed_stage}
 use Rattle.code_view.specs.Events.{EventsAreEvaluated, IsListedAt}
 use Rattle.code_view.specs.Named.{ListIsThere, NamedIsOpen, NamesAreOpen, OpenIsKnown, OpenIsNamed, SlotIsOpen}
 use Rattle.run_laws.specs.Asked.{CodeHasRooms}

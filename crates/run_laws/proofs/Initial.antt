@@ -13,18 +13,18 @@ use Rattle.c_model.specs.World.{World}
 use Rattle.program_view.specs.Trees.{expr_of, exprs_of}
 use Rattle.program_view.proofs.Seen.{operands_in, own_type, head_in, expr_at}
 use Rattle.run_control.specs.View.{Meaning}
-use Rattle.run_code.specs.declared.nodes.NodeInfo.{NodeInfo}
-use Rattle.run_code.specs.declared.steps.Due.{Due}
-use Rattle.run_code.specs.declared.steps.Expression.{Expression as Laid}
-use Rattle.run_code.specs.EventActs.{IsAct, sight_of}
+use Rattle.run_layout.specs.declared.nodes.NodeInfo.{NodeInfo}
+use Rattle.run_layout.specs.declared.steps.Due.{Due}
+use Rattle.run_layout.specs.declared.steps.Expression.{Expression as Laid}
+use Rattle.run_layout.specs.EventActs.{IsAct, sight_of}
 use Rattle.run_listing.specs.Along.{IsListed}
 use Rattle.run_state.specs.declared.machine.Machine.{Machine}
 use Rattle.run_state.specs.declared.machine.Stage.{Stage}
-use Rattle.run_events.proofs.Nodes.{head_is, node_is}
-use Rattle.run_machine.specs.Picks.{whole_part}
-use Rattle.run_machine.specs.Starting.{IsInitializer}
+use Rattle.run_answers.proofs.Nodes.{head_is, node_is}
+use Rattle.run_answers.specs.Picks.{whole_part}
+use Rattle.run_answers.specs.Starting.{IsInitializer}
 use Rattle.run_laws.specs.Asked.{CodeHasRooms}
-use Rattle.run_code.specs.Initializers.{NumberInitializers}
+use Rattle.run_layout.specs.Initializers.{NumberInitializers}
 use Rattle.run_laws.specs.Initial.{IsIsolatedBody, OpenIsInitializer, OpenMayStart, OpenMayStartNext}
 use Rattle.run_laws.specs.Open.{IsOpen}
 use Rattle.run_laws.proofs.Given.{due_is, end_small, has_rooms, next_listed, root_is}

@@ -5,14 +5,14 @@ use Rattle.c_model.specs.Runs.{State}
 use Rattle.c_model.specs.Steps.{Begun, Ev, MayPick, Scene}
 use Rattle.c_model.specs.Values.{Value}
 use Rattle.c_model.specs.World.{World}
-use Rattle.run_code.specs.declared.steps.Due.{Due}
-use Rattle.run_code.specs.declared.steps.Operand.{Operand}
+use Rattle.run_layout.specs.declared.steps.Due.{Due}
+use Rattle.run_layout.specs.declared.steps.Operand.{Operand}
 use Rattle.run_state.specs.declared.machine.Machine.{Machine}
-use Rattle.run_events.specs.Takes.{CallTakesGiven}
-use Rattle.run_machine.specs.Library.{ArgumentsGive, IsCallOfLibrary}
-use Rattle.run_machine.specs.Picks.{NextIsPermitted}
-use Rattle.run_machine.specs.Starting.{ArePassed}
-use Rattle.run_machine.specs.Taking.{passed_stage}
+use Rattle.run_answers.specs.Takes.{CallTakesGiven}
+use Rattle.run_answers.specs.Library.{ArgumentsGive, IsCallOfLibrary}
+use Rattle.run_answers.specs.Picks.{NextIsPermitted}
+use Rattle.run_answers.specs.Starting.{ArePassed}
+use Rattle.run_answers.specs.Taking.{passed_stage}
 use Rattle.code_view.specs.Events.{EventsAreEvaluated}
 use Rattle.code_view.specs.Named.{OpenIsKnown, OpenIsNamed}
 use Rattle.run_laws.specs.Asked.{CodeHasRooms}

@@ -42,9 +42,9 @@ use Rattle.c_model.specs.World.{World}
 use Rattle.program_view.specs.Trees.{constant_head, expr_of, exprs_of, is_pointer}
 use Rattle.program_view.proofs.Seen.{node_in, operands_in, own_type, head_in, expr_at, by_size}
 use Rattle.run_acts.specs.Updates.{IsNear}
-use Rattle.run_code.specs.declared.nodes.NodeInfo.{NodeInfo}
-use Rattle.run_code.specs.Numbered.{AreNodes}
-use Rattle.run_events.specs.Nodes.{head_of, IsNearBy}
+use Rattle.run_layout.specs.declared.nodes.NodeInfo.{NodeInfo}
+use Rattle.run_layout.specs.Numbered.{AreNodes}
+use Rattle.run_answers.specs.Nodes.{head_of, IsNearBy}
 use Rattle.run_laws.proofs.Sites.{all_both, in_nodes, parts, site_in}
 use Rattle.run_laws.specs.Given.{MovesAreNear}
 use Rattle.code_view.specs.Known.{IsLawfulTree}

@@ -11,8 +11,8 @@ use Rattle.c_typed.specs.declared.tree.Typed.{Typed, out-Typed, fold_out-Typed}
 use Rattle.c_typed.specs.Sites.{Site, Seen, SeenNode, seen_node, seen_tree, type_seen, all_sites, seen, sites}
 use Rattle.c_typed.specs.Tree.{size, sizes, tree_of, trees_of}
 use Rattle.program_view.proofs.Seen.{node_in, operands_in, own_type, by_size, size_at}
-use Rattle.run_code.specs.declared.nodes.NodeInfo.{NodeInfo}
-use Rattle.run_code.specs.Numbered.{IsAt, AreBelow, AreNoted, AreNodes}
+use Rattle.run_layout.specs.declared.nodes.NodeInfo.{NodeInfo}
+use Rattle.run_layout.specs.Numbered.{IsAt, AreBelow, AreNoted, AreNodes}
 
 -- a root as the node above sees it
 abbrev pub seen_root : Node-F Node Typed → SeenNode

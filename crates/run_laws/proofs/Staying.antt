@@ -28,19 +28,19 @@ use Rattle.c_model.specs.World.{World}
 use Rattle.program_view.specs.Trees.{exprs_of}
 use Rattle.program_view.proofs.Seen.{expr_at, head_in, node_in, operands_in, own_type}
 use Rattle.run_control.specs.View.{Meaning}
-use Rattle.run_code.specs.declared.nodes.NodeInfo.{NodeInfo}
-use Rattle.run_code.specs.declared.steps.Choice.{Choice}
-use Rattle.run_code.specs.declared.steps.Due.{Due}
-use Rattle.run_code.specs.declared.steps.Expression.{Expression as Laid}
-use Rattle.run_code.specs.declared.steps.Act.{Act}
-use Rattle.run_code.specs.declared.steps.Listed.{Listed}
-use Rattle.run_code.specs.declared.steps.Listed.TheVariants as listed
-use Rattle.run_code.specs.declared.steps.Operand.{Operand}
-use Rattle.run_code.specs.declared.tables.Tables.{Tables}
-use Rattle.run_code.specs.declared.whole.Code.{Code}
-use Rattle.run_code.specs.Choices.{ChoosesAt}
-use Rattle.run_code.specs.EventActs.{IsAct, IsValue, Sight, head_at, sight_of}
-use Rattle.run_code.specs.LaidOut.{LaidOutBy}
+use Rattle.run_layout.specs.declared.nodes.NodeInfo.{NodeInfo}
+use Rattle.run_layout.specs.declared.steps.Choice.{Choice}
+use Rattle.run_layout.specs.declared.steps.Due.{Due}
+use Rattle.run_layout.specs.declared.steps.Expression.{Expression as Laid}
+use Rattle.run_layout.specs.declared.steps.Act.{Act}
+use Rattle.run_layout.specs.declared.steps.Listed.{Listed}
+use Rattle.run_layout.specs.declared.steps.Listed.TheVariants as listed
+use Rattle.run_layout.specs.declared.steps.Operand.{Operand}
+use Rattle.run_layout.specs.declared.tables.Tables.{Tables}
+use Rattle.run_layout.specs.declared.whole.Code.{Code}
+use Rattle.run_layout.specs.Choices.{ChoosesAt}
+use Rattle.run_layout.specs.EventActs.{IsAct, IsValue, Sight, head_at, sight_of}
+use Rattle.run_layout.specs.LaidOut.{LaidOutBy}
 use Rattle.run_listing.specs.Along.{IsListed}
 use Rattle.run_state.specs.declared.machine.Machine.{Machine}
 use Rattle.run_state.specs.declared.machine.Open.{Open}
@@ -48,13 +48,13 @@ use Rattle.run_state.specs.declared.machine.Stage.{Stage}
 use Rattle.run_state.specs.declared.watch.Begun.{Begun as Shown}
 use Rattle.run_state.specs.Operands.{Gives, RoomGives}
 use Rattle.run_state.specs.Stands.{Holds}
-use Rattle.run_events.specs.Nodes.{IsActOf}
-use Rattle.run_events.specs.Acts.{script_in}
-use Rattle.run_events.specs.Performs.{gives_value}
-use Rattle.run_events.proofs.Nodes.{node_is}
-use Rattle.run_machine.specs.Ending.{NotesWay}
-use Rattle.run_machine.specs.Picks.{event_at, whole_part}
-use Rattle.run_machine.specs.Taking.{Decides, EventStands, IsPast, TakesEvent, after_event, store_after}
+use Rattle.run_answers.specs.Nodes.{IsActOf}
+use Rattle.run_answers.specs.Acts.{script_in}
+use Rattle.run_answers.specs.Performs.{gives_value}
+use Rattle.run_answers.proofs.Nodes.{node_is}
+use Rattle.run_answers.specs.Ending.{NotesWay}
+use Rattle.run_answers.specs.Picks.{event_at, whole_part}
+use Rattle.run_answers.specs.Taking.{Decides, EventStands, IsPast, TakesEvent, after_event, store_after}
 use Rattle.code_view.specs.Events.{EventsAreEvaluated, IsListedAt}
 use Rattle.code_view.specs.Named.{NamedIsOpen, NamesAreOpen, SlotIsOpen}
 use Rattle.run_laws.specs.Open.{aside, IsLawfulCode, IsOpen}

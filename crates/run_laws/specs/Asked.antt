@@ -5,17 +5,17 @@ use Rattle.c_typed.specs.Lawful.{IsLawful}
 use Rattle.c_model.specs.Steps.{Begun, Scene}
 use Rattle.c_model.specs.World.{World}
 use Rattle.program_view.specs.Trees.{expr_of}
-use Rattle.run_code.specs.declared.nodes.NodeInfo.{NodeInfo}
-use Rattle.run_code.specs.declared.steps.Due.{Due}
-use Rattle.run_code.specs.declared.steps.Expression.{Expression as Laid}
-use Rattle.run_code.specs.declared.steps.Listed.{Listed}
-use Rattle.run_code.specs.declared.whole.Code.{Code}
-use Rattle.run_code.specs.LaidOut.{LaidOutBy}
-use Rattle.run_code.specs.OfTrees.{ListsTrees, listing_in}
+use Rattle.run_layout.specs.declared.nodes.NodeInfo.{NodeInfo}
+use Rattle.run_layout.specs.declared.steps.Due.{Due}
+use Rattle.run_layout.specs.declared.steps.Expression.{Expression as Laid}
+use Rattle.run_layout.specs.declared.steps.Listed.{Listed}
+use Rattle.run_layout.specs.declared.whole.Code.{Code}
+use Rattle.run_layout.specs.LaidOut.{LaidOutBy}
+use Rattle.run_layout.specs.OfTrees.{ListsTrees, listing_in}
 use Rattle.run_statements.specs.declared.jumps.Jumps.{Jumps}
 use Rattle.run_statements.specs.declared.numbers.Numbers.{Numbers}
-use Rattle.run_machine.specs.Jumps.{HasLabels}
-use Rattle.run_machine.specs.Taking.{AreLawful, HasRooms, IsEventOf}
+use Rattle.run_answers.specs.Jumps.{HasLabels}
+use Rattle.run_answers.specs.Taking.{AreLawful, HasRooms, IsEventOf}
 use Rattle.code_view.specs.Events.{IsEventOfCode}
 use Rattle.code_view.specs.Labels.{KeepsLabelsOf}
 use Rattle.code_view.specs.Laws.{IsCodeOfProgram}

@@ -6,17 +6,17 @@ use Rattle.c_model.specs.Steps.{Begun}
 use Rattle.c_model.specs.World.{World}
 use Rattle.seq_order.specs.Marked.{taken_in}
 use Rattle.run_control.specs.View.{Meaning}
-use Rattle.run_code.specs.declared.nodes.NodeInfo.{NodeInfo}
-use Rattle.run_code.specs.declared.steps.Expression.{Expression as Laid}
-use Rattle.run_code.specs.Chosen.{with_chosen}
-use Rattle.run_code.specs.InRange.{part_of}
-use Rattle.run_code.specs.LaidOut.{LaidOutBy}
+use Rattle.run_layout.specs.declared.nodes.NodeInfo.{NodeInfo}
+use Rattle.run_layout.specs.declared.steps.Expression.{Expression as Laid}
+use Rattle.run_layout.specs.Chosen.{with_chosen}
+use Rattle.run_layout.specs.InRange.{part_of}
+use Rattle.run_layout.specs.LaidOut.{LaidOutBy}
 use Rattle.run_state.specs.declared.machine.Machine.{Machine}
 use Rattle.run_state.specs.declared.machine.Stage.{Stage}
 use Rattle.run_state.specs.declared.watch.Begun.{Begun as Shown}
 use Rattle.run_state.specs.Stands.{Stands}
-use Rattle.run_machine.specs.Ending.{KeepToRooms}
-use Rattle.run_machine.specs.Picks.{top_of}
+use Rattle.run_answers.specs.Ending.{KeepToRooms}
+use Rattle.run_answers.specs.Picks.{top_of}
 use Rattle.code_view.specs.Named.{NamesAreOpen}
 use Rattle.run_laws.specs.Open.{IsLawfulCode, IsOpen}
 use Rattle.value_facts.specs.Small.{EndInTime, HasSmallBytes, ListsAreSmall}

@@ -13,19 +13,19 @@ use Rattle.c_model.specs.Steps.{Begun, Ev, MayPick, Scene, argument_types, at_no
 use Rattle.c_model.specs.Values.{later_values, value_at}
 use Rattle.c_model.specs.World.{World}
 use Rattle.run_control.specs.View.{Meaning}
-use Rattle.run_code.specs.declared.nodes.NodeInfo.{NodeInfo}
-use Rattle.run_code.specs.declared.steps.Act.TheVariants as act
-use Rattle.run_code.specs.declared.steps.CallCode.{CallCode}
-use Rattle.run_code.specs.declared.steps.Due.{Due}
-use Rattle.run_code.specs.declared.steps.Expression.{Expression as Laid}
+use Rattle.run_layout.specs.declared.nodes.NodeInfo.{NodeInfo}
+use Rattle.run_layout.specs.declared.steps.Act.TheVariants as act
+use Rattle.run_layout.specs.declared.steps.CallCode.{CallCode}
+use Rattle.run_layout.specs.declared.steps.Due.{Due}
+use Rattle.run_layout.specs.declared.steps.Expression.{Expression as Laid}
 use Rattle.run_listing.specs.Along.{IsListed}
 use Rattle.run_state.specs.declared.machine.Machine.{Machine}
 use Rattle.run_state.specs.declared.machine.Stage.{Stage}
 use Rattle.run_state.specs.Operands.{Gives}
-use Rattle.run_events.specs.Calling.{type_of_call}
-use Rattle.run_machine.specs.Picks.{whole_part, ComesNext}
-use Rattle.run_machine.specs.Starting.{AreCallable, ArePassed, IsCall, MayCall, MayCallNext}
-use Rattle.run_machine.specs.Taking.{IsAt}
+use Rattle.run_answers.specs.Calling.{type_of_call}
+use Rattle.run_answers.specs.Picks.{whole_part, ComesNext}
+use Rattle.run_answers.specs.Starting.{AreCallable, ArePassed, IsCall, MayCall, MayCallNext}
+use Rattle.run_answers.specs.Taking.{IsAt}
 use Rattle.run_laws.specs.Given.{IsReady}
 use Rattle.run_laws.specs.Open.{aside, IsOpen}
 

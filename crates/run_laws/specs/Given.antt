@@ -13,17 +13,17 @@ use Rattle.c_model.specs.World.{World}
 use Rattle.mem_laws.specs.MoreRows.{Extends}
 use Rattle.program_view.specs.Trees.{expr_of, exprs_of}
 use Rattle.run_control.specs.View.{Meaning}
-use Rattle.run_code.specs.declared.nodes.NodeInfo.{NodeInfo}
-use Rattle.run_code.specs.declared.steps.Due.{Due}
-use Rattle.run_code.specs.declared.steps.Expression.{Expression as Laid}
-use Rattle.run_code.specs.Numbered.{AreNodes}
+use Rattle.run_layout.specs.declared.nodes.NodeInfo.{NodeInfo}
+use Rattle.run_layout.specs.declared.steps.Due.{Due}
+use Rattle.run_layout.specs.declared.steps.Expression.{Expression as Laid}
+use Rattle.run_layout.specs.Numbered.{AreNodes}
 use Rattle.run_listing.specs.Along.{IsListed}
 use Rattle.run_state.specs.declared.machine.Machine.{Machine}
 use Rattle.run_state.specs.declared.machine.Stage.{Stage}
-use Rattle.run_events.specs.Nodes.{head_of, IsNearBy, TakesGiven}
-use Rattle.run_machine.specs.Answering.{IsWithin}
-use Rattle.run_machine.specs.Picks.{whole_part, ComesNext}
-use Rattle.run_machine.specs.Taking.{CanBeTaken, IsAt, MayTake, MayTakeNext}
+use Rattle.run_answers.specs.Nodes.{head_of, IsNearBy, TakesGiven}
+use Rattle.run_answers.specs.Answering.{IsWithin}
+use Rattle.run_answers.specs.Picks.{whole_part, ComesNext}
+use Rattle.run_answers.specs.Taking.{CanBeTaken, IsAt, MayTake, MayTakeNext}
 use Rattle.run_laws.specs.Open.{aside, IsOpen}
 use Rattle.code_view.specs.Known.{IsLawfulTree}
 use Rattle.value_facts.specs.Small.{AreSmall, EndInTime}

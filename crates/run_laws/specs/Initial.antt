@@ -7,16 +7,16 @@ use Rattle.c_model.specs.Runs.{State}
 use Rattle.c_model.specs.Steps.{Begun}
 use Rattle.c_model.specs.World.{World}
 use Rattle.run_control.specs.View.{Meaning}
-use Rattle.run_code.specs.declared.nodes.NodeInfo.{NodeInfo}
-use Rattle.run_code.specs.declared.steps.Due.{Due}
-use Rattle.run_code.specs.declared.steps.Expression.{Expression as Laid}
-use Rattle.run_code.specs.Initializers.{IsIsolated, NumberInitializers}
+use Rattle.run_layout.specs.declared.nodes.NodeInfo.{NodeInfo}
+use Rattle.run_layout.specs.declared.steps.Due.{Due}
+use Rattle.run_layout.specs.declared.steps.Expression.{Expression as Laid}
+use Rattle.run_layout.specs.Initializers.{IsIsolated, NumberInitializers}
 use Rattle.run_listing.specs.Along.{IsListed}
 use Rattle.run_state.specs.declared.machine.Machine.{Machine}
 use Rattle.run_state.specs.declared.machine.Stage.{Stage}
-use Rattle.run_machine.specs.Picks.{whole_part, ComesNext}
-use Rattle.run_machine.specs.Starting.{IsInitializer, MayStart, MayStartNext}
-use Rattle.run_machine.specs.Taking.{IsAt}
+use Rattle.run_answers.specs.Picks.{whole_part, ComesNext}
+use Rattle.run_answers.specs.Starting.{IsInitializer, MayStart, MayStartNext}
+use Rattle.run_answers.specs.Taking.{IsAt}
 use Rattle.run_laws.specs.Given.{IsReady}
 use Rattle.run_laws.specs.Open.{IsOpen}
 

@@ -11,16 +11,16 @@ use Rattle.c_model.specs.Steps.{Begun, Ev, MayPick, Scene, at_node, called_by, v
 use Rattle.c_model.specs.Values.{later_values}
 use Rattle.c_model.specs.World.{World}
 use Rattle.run_control.specs.View.{Meaning}
-use Rattle.run_code.specs.declared.nodes.NodeInfo.{NodeInfo}
-use Rattle.run_code.specs.declared.steps.Due.{Due}
-use Rattle.run_code.specs.declared.steps.Expression.{Expression as Laid}
+use Rattle.run_layout.specs.declared.nodes.NodeInfo.{NodeInfo}
+use Rattle.run_layout.specs.declared.steps.Due.{Due}
+use Rattle.run_layout.specs.declared.steps.Expression.{Expression as Laid}
 use Rattle.run_listing.specs.Along.{IsListed}
 use Rattle.run_state.specs.declared.machine.Machine.{Machine}
 use Rattle.run_state.specs.declared.machine.Stage.{Stage}
-use Rattle.run_events.specs.LibraryCalls.{are_call_sizes}
-use Rattle.run_machine.specs.Answering.{IsWithin}
-use Rattle.run_machine.specs.Library.{HasFunctions, IsCallOfLibrary, MayCallLibraryNext}
-use Rattle.run_machine.specs.Picks.{whole_part, ComesNext}
+use Rattle.run_answers.specs.LibraryCalls.{are_call_sizes}
+use Rattle.run_answers.specs.Answering.{IsWithin}
+use Rattle.run_answers.specs.Library.{HasFunctions, IsCallOfLibrary, MayCallLibraryNext}
+use Rattle.run_answers.specs.Picks.{whole_part, ComesNext}
 use Rattle.run_laws.specs.Calls.{HasPlaces, IsCallBody}
 use Rattle.run_laws.specs.Open.{aside, IsOpen}
 

@@ -7,13 +7,13 @@ use Rattle.c_model.specs.Steps.{Begun}
 use Rattle.c_model.specs.World.{World}
 use Rattle.run_control.specs.View.{Meaning}
 use Rattle.c_model.specs.Runs.{State}
-use Rattle.run_code.specs.declared.nodes.NodeInfo.{NodeInfo}
-use Rattle.run_code.specs.declared.steps.Expression.{Expression as Laid}
-use Rattle.run_code.specs.declared.whole.Code.{Code}
-use Rattle.run_code.specs.LaidOut.{LaidOutBy}
+use Rattle.run_layout.specs.declared.nodes.NodeInfo.{NodeInfo}
+use Rattle.run_layout.specs.declared.steps.Expression.{Expression as Laid}
+use Rattle.run_layout.specs.declared.whole.Code.{Code}
+use Rattle.run_layout.specs.LaidOut.{LaidOutBy}
 use Rattle.run_state.specs.declared.machine.Machine.{Machine}
 use Rattle.run_state.specs.declared.machine.Stage.{Stage}
-use Rattle.run_machine.specs.Taking.{AreLawful, StandsOpen}
+use Rattle.run_answers.specs.Taking.{AreLawful, StandsOpen}
 use Rattle.code_view.specs.Known.{AreInOrder, IsLawfulTree}
 use Rattle.code_view.specs.Named.{NamesAreOpen}
 use Rattle.value_facts.specs.Small.{AreSmall, EndInTime, HasSmallBytes, ListsAreSmall}

@@ -5,13 +5,13 @@ use Rattle.c_model.specs.Steps.{Begun, with_given}
 use Rattle.c_model.specs.Values.{Value}
 use Rattle.c_model.specs.World.{World}
 use Rattle.run_control.specs.View.{Meaning}
-use Rattle.run_code.specs.declared.nodes.NodeInfo.{NodeInfo}
-use Rattle.run_code.specs.declared.steps.Due.{Due}
-use Rattle.run_code.specs.declared.steps.Expression.{Expression as Laid}
+use Rattle.run_layout.specs.declared.nodes.NodeInfo.{NodeInfo}
+use Rattle.run_layout.specs.declared.steps.Due.{Due}
+use Rattle.run_layout.specs.declared.steps.Expression.{Expression as Laid}
 use Rattle.run_state.specs.declared.machine.Machine.{Machine}
 use Rattle.run_state.specs.declared.machine.Stage.{Stage}
 use Rattle.run_state.specs.declared.watch.Begun.{Begun as Shown}
-use Rattle.run_machine.specs.Taking.{TakesEvent, after_event, store_after}
+use Rattle.run_answers.specs.Taking.{TakesEvent, after_event, store_after}
 use Rattle.run_laws.specs.Open.{IsOpen}
 
 -- the machine with the cursor of its top frame's full expression there; memory, values, what is chosen and noted, and what was touched may be others

@@ -12,9 +12,8 @@ ghost use Rattle.run_laws.specs.Beginning.{BeginsOpen};
 ghost use Rattle.run_laws.specs.Staying.{OpenStays};
 
 use code_view::{law_constants, law_events, law_named, law_rooms};
-use run_code::law_choices;
-use run_events::law_acts;
-use run_machine::{law_events as law_taken_events, law_picks};
+use run_answers::{law_acts, law_events as law_taken_events, law_picks};
+use run_layout::law_choices;
 use run_state::law_operands;
 use value_facts::law_small;
 

@@ -14,11 +14,11 @@ use Rattle.elaborate.specs.Formed.{TermsAreFaithful}
 use Rattle.listing_laws.specs.Along.{StandsAlong, first_of}
 use Rattle.listing_laws.proofs.Agreeing.{lists_alike, permits_alike, takes_alike, decides_permitted}
 use Rattle.listing_laws.proofs.Going.{takes_first, settles_at_end, goes_further, starts_along, ends_along, begins_along}
-use Rattle.run_code.specs.declared.steps.Due.{Due}
-use Rattle.run_code.specs.declared.steps.Listed.{Listed}
-use Rattle.run_code.specs.declared.steps.Listed.TheVariants as listed
+use Rattle.run_layout.specs.declared.steps.Due.{Due}
+use Rattle.run_layout.specs.declared.steps.Listed.{Listed}
+use Rattle.run_layout.specs.declared.steps.Listed.TheVariants as listed
 use Rattle.run_listing.specs.Along.{part_of, events_of, Next}
-use Rattle.run_code.specs.OfTrees.{IsListingOf}
+use Rattle.run_layout.specs.OfTrees.{IsListingOf}
 use Rattle.run_listing.specs.Straight.{EndAtEvent}
 use Rattle.run_listing.specs.Cursor.{
   StandsStraight,

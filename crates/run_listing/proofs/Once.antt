@@ -44,7 +44,7 @@ use Rattle.core_ir.specs.Term.{Term, Terms, none, more, pure, act, unseq, weak, 
 use Rattle.elaborate.specs.Terms.{term_for, terms_for, node_term, choice_of, comma_of}
 use Rattle.elaborate.proofs.Once.{Unique}
 use Rattle.elaborate.proofs.Ranges.{or_cases, or_b, eq_of, has_cases, has_itself}
-use Rattle.run_code.specs.Listings.{Entry, event, operand, one, continuation, flat, all_flat, within}
+use Rattle.run_layout.specs.Listings.{Entry, event, operand, one, continuation, flat, all_flat, within}
 
 -- the events among entries, whether or not they are passed over
 abbrev pub places : List Entry → List Place

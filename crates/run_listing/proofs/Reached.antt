@@ -4,7 +4,7 @@ use Rattle.c_typed.specs.declared.tree.Place.{Place}
 use Rattle.c_typed.specs.Order.{Taken, same_place, has, is_number}
 use Rattle.elaborate.proofs.Once.{Unique, unique_once}
 use Rattle.elaborate.proofs.Ranges.{or_cases, or_b, has_cases, has_left}
-use Rattle.run_code.specs.Listings.{Entry, event, operand, passed}
+use Rattle.run_layout.specs.Listings.{Entry, event, operand, passed}
 use Rattle.run_listing.proofs.Once.{places, places_append}
 
 -- how many entries are still passed over behind these

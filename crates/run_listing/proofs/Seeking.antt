@@ -9,8 +9,8 @@ use Rattle.c_typed.specs.Order.{Taken, events, is_body}
 use Rattle.c_typed.specs.Decide.{first_place, canonical}
 use Rattle.seq_order.specs.Walks.{is_left, walked}
 use Rattle.seq_order.proofs.Canonical.{none_left, first_next}
-use Rattle.run_code.specs.declared.steps.Due.{Due}
-use Rattle.run_code.specs.declared.steps.Listed.{Listed}
+use Rattle.run_layout.specs.declared.steps.Due.{Due}
+use Rattle.run_layout.specs.declared.steps.Listed.{Listed}
 use Rattle.run_listing.specs.Along.{part_of, events_of, Next, IsListed}
 use Rattle.run_listing.proofs.Walked.{behind_one}
 

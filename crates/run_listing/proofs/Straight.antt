@@ -11,12 +11,12 @@ use Rattle.c_model.proofs.Ranks.{lt_lt, events_in}
 use Rattle.c_model.proofs.Decided.{or_a, or_b, has_or}
 use Rattle.c_model.proofs.Listed.{listed_once, same_place_eq, same_place_itself}
 use Rattle.listing_laws.proofs.Chosen.{cut}
-use Rattle.run_code.specs.declared.steps.Due.{Due}
-use Rattle.run_code.specs.declared.steps.Listed.{Listed}
-use Rattle.run_code.specs.declared.steps.Listed.TheVariants as listed
-use Rattle.run_code.specs.Listings.{Entry, event, entry_of, entries_of, flat, passed, within}
+use Rattle.run_layout.specs.declared.steps.Due.{Due}
+use Rattle.run_layout.specs.declared.steps.Listed.{Listed}
+use Rattle.run_layout.specs.declared.steps.Listed.TheVariants as listed
+use Rattle.run_layout.specs.Listings.{Entry, event, entry_of, entries_of, flat, passed, within}
 use Rattle.run_listing.specs.Along.{events_of, IsListed}
-use Rattle.run_code.specs.OfTrees.{IsListingOf}
+use Rattle.run_layout.specs.OfTrees.{IsListingOf}
 use Rattle.run_listing.specs.Straight.{ListsTree, HasEntries, PartsAtEvent, PartsAlike, PartsFurther}
 use Rattle.run_listing.proofs.Once.{places, unique_places}
 use Rattle.run_listing.proofs.Reached.{StandsOnce, stands_once, parts, up_to, further, passed_has}

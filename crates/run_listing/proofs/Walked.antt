@@ -5,10 +5,10 @@ use Rattle.std.proofs.lemmas.List.{take_rest, drop_min, drop-map, drop-drop}
 use Rattle.c_typed.specs.declared.tree.Place.{Place}
 use Rattle.c_typed.specs.Order.{Taken, same_place, has, is_number}
 use Rattle.c_model.proofs.Listed.{same_place_eq, same_place_itself}
-use Rattle.run_code.specs.declared.steps.Due.{Due}
-use Rattle.run_code.specs.declared.steps.Listed.{Listed}
-use Rattle.run_code.specs.declared.steps.Listed.TheVariants as listed
-use Rattle.run_code.specs.Listings.{Entry, entry_of, entries_of, passed}
+use Rattle.run_layout.specs.declared.steps.Due.{Due}
+use Rattle.run_layout.specs.declared.steps.Listed.{Listed}
+use Rattle.run_layout.specs.declared.steps.Listed.TheVariants as listed
+use Rattle.run_layout.specs.Listings.{Entry, entry_of, entries_of, passed}
 use Rattle.run_listing.specs.Along.{part_of, events_of}
 use Rattle.run_listing.proofs.Lists.{opened}
 

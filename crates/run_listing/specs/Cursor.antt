@@ -12,9 +12,9 @@ use Rattle.c_model.specs.Steps.{Scene, Local, Begun, Ev, MayPick, taken_by, is_d
 use Rattle.c_model.specs.Runs.{canonical_pick, chosen_pick}
 use Rattle.listing_laws.specs.Along.{StandsAlong}
 use Rattle.listing_laws.specs.Due.{AgreeWhereDue}
-use Rattle.run_code.specs.declared.steps.Due.{Due}
-use Rattle.run_code.specs.declared.steps.Listed.{Listed}
-use Rattle.run_code.specs.OfTrees.{IsListingOf}
+use Rattle.run_layout.specs.declared.steps.Due.{Due}
+use Rattle.run_layout.specs.declared.steps.Listed.{Listed}
+use Rattle.run_layout.specs.OfTrees.{IsListingOf}
 use Rattle.run_listing.specs.Along.{part_of, events_of, Next}
 use Rattle.run_listing.specs.Straight.{EndAtEvent}
 

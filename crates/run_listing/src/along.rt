@@ -3,11 +3,11 @@ ghost use Rattle.std.specs.Prelude.{◌≡◌, ◌≢◌, ◌+◌, ◌<◌, min,
 ghost use Rattle.c_typed.specs.declared.tree.Place.{Place as PlaceOf};
 ghost use Rattle.c_typed.specs.Order.{has, is_number};
 ghost use Rattle.seq_order.specs.Marked.{taken_in, done_in};
-ghost use Rattle.run_code.specs.declared.steps.Due.{Due as DueOf};
+ghost use Rattle.run_layout.specs.declared.steps.Due.{Due as DueOf};
 ghost use Rattle.run_listing.specs.Along.{part_of, events_of, Next, IsListed};
 
 use c_typed::Place;
-use run_code::{Due, Listed};
+use run_layout::{Due, Listed};
 use seq_order::{Done, Taken};
 use std::alloc::Global;
 use ub_base::NoMemory;

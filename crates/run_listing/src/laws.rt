@@ -3,7 +3,7 @@ ghost use Rattle.run_listing.specs.Straight.{ListsTree, HasEntries, PartsAtEvent
 ghost use Rattle.run_listing.specs.Cursor.{NextIsCanonical, PassedIsDone, PermitsPicks, StandsAtBegin, StandsBehind, StandsAtStart, StandsAtEnd, TakesByDone, PermitsByDone};
 
 use elaborate::law_faithful;
-use run_code::law_listing;
+use run_layout::law_listing;
 
 /// What is laid out of the term of a tree lists the tree's events in canonical order, whatever operands are chosen, and each of them has an
 /// entry; it parts behind an event that is listed.

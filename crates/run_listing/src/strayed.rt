@@ -9,7 +9,7 @@ ghost use Rattle.run_listing.specs.Along.{events_of, place_of, IsListed};
 
 use crate::along::{behind, next};
 use c_typed::Typed;
-use run_code::{Due, Listed};
+use run_layout::{Due, Listed};
 use seq_order::{Done, Taken, is_permitted};
 use ub_base::Kind;
 

@@ -7,14 +7,14 @@ use Rattle.seq_order.specs.Marked.{taken_in}
 use Rattle.c_model.specs.Completions.{Incomplete, Operands_of, Own_node}
 use Rattle.completion_laws.specs.Completed.{with_above}
 use Rattle.completion_laws.specs.Listing.{completed_of}
-use Rattle.run_code.specs.declared.steps.Due.{Due}
-use Rattle.run_code.specs.declared.steps.Listed.{Listed}
-use Rattle.run_code.specs.declared.steps.Listed.TheVariants as listed
+use Rattle.run_layout.specs.declared.steps.Due.{Due}
+use Rattle.run_layout.specs.declared.steps.Listed.{Listed}
+use Rattle.run_layout.specs.declared.steps.Listed.TheVariants as listed
 use Rattle.run_listing.specs.Along.{part_of, events_of}
 use Rattle.run_state.specs.declared.machine.Machine.{Machine}
 use Rattle.run_state.specs.declared.machine.Stage.{Stage}
 use Rattle.run_state.specs.declared.watch.Begun.{Begun as Shown}
-use Rattle.run_machine.specs.Picks.{ahead_part}
+use Rattle.run_answers.specs.Picks.{ahead_part}
 
 opened : (xs : List Listed) (from : ℕ) (x : Listed) → slice_get xs from ≡ Some x → drop from xs ≡ x ∷ drop (suc from) xs
 opened [] from x is = absurd (cc)

@@ -2,8 +2,8 @@
 use Rattle.std.proofs.Common.{◌≡◌, refl, List, Option}
 use Rattle.ub_base.specs.declared.names.Item.{Item}
 use Rattle.prov_memory.specs.declared.value.Value.{Value}
-use Rattle.run_code.specs.declared.steps.Operand.{Operand}
-use Rattle.run_code.specs.declared.steps.Operand.TheVariants as operand
+use Rattle.run_layout.specs.declared.steps.Operand.{Operand}
+use Rattle.run_layout.specs.declared.steps.Operand.TheVariants as operand
 use Rattle.run_state.specs.declared.machine.Machine.{Machine}
 use Rattle.run_state.specs.declared.machine.Stage.{Stage}
 use Rattle.run_state.specs.Operands.{operand_in}

@@ -64,11 +64,11 @@ use Rattle.c_model.specs.Program.{Decl}
 use Rattle.c_model.specs.Steps.{Scene, auto_name, bear_all, object_kind}
 use Rattle.c_model.specs.Values.{Value}
 use Rattle.c_model.specs.World.{World}
-use Rattle.run_code.specs.declared.steps.ObjectCode.{ObjectCode}
+use Rattle.run_layout.specs.declared.steps.ObjectCode.{ObjectCode}
 use Rattle.run_state.specs.declared.halt.Halt.{Halt}
 use Rattle.run_state.specs.declared.halt.Halt.TheVariants as halt
 use Rattle.run_state.specs.declared.machine.Machine.{Machine}
-use Rattle.run_machine.specs.Entering.{AreNew, BearsAll, Birth, CanBear, CreatesOne, IsNew, IsOneNew, birth_in, birth_of, births, born_by, born_first, new_name}
+use Rattle.run_answers.specs.Entering.{AreNew, BearsAll, Birth, CanBear, CreatesOne, IsNew, IsOneNew, birth_in, birth_of, births, born_by, born_first, new_name}
 
 -- ---- the machine: at first nothing is created
 nothing_more : (is : List Item) → is ≡ is ++ []

@@ -9,29 +9,29 @@ use Rattle.c_model.specs.Steps.{Begun, Control, Ev}
 use Rattle.c_model.specs.World.{World}
 use Rattle.program_view.specs.Laws.{TreesAreKept}
 use Rattle.run_control.specs.View.{Meaning}
-use Rattle.run_code.specs.declared.steps.Act.{Act}
-use Rattle.run_code.specs.declared.steps.Due.{Due}
+use Rattle.run_layout.specs.declared.steps.Act.{Act}
+use Rattle.run_layout.specs.declared.steps.Due.{Due}
 use Rattle.run_listing.specs.Along.{place_of}
 use Rattle.run_listing.specs.Cursor.{StandsAtStart}
 use Rattle.run_state.specs.declared.halt.Halt.{Halt}
 use Rattle.run_state.specs.declared.machine.Machine.{Machine}
 use Rattle.run_state.specs.declared.machine.Stage.{Stage}
-use Rattle.run_events.specs.declared.acts.Outcome.{Outcome as Done_as}
-use Rattle.run_events.specs.declared.acts.Outcome.TheVariants as outcome
-use Rattle.run_events.specs.declared.fault.Fault.{Fault}
-use Rattle.run_events.specs.declared.fault.Fault.TheVariants as fault
-use Rattle.run_events.specs.Faults.{halt_by}
-use Rattle.run_events.specs.Opens.{Opens, OpensInitializer}
-use Rattle.run_machine.specs.declared.pick.Pick.{Pick}
-use Rattle.run_machine.specs.declared.pick.Pick.TheVariants as pick
-use Rattle.run_machine.specs.Answering.{Answers}
-use Rattle.run_machine.specs.Picks.{top_of, Follows, TakesCanonical}
-use Rattle.run_machine.specs.Starting.{AnswersBody, AnswersNextBody, AnswersStart, MayStart, MayStartNext, StartsIsolated}
-use Rattle.run_machine.specs.Taking.{at_next, past_event, untouched}
-use Rattle.run_machine.proofs.Answered.{passes_so}
+use Rattle.run_answers.specs.declared.outcome.Outcome.{Outcome as Done_as}
+use Rattle.run_answers.specs.declared.outcome.Outcome.TheVariants as outcome
+use Rattle.run_answers.specs.declared.fault.Fault.{Fault}
+use Rattle.run_answers.specs.declared.fault.Fault.TheVariants as fault
+use Rattle.run_answers.specs.Faults.{halt_by}
+use Rattle.run_answers.specs.Opens.{Opens, OpensInitializer}
+use Rattle.run_answers.specs.declared.pick.Pick.{Pick}
+use Rattle.run_answers.specs.declared.pick.Pick.TheVariants as pick
+use Rattle.run_answers.specs.Answering.{Answers}
+use Rattle.run_answers.specs.Picks.{top_of, Follows, TakesCanonical}
+use Rattle.run_answers.specs.Starting.{AnswersBody, AnswersNextBody, AnswersStart, MayStart, MayStartNext, StartsIsolated}
+use Rattle.run_answers.specs.Taking.{at_next, past_event, untouched}
+use Rattle.run_answers.proofs.Answered.{passes_so}
 use Rattle.run_machine.proofs.Onward.{at_ready, came_next, cleared_open, ev_place}
-use Rattle.run_machine.proofs.Started.{initializer_started, initializer_steps_to}
-use Rattle.run_machine.proofs.Waiting.{waits_there}
+use Rattle.run_answers.proofs.Started.{initializer_started, initializer_steps_to}
+use Rattle.run_answers.proofs.Waiting.{waits_there}
 
 stops_so : (world : World) (meaning : Option ℕ → Meaning) (old new : Machine) (number line : ℕ) (who : Event) (o : Outcome) (x : Fault) →
     OpensInitializer old number who new (Err x) → Answers world meaning (Err (halt_by who line x)) new o

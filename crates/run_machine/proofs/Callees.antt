@@ -88,28 +88,28 @@ use Rattle.program_view.specs.View as view
 use Rattle.run_acts.specs.Calls.{AgreesAsCompatible, AreFunctions}
 use Rattle.run_acts.specs.Views.{value_in}
 use Rattle.run_control.specs.View.{Meaning}
-use Rattle.run_code.specs.declared.steps.Act.TheVariants as act
-use Rattle.run_code.specs.declared.steps.Due.{Due}
-use Rattle.run_code.specs.declared.steps.Operand.{Operand}
-use Rattle.run_code.specs.Roots.{as_block, AreInBlocks, IsInBlock}
+use Rattle.run_layout.specs.declared.steps.Act.TheVariants as act
+use Rattle.run_layout.specs.declared.steps.Due.{Due}
+use Rattle.run_layout.specs.declared.steps.Operand.{Operand}
+use Rattle.run_layout.specs.Roots.{as_block, AreInBlocks, IsInBlock}
 use Rattle.run_listing.specs.Along.{place_of}
 use Rattle.run_listing.specs.Cursor.{StandsAtStart}
 use Rattle.run_state.specs.declared.halt.Halt.{Halt}
 use Rattle.run_state.specs.declared.machine.Machine.{Machine}
 use Rattle.run_state.specs.declared.machine.Stage.{Stage}
 use Rattle.run_state.specs.Meaning.{StandsProgram}
-use Rattle.run_events.specs.declared.acts.Outcome.{Outcome as Done_as}
-use Rattle.run_events.specs.declared.acts.Outcome.TheVariants as outcome
-use Rattle.run_events.specs.declared.fault.Fault.{Fault}
-use Rattle.run_events.specs.declared.fault.Fault.TheVariants as fault
-use Rattle.run_events.specs.Calling.{CallsFound, CallsNumbered, RaisesOnly, Runs, RunsWhere, type_of_call}
-use Rattle.run_events.specs.Faults.{halt_by}
-use Rattle.run_events.specs.Opens.{OpensFunction, StartsFunction}
-use Rattle.run_machine.specs.declared.pick.Pick.{Pick}
-use Rattle.run_machine.specs.declared.pick.Pick.TheVariants as pick
-use Rattle.run_machine.specs.Answering.{Answers}
-use Rattle.run_machine.specs.Picks.{top_of, Follows, TakesCanonical}
-use Rattle.run_machine.specs.Starting.{
+use Rattle.run_answers.specs.declared.outcome.Outcome.{Outcome as Done_as}
+use Rattle.run_answers.specs.declared.outcome.Outcome.TheVariants as outcome
+use Rattle.run_answers.specs.declared.fault.Fault.{Fault}
+use Rattle.run_answers.specs.declared.fault.Fault.TheVariants as fault
+use Rattle.run_answers.specs.Calling.{CallsFound, CallsNumbered, RaisesOnly, Runs, RunsWhere, type_of_call}
+use Rattle.run_answers.specs.Faults.{halt_by}
+use Rattle.run_answers.specs.Opens.{OpensFunction, StartsFunction}
+use Rattle.run_answers.specs.declared.pick.Pick.{Pick}
+use Rattle.run_answers.specs.declared.pick.Pick.TheVariants as pick
+use Rattle.run_answers.specs.Answering.{Answers}
+use Rattle.run_answers.specs.Picks.{top_of, Follows, TakesCanonical}
+use Rattle.run_answers.specs.Starting.{
   AnswersCall,
   AnswersNextCall,
   AnswersStart,
@@ -123,10 +123,10 @@ use Rattle.run_machine.specs.Starting.{
   function_frame,
   started_state,
 }
-use Rattle.run_machine.specs.Taking.{at_next, past_event, passed_stage, staged, untouched}
-use Rattle.run_machine.proofs.Answered.{passes_so, raises_so, staged_so}
-use Rattle.run_machine.proofs.Called.{function_stands}
-use Rattle.run_machine.proofs.Calling.{function_passes, function_steps}
+use Rattle.run_answers.specs.Taking.{at_next, past_event, passed_stage, staged, untouched}
+use Rattle.run_answers.proofs.Answered.{passes_so, raises_so, staged_so}
+use Rattle.run_answers.proofs.Called.{function_stands}
+use Rattle.run_answers.proofs.Calling.{function_passes, function_steps}
 use Rattle.run_machine.proofs.Onward.{at_ready, came_next, cleared_open, ev_place}
 
 -- ---- the functions of the program

@@ -27,18 +27,18 @@ use Rattle.std.proofs.Common.{
 use Rattle.prov_memory.specs.declared.value.Value.{Value as Kept_value}
 use Rattle.seq_order.specs.Marked.{taken_in}
 use Rattle.run_control.specs.declared.work.Use.{Use}
-use Rattle.run_code.specs.declared.steps.Expression.{Expression}
-use Rattle.run_code.specs.declared.whole.Code.{Code}
-use Rattle.run_code.specs.Chosen.{with_chosen}
-use Rattle.run_code.specs.InRange.{part_of}
+use Rattle.run_layout.specs.declared.steps.Expression.{Expression}
+use Rattle.run_layout.specs.declared.whole.Code.{Code}
+use Rattle.run_layout.specs.Chosen.{with_chosen}
+use Rattle.run_layout.specs.InRange.{part_of}
 use Rattle.run_state.specs.declared.machine.Machine.{Machine}
 use Rattle.run_state.specs.declared.machine.Open.{Open}
 use Rattle.run_state.specs.declared.watch.Begun.{Begun as Shown}
-use Rattle.run_events.specs.Choices.{HasChosen}
-use Rattle.run_machine.specs.Beginning.{HasShown, IsAmong}
-use Rattle.run_machine.specs.Keeping.{BeginsExpression, KeepsControl, KeepsFrames, begins, machine_with}
-use Rattle.run_machine.specs.Picks.{top_of}
-use Rattle.run_machine.proofs.Beginning.{begun_open, shown_in}
+use Rattle.run_answers.specs.Choices.{HasChosen}
+use Rattle.run_answers.specs.Beginning.{HasShown, IsAmong}
+use Rattle.run_answers.specs.Keeping.{BeginsExpression, KeepsControl, KeepsFrames, begins, machine_with}
+use Rattle.run_answers.specs.Picks.{top_of}
+use Rattle.run_answers.proofs.Beginning.{begun_open, shown_in}
 
 -- by the calls that it consists of: room is made for its values, it is shown, and the first operands are chosen
 module _ (m g s n : Machine) (turn number size : ℕ) (how : Use) (laid : Expression) (cs : List (ℕ × ℕ)) (closed : m.top.stage ≡ None)

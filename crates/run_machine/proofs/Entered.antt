@@ -65,19 +65,19 @@ use Rattle.run_control.specs.declared.statement.Block.{Block}
 use Rattle.run_control.specs.declared.work.Step.TheVariants as taking
 use Rattle.run_control.specs.declared.work.Work.{Work}
 use Rattle.run_control.specs.View.{Meaning, block_of, todo_of}
-use Rattle.run_code.specs.declared.steps.BlockCode.{BlockCode}
-use Rattle.run_code.specs.declared.steps.ObjectCode.{ObjectCode}
-use Rattle.run_code.specs.InRange.{part_of}
+use Rattle.run_layout.specs.declared.steps.BlockCode.{BlockCode}
+use Rattle.run_layout.specs.declared.steps.ObjectCode.{ObjectCode}
+use Rattle.run_layout.specs.InRange.{part_of}
 use Rattle.run_state.specs.declared.machine.Machine.{Machine}
 use Rattle.run_state.specs.declared.machine.Open.{Open}
 use Rattle.run_state.specs.declared.machine.Stage.{Stage}
 use Rattle.run_state.specs.Stands.{IsAbove, SeesLocals, StandLocals, Stands, StandsBegun, StandsControl, StandsFrame, StandsLocal}
-use Rattle.run_machine.specs.Answering.{HasTaken, as_before}
-use Rattle.run_machine.specs.Entering.{Birth, CanBear, CanEnter, HasBirths, IsNew, birth_in, birth_of, born_by, born_first, new_name, reached_with, turned}
+use Rattle.run_answers.specs.Answering.{HasTaken, as_before}
+use Rattle.run_answers.specs.Entering.{Birth, CanBear, CanEnter, HasBirths, IsNew, birth_in, birth_of, born_by, born_first, new_name, reached_with, turned}
 use Rattle.run_machine.proofs.Births.{CanAll}
 use Rattle.run_machine.proofs.Growing.{frame_grown, frames_grown, tables_grown, with_objects_of}
 use Rattle.run_machine.proofs.Lives.{result_stays}
-use Rattle.run_machine.proofs.Still.{depth_same, frame_aside, frames_aside, tables_aside}
+use Rattle.run_answers.proofs.Still.{depth_same, frame_aside, frames_aside, tables_aside}
 use Rattle.run_machine.proofs.Unwriting.{block_number, capped}
 
 -- ---- the frame inside the block

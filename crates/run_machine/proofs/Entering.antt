@@ -77,17 +77,17 @@ use Rattle.run_control.specs.declared.statement.Block.{Block}
 use Rattle.run_control.specs.declared.work.Step.{Step}
 use Rattle.run_control.specs.declared.work.Step.TheVariants as taking
 use Rattle.run_control.specs.View.{Meaning, block_of, todo_of}
-use Rattle.run_code.specs.declared.steps.BlockCode.{BlockCode}
-use Rattle.run_code.specs.declared.steps.ObjectCode.{ObjectCode}
-use Rattle.run_code.specs.InRange.{part_of}
+use Rattle.run_layout.specs.declared.steps.BlockCode.{BlockCode}
+use Rattle.run_layout.specs.declared.steps.ObjectCode.{ObjectCode}
+use Rattle.run_layout.specs.InRange.{part_of}
 use Rattle.run_state.specs.declared.halt.Halt.{Halt}
 use Rattle.run_state.specs.declared.halt.Halt.TheVariants as halt
 use Rattle.run_state.specs.declared.machine.Machine.{Machine}
 use Rattle.run_state.specs.Stands.{HoldsAll, Stands, StandsTables}
-use Rattle.run_events.specs.Performs.{store_in}
-use Rattle.run_machine.specs.Answering.{Answers, AnswersStep, HasTaken, as_before, newest_items}
-use Rattle.run_machine.specs.Ending.{KeepToRooms}
-use Rattle.run_machine.specs.Entering.{
+use Rattle.run_answers.specs.Performs.{store_in}
+use Rattle.run_answers.specs.Answering.{Answers, AnswersStep, HasTaken, as_before, newest_items}
+use Rattle.run_answers.specs.Ending.{KeepToRooms}
+use Rattle.run_answers.specs.Entering.{
   AreNew,
   BearsAll,
   Birth,
@@ -105,9 +105,9 @@ use Rattle.run_machine.specs.Entering.{
   reached_with,
   turned,
 }
-use Rattle.run_machine.specs.Passing.{CanPassAll, HavePassed, PassesAll, TakesValue, argument_script, first_of, with_arguments}
+use Rattle.run_answers.specs.Passing.{CanPassAll, HavePassed, PassesAll, TakesValue, argument_script, first_of, with_arguments}
 use Rattle.run_machine.proofs.Births.{StopsAt, bears, births_from, births_joined, cannot_so, stops}
-use Rattle.run_machine.proofs.Creating.{none_run}
+use Rattle.run_answers.proofs.Creating.{none_run}
 use Rattle.run_machine.proofs.Growing.{held_grown, tables_grown}
 use Rattle.run_machine.proofs.Passed.{
   AreDone,
@@ -122,8 +122,8 @@ use Rattle.run_machine.proofs.Passed.{
   taking_at,
   taking_count,
 }
-use Rattle.run_machine.proofs.Staying.{by_step, control_stays}
-use Rattle.run_machine.proofs.Still.{depth_same}
+use Rattle.run_answers.proofs.Staying.{by_step, control_stays}
+use Rattle.run_answers.proofs.Still.{depth_same}
 use Rattle.run_machine.proofs.Storing.{IsFresh, life_of, low_rows, own_lives, passed_quietly}
 use Rattle.run_machine.proofs.Entered.{
   IsKnown,

@@ -14,14 +14,14 @@ use Rattle.run_control.specs.declared.work.Work.{Work as Kept_work}
 use Rattle.run_control.specs.Links.{work_from}
 use Rattle.run_control.specs.Targets.{AllEqual, bodies}
 use Rattle.run_control.specs.View.{Meaning, stmt_of, todo_of}
-use Rattle.run_code.specs.declared.whole.Code.{Code}
+use Rattle.run_layout.specs.declared.whole.Code.{Code}
 use Rattle.run_statements.specs.declared.jumps.Jumps.{Jumps}
 use Rattle.run_statements.specs.Jumping.{HasJumps, IsFound}
 use Rattle.run_state.specs.declared.machine.Machine.{Machine}
 use Rattle.run_state.specs.Meaning.{StandsCode}
-use Rattle.run_machine.specs.Answering.{AnswersStep}
-use Rattle.run_machine.specs.Jumps.{HasLabels}
-use Rattle.run_machine.proofs.Staying.{left_answers, with_work}
+use Rattle.run_answers.specs.Answering.{AnswersStep}
+use Rattle.run_answers.specs.Jumps.{HasLabels}
+use Rattle.run_answers.proofs.Staying.{left_answers, with_work}
 
 -- the label's function has a body
 abbrev IsFoundIn : Jumps → ℕ → (links : List Link) → (label : ℕ) → Place → Type 0

@@ -76,7 +76,7 @@ use Rattle.run_acts.specs.Views.{value_in}
 use Rattle.run_acts.proofs.Keeping.{fillings_stay, values_stay}
 use Rattle.run_acts.proofs.Starting.{can_hold_all, placed_still}
 use Rattle.run_acts.proofs.Statics.{named_still}
-use Rattle.run_code.specs.declared.steps.StoreCode.{StoreCode}
+use Rattle.run_layout.specs.declared.steps.StoreCode.{StoreCode}
 use Rattle.run_control.specs.declared.work.Work.{Work}
 use Rattle.run_control.specs.View.{Meaning}
 use Rattle.run_state.specs.declared.machine.Machine.{Machine}
@@ -99,7 +99,7 @@ use Rattle.run_state.specs.Stands.{
   StandsValues,
   result_seen,
 }
-use Rattle.run_machine.specs.Entering.{AreBelow, KeepPlaces}
+use Rattle.run_answers.specs.Entering.{AreBelow, KeepPlaces}
 
 -- ---- bytes stand for what they stood for
 byte_stays : (ps more : List Prov) (c : Cell) (s : Byte_state) → c.origin.number ≤ length ps →

@@ -50,18 +50,18 @@ use Rattle.run_control.specs.declared.statement.Switch.{Switch}
 use Rattle.run_control.specs.declared.work.Use.{Use}
 use Rattle.run_control.specs.declared.work.Use.TheVariants as for_use
 use Rattle.run_control.specs.Stacked.{Stacked}
-use Rattle.run_code.specs.declared.steps.Due.{Due}
-use Rattle.run_code.specs.declared.steps.Operand.{Operand}
+use Rattle.run_layout.specs.declared.steps.Due.{Due}
+use Rattle.run_layout.specs.declared.steps.Operand.{Operand}
 use Rattle.run_state.specs.declared.halt.Halt.{Halt}
 use Rattle.run_state.specs.declared.machine.Machine.{Machine}
 use Rattle.run_state.specs.declared.machine.Open.{Open}
 use Rattle.run_state.specs.declared.machine.Stage.{Stage}
 use Rattle.run_state.specs.declared.watch.Begun.{Begun as Shown}
 use Rattle.run_state.specs.Operands.{operand_in}
-use Rattle.run_machine.specs.declared.pick.Pick.{Pick}
-use Rattle.run_machine.specs.declared.pick.Pick.TheVariants as pick
-use Rattle.run_machine.specs.Ending.{EndsFrame, GoesBack, NotesIn, NotesWay, depth_without}
-use Rattle.run_machine.specs.Keeping.{
+use Rattle.run_answers.specs.declared.pick.Pick.{Pick}
+use Rattle.run_answers.specs.declared.pick.Pick.TheVariants as pick
+use Rattle.run_answers.specs.Ending.{EndsFrame, GoesBack, NotesIn, NotesWay, depth_without}
+use Rattle.run_answers.specs.Keeping.{
   BeginsExpression,
   EndsTop,
   FillsObjects,
@@ -79,8 +79,8 @@ use Rattle.run_machine.specs.Keeping.{
   machine_with,
   stays,
 }
-use Rattle.run_machine.specs.Picks.{IsOfEvent}
-use Rattle.run_machine.specs.Settling.{HasSelected, HasUsed}
+use Rattle.run_answers.specs.Picks.{IsOfEvent}
+use Rattle.run_answers.specs.Settling.{HasSelected, HasUsed}
 use Rattle.run_machine.proofs.Aside.{operand_aside}
 use Rattle.run_machine.proofs.Settling.{closed_in}
 

@@ -12,7 +12,7 @@ use Rattle.prov_memory.specs.Memory.{Kept, store_of}
 use Rattle.prov_memory.proofs.KeepLemmas.{keeps_none, keeps_then}
 use Rattle.run_state.specs.declared.machine.Local.{Local}
 use Rattle.run_state.specs.declared.machine.Machine.{Machine}
-use Rattle.run_machine.specs.Leaving.{HaveDied, buried_first, deaths, name_at, name_in}
+use Rattle.run_answers.specs.Leaving.{HaveDied, buried_first, deaths, name_at, name_in}
 
 -- what an act touched, and the store that it left
 abbrev touched_by : {V : Type 0} → Act V → List Item

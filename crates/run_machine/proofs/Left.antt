@@ -74,7 +74,7 @@ use Rattle.run_control.specs.declared.work.Step.TheVariants as taking
 use Rattle.run_control.specs.declared.work.Work.{Work}
 use Rattle.run_control.specs.Stacked.{Stacked}
 use Rattle.run_control.specs.View.{Meaning, block_of, is_nothing, todo_of}
-use Rattle.run_code.specs.declared.steps.BlockCode.{BlockCode}
+use Rattle.run_layout.specs.declared.steps.BlockCode.{BlockCode}
 use Rattle.run_acts.proofs.Keeping.{values_stay}
 use Rattle.run_state.specs.declared.halt.Halt.{Halt}
 use Rattle.run_state.specs.declared.halt.Halt.TheVariants as halt
@@ -82,14 +82,14 @@ use Rattle.run_state.specs.declared.machine.Machine.{Machine}
 use Rattle.run_state.specs.declared.machine.Open.{Open}
 use Rattle.run_state.specs.declared.machine.Stage.{Stage}
 use Rattle.run_state.specs.Stands.{IsAbove, SeesLocals, StandLocals, Stands, StandsBegun, StandsControl, StandsFrame, frames_of}
-use Rattle.run_machine.specs.Answering.{Answers, AnswersStep, ComesTo, HasObjects, HasTaken, as_before}
-use Rattle.run_machine.specs.Ended.{AnswersEnd}
-use Rattle.run_machine.specs.Leaving.{GoesStill, HaveDied, LeavesBlock, buried_first, deaths, name_at, name_in}
-use Rattle.run_machine.specs.Moving.{GoesOn}
+use Rattle.run_answers.specs.Answering.{Answers, AnswersStep, ComesTo, HasObjects, HasTaken, as_before}
+use Rattle.run_answers.specs.Ended.{AnswersEnd}
+use Rattle.run_answers.specs.Leaving.{GoesStill, HaveDied, LeavesBlock, buried_first, deaths, name_at, name_in}
+use Rattle.run_answers.specs.Moving.{GoesOn}
 use Rattle.run_machine.proofs.Leaving.{nothing_more}
 use Rattle.run_machine.proofs.Lives.{stands_live, with_lives, with_objects}
-use Rattle.run_machine.proofs.Staying.{by_step, control_ends, control_stays}
-use Rattle.run_machine.proofs.Still.{depth_same, frames_aside, left_stands, tables_aside}
+use Rattle.run_answers.proofs.Staying.{by_step, control_ends, control_stays}
+use Rattle.run_answers.proofs.Still.{depth_same, frames_aside, left_stands, tables_aside}
 use Rattle.run_machine.proofs.Unwriting.{begins_with, block_number, capped, capped_wide, some_same}
 
 -- ---- the definitions: one after the other

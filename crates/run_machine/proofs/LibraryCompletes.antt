@@ -5,15 +5,15 @@ use Rattle.c_model.specs.Libraries.{result}
 use Rattle.c_model.specs.Program.{tree_of}
 use Rattle.c_model.specs.Runs.{Running, State}
 use Rattle.c_model.specs.Steps.{Begun, is_done, taken_by, with_given}
-use Rattle.run_code.specs.declared.steps.Due.{Due}
+use Rattle.run_layout.specs.declared.steps.Due.{Due}
 use Rattle.run_state.specs.declared.halt.Halt.{Halt}
 use Rattle.run_state.specs.declared.machine.Machine.{Machine}
-use Rattle.run_machine.specs.declared.pick.Pick.{Pick}
-use Rattle.run_machine.specs.declared.pick.Pick.TheVariants as pick
-use Rattle.run_machine.specs.Completing.{CompletesPick}
-use Rattle.run_machine.specs.Library.{AnswersLibrary}
-use Rattle.run_machine.specs.LibraryCompletes.{CompletesLibrary, LibraryCompletes}
-use Rattle.run_machine.specs.Taking.{after_event, store_after}
+use Rattle.run_answers.specs.declared.pick.Pick.{Pick}
+use Rattle.run_answers.specs.declared.pick.Pick.TheVariants as pick
+use Rattle.run_answers.specs.Completing.{CompletesPick}
+use Rattle.run_answers.specs.Library.{AnswersLibrary}
+use Rattle.run_answers.specs.LibraryCompletes.{CompletesLibrary, LibraryCompletes}
+use Rattle.run_answers.specs.Taking.{after_event, store_after}
 
 pub completed_called : LibraryCompletes → (d : Due) (now new : Machine) (r : Result Pick Halt) → AnswersLibrary d now new r → CompletesPick d new r
     → CompletesLibrary d now new r

@@ -7,15 +7,15 @@ use Rattle.c_model.specs.Runs.{Outcome, State, canonical_pick, chosen_pick, step
 use Rattle.c_model.specs.Steps.{Begun, Control, Ev, MayPick}
 use Rattle.c_model.specs.World.{World}
 use Rattle.run_control.specs.View.{Meaning}
-use Rattle.run_code.specs.declared.steps.Due.{Due}
-use Rattle.run_code.specs.declared.steps.Expression.{Expression}
+use Rattle.run_layout.specs.declared.steps.Due.{Due}
+use Rattle.run_layout.specs.declared.steps.Expression.{Expression}
 use Rattle.run_listing.specs.Along.{place_of}
 use Rattle.run_state.specs.declared.halt.Halt.{Halt}
 use Rattle.run_state.specs.declared.halt.Halt.TheVariants as halt
 use Rattle.run_state.specs.declared.machine.Machine.{Machine}
 use Rattle.run_state.specs.declared.machine.Stage.{Stage}
-use Rattle.run_machine.specs.declared.pick.Pick.{Pick}
-use Rattle.run_machine.specs.Library.{
+use Rattle.run_answers.specs.declared.pick.Pick.{Pick}
+use Rattle.run_answers.specs.Library.{
   AnswersCalled,
   AnswersCalledNext,
   AnswersLibrary,
@@ -25,9 +25,9 @@ use Rattle.run_machine.specs.Library.{
   MayCallLibraryNext,
   untouched,
 }
-use Rattle.run_machine.specs.LibraryCompletes.{CompletesCalled, CompletesLibrary, CompletesNextLibrary}
-use Rattle.run_machine.specs.Picks.{Follows, NextIsPermitted, TakesCanonical, top_of}
-use Rattle.run_machine.specs.Taking.{at_next}
+use Rattle.run_answers.specs.LibraryCompletes.{CompletesCalled, CompletesLibrary, CompletesNextLibrary}
+use Rattle.run_answers.specs.Picks.{Follows, NextIsPermitted, TakesCanonical, top_of}
+use Rattle.run_answers.specs.Taking.{at_next}
 use Rattle.run_machine.proofs.Onward.{at_ready, came_next, cleared_open, ev_place}
 
 -- the machine has gone on to it, and may do it

@@ -79,26 +79,26 @@ use Rattle.library_laws.specs.Calls.{CallsMoreRows, ComesToAct, HasLibrary, IsLi
 use Rattle.run_acts.specs.Calls.{AreFunctions}
 use Rattle.run_acts.specs.Views.{value_in}
 use Rattle.run_control.specs.View.{Meaning}
-use Rattle.run_code.specs.declared.steps.Act.TheVariants as act
-use Rattle.run_code.specs.declared.steps.Due.{Due}
-use Rattle.run_code.specs.declared.steps.Expression.{Expression}
-use Rattle.run_code.specs.declared.steps.Operand.{Operand}
+use Rattle.run_layout.specs.declared.steps.Act.TheVariants as act
+use Rattle.run_layout.specs.declared.steps.Due.{Due}
+use Rattle.run_layout.specs.declared.steps.Expression.{Expression}
+use Rattle.run_layout.specs.declared.steps.Operand.{Operand}
 use Rattle.run_state.specs.declared.halt.Halt.{Halt}
 use Rattle.run_state.specs.declared.machine.Machine.{Machine}
 use Rattle.run_state.specs.declared.machine.Stage.{Stage}
-use Rattle.run_events.specs.declared.acts.Outcome.{Outcome as Done_as}
-use Rattle.run_events.specs.declared.acts.Outcome.TheVariants as outcome
-use Rattle.run_events.specs.declared.fault.Fault.{Fault}
-use Rattle.run_events.specs.declared.fault.Fault.TheVariants as fault
-use Rattle.run_events.specs.Calling.{CallsFound, CallsNumbered, RaisesOnly, Runs, RunsWhere, type_of_call}
-use Rattle.run_events.specs.Faults.{halt_by}
-use Rattle.run_events.specs.LibraryCalls.{Arguments, CallsLibrary, CanCall, HasCalled, are_call_sizes, call_in, types_seen}
-use Rattle.run_events.specs.Performs.{store_in}
-use Rattle.run_machine.specs.declared.pick.Pick.{Pick}
-use Rattle.run_machine.specs.declared.pick.Pick.TheVariants as pick
-use Rattle.run_machine.specs.Answering.{newest_items}
-use Rattle.run_machine.specs.Ending.{NotesIn, NotesWay}
-use Rattle.run_machine.specs.Library.{
+use Rattle.run_answers.specs.declared.outcome.Outcome.{Outcome as Done_as}
+use Rattle.run_answers.specs.declared.outcome.Outcome.TheVariants as outcome
+use Rattle.run_answers.specs.declared.fault.Fault.{Fault}
+use Rattle.run_answers.specs.declared.fault.Fault.TheVariants as fault
+use Rattle.run_answers.specs.Calling.{CallsFound, CallsNumbered, RaisesOnly, Runs, RunsWhere, type_of_call}
+use Rattle.run_answers.specs.Faults.{halt_by}
+use Rattle.run_answers.specs.LibraryCalls.{Arguments, CallsLibrary, CanCall, HasCalled, are_call_sizes, call_in, types_seen}
+use Rattle.run_answers.specs.Performs.{store_in}
+use Rattle.run_answers.specs.declared.pick.Pick.{Pick}
+use Rattle.run_answers.specs.declared.pick.Pick.TheVariants as pick
+use Rattle.run_answers.specs.Answering.{newest_items}
+use Rattle.run_answers.specs.Ending.{NotesIn, NotesWay}
+use Rattle.run_answers.specs.Library.{
   AnswersCalled,
   AnswersLibrary,
   ArgumentsGive,
@@ -109,11 +109,11 @@ use Rattle.run_machine.specs.Library.{
   MayCallLibrary,
   TakesCall,
 }
-use Rattle.run_machine.specs.Picks.{event_at}
-use Rattle.run_machine.specs.Taking.{Decides, FollowsEvent, IsFinished, IsPast, past_event, passed_stage, staged}
-use Rattle.run_machine.proofs.Answered.{decides_so, noted_code, passes_so, raises_so, stage_past, staged_so}
+use Rattle.run_answers.specs.Picks.{event_at}
+use Rattle.run_answers.specs.Taking.{Decides, FollowsEvent, IsFinished, IsPast, past_event, passed_stage, staged}
+use Rattle.run_answers.proofs.Answered.{decides_so, noted_code, passes_so, raises_so, stage_past, staged_so}
 use Rattle.run_machine.proofs.Callees.{agree_so, are_of_world, if_true}
-use Rattle.run_machine.proofs.LibrarySteps.{SameBehind, choice_none, comes_to, output_within, same_behind}
+use Rattle.run_answers.proofs.LibrarySteps.{SameBehind, choice_none, comes_to, output_within, same_behind}
 
 -- ---- the values of the arguments
 seen_passed : (m : Kept) (h : Kept_value) → value_seen h ≡ passed (value_in m h)

@@ -28,7 +28,7 @@ use Rattle.run_acts.specs.Stores.{SeesAs}
 use Rattle.run_acts.specs.Views.{value_in}
 use Rattle.run_acts.proofs.Keeping.{values_stay, fillings_stay}
 use Rattle.run_acts.proofs.Starting.{placed_still}
-use Rattle.run_code.specs.declared.steps.StoreCode.{StoreCode}
+use Rattle.run_layout.specs.declared.steps.StoreCode.{StoreCode}
 use Rattle.run_control.specs.declared.work.Work.{Work}
 use Rattle.run_control.specs.View.{Meaning}
 use Rattle.run_state.specs.declared.machine.Machine.{Machine}

@@ -3,19 +3,19 @@ use Rattle.std.proofs.Common.{◌≡◌, ◌+◌, ◌-◌, ◌^◌, ◌⊎◌, m
 use Rattle.std.specs.Borrow.{Bor}
 use Rattle.ub_base.specs.declared.names.Item.{Item}
 use Rattle.c_typed.specs.declared.tree.Place.{Place}
-use Rattle.run_code.specs.declared.steps.Due.{Due}
+use Rattle.run_layout.specs.declared.steps.Due.{Due}
 use Rattle.run_listing.specs.Along.{IsListed}
 use Rattle.run_state.specs.declared.halt.Halt.{Halt}
 use Rattle.run_state.specs.declared.halt.Halt.TheVariants as halt
 use Rattle.run_state.specs.declared.machine.Machine.{Machine}
 use Rattle.run_state.specs.declared.machine.Stage.{Stage}
-use Rattle.run_machine.specs.declared.pick.Pick.{Pick}
-use Rattle.run_machine.specs.Library.{AnswersLibrary}
-use Rattle.run_machine.specs.Picks.{LeavesWay, StraysIn, whole_part}
-use Rattle.run_machine.specs.Raising.{RaisesAt}
-use Rattle.run_machine.specs.Starting.{AnswersBody, AnswersCall}
-use Rattle.run_machine.specs.Straying.{LeavesStanding, MovesTo, Reaches, TakesFrom, TakesSo}
-use Rattle.run_machine.specs.Taking.{AnswersEvent, IsAt, at_next, untouched}
+use Rattle.run_answers.specs.declared.pick.Pick.{Pick}
+use Rattle.run_answers.specs.Library.{AnswersLibrary}
+use Rattle.run_answers.specs.Picks.{LeavesWay, StraysIn, whole_part}
+use Rattle.run_answers.specs.Raising.{RaisesAt}
+use Rattle.run_answers.specs.Starting.{AnswersBody, AnswersCall}
+use Rattle.run_answers.specs.Straying.{LeavesStanding, MovesTo, Reaches, TakesFrom, TakesSo}
+use Rattle.run_answers.specs.Taking.{AnswersEvent, IsAt, at_next, untouched}
 use Rattle.run_machine.proofs.Onward.{at_ready, cleared_open}
 
 -- what is promised of an event to which a machine has gone on

@@ -8,18 +8,18 @@ use Rattle.c_model.specs.Runs.{State, chosen_pick, step, canonical_pick}
 use Rattle.c_model.specs.Steps.{Begun, Control, Ev, MayPick}
 use Rattle.c_model.specs.World.{World}
 use Rattle.run_control.specs.View.{Meaning}
-use Rattle.run_code.specs.declared.steps.Due.{Due}
+use Rattle.run_layout.specs.declared.steps.Due.{Due}
 use Rattle.run_listing.specs.Along.{place_of}
 use Rattle.run_state.specs.declared.halt.Halt.{Halt}
 use Rattle.run_state.specs.declared.machine.Machine.{Machine}
 use Rattle.run_state.specs.declared.machine.Stage.{Stage}
 use Rattle.run_state.specs.declared.watch.Begun.{Begun as Shown}
-use Rattle.run_machine.specs.declared.pick.Pick.{Pick}
-use Rattle.run_machine.specs.Picks.{at_cursor, top_of, ByWay, ComesNext, Follows, FollowsIn, NextIsPermitted, TakesCanonical}
-use Rattle.run_code.specs.declared.steps.Expression.{Expression}
-use Rattle.run_machine.specs.Completing.{CompletesAfter, CompletesEvent, CompletesNext}
-use Rattle.run_machine.specs.Taking.{AnswersEvent, AnswersNext, AnswersTaken, IsAt, MayTake, MayTakeNext, StandsOpen, at_next, untouched}
-use Rattle.run_machine.proofs.Still.{items_stand}
+use Rattle.run_answers.specs.declared.pick.Pick.{Pick}
+use Rattle.run_answers.specs.Picks.{at_cursor, top_of, ByWay, ComesNext, Follows, FollowsIn, NextIsPermitted, TakesCanonical}
+use Rattle.run_layout.specs.declared.steps.Expression.{Expression}
+use Rattle.run_answers.specs.Completing.{CompletesAfter, CompletesEvent, CompletesNext}
+use Rattle.run_answers.specs.Taking.{AnswersEvent, AnswersNext, AnswersTaken, IsAt, MayTake, MayTakeNext, StandsOpen, at_next, untouched}
+use Rattle.run_answers.proofs.Still.{items_stand}
 
 -- ---- what comes next, to which the machine has gone on
 pub record CameNext (old : Machine) (s : Stage) (new : Machine) (due : Bor Due) : Type 0 where

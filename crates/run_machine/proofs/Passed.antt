@@ -27,8 +27,8 @@ use Rattle.c_model.specs.Values.{Value, Nothing, address_after}
 use Rattle.c_model.specs.World.{World}
 use Rattle.run_acts.specs.Views.{value_in}
 use Rattle.run_acts.proofs.Keeping.{values_stay}
-use Rattle.run_code.specs.declared.steps.ObjectCode.{ObjectCode}
-use Rattle.run_code.specs.declared.steps.StoreCode.{StoreCode}
+use Rattle.run_layout.specs.declared.steps.ObjectCode.{ObjectCode}
+use Rattle.run_layout.specs.declared.steps.StoreCode.{StoreCode}
 use Rattle.run_control.specs.View.{Meaning}
 use Rattle.run_state.specs.declared.machine.Local.{Local}
 use Rattle.run_state.specs.declared.machine.Machine.{Machine}
@@ -36,15 +36,15 @@ use Rattle.run_state.specs.declared.machine.Open.{Open}
 use Rattle.run_state.specs.declared.machine.Stage.{Stage}
 use Rattle.run_state.specs.Operands.{AreAddresses}
 use Rattle.run_state.specs.Stands.{Holds, HoldsAll, IsResultOf, Stands, StandsBegun, result_seen}
-use Rattle.run_events.specs.Acts.{stored_by}
-use Rattle.run_events.specs.Performs.{store_in}
-use Rattle.run_events.proofs.Stays.{value_stays}
-use Rattle.run_machine.specs.Ending.{KeepToRooms}
-use Rattle.run_machine.specs.Entering.{TakesAs}
-use Rattle.run_machine.specs.Passing.{PutsAs, argument_script, first_of, place_of, script_of, with_arguments}
-use Rattle.run_machine.proofs.Creating.{none_bind, none_put}
+use Rattle.run_answers.specs.Acts.{stored_by}
+use Rattle.run_answers.specs.Performs.{store_in}
+use Rattle.run_answers.proofs.Stays.{value_stays}
+use Rattle.run_answers.specs.Ending.{KeepToRooms}
+use Rattle.run_answers.specs.Entering.{TakesAs}
+use Rattle.run_answers.specs.Passing.{PutsAs, argument_script, first_of, place_of, script_of, with_arguments}
+use Rattle.run_answers.proofs.Creating.{none_bind, none_put}
 use Rattle.run_machine.proofs.Lives.{result_stays}
-use Rattle.run_machine.proofs.Standing.{frames_under, locals_on, tables_on}
+use Rattle.run_answers.proofs.Standing.{frames_under, locals_on, tables_on}
 
 -- ---- scripts one after the other
 then_after : {A B C : Type 0} (a : Script A) (b : Script B) (c : Script C) → (a >> b) >> c ≡ a >> (b >> c)

@@ -34,18 +34,18 @@ use Rattle.run_acts.specs.declared.values.Pointer.{Pointer as Place}
 use Rattle.run_acts.specs.Kept.{IsOf}
 use Rattle.run_acts.specs.Views.{pointer_at, value_in}
 use Rattle.run_acts.proofs.Keeping.{values_stay}
-use Rattle.run_code.specs.declared.steps.ObjectCode.{ObjectCode}
-use Rattle.run_code.specs.declared.steps.Operand.TheVariants as operand
-use Rattle.run_code.specs.declared.steps.StoreCode.{StoreCode}
+use Rattle.run_layout.specs.declared.steps.ObjectCode.{ObjectCode}
+use Rattle.run_layout.specs.declared.steps.Operand.TheVariants as operand
+use Rattle.run_layout.specs.declared.steps.StoreCode.{StoreCode}
 use Rattle.run_state.specs.declared.machine.Local.{Local}
 use Rattle.run_state.specs.declared.machine.Machine.{Machine}
 use Rattle.run_state.specs.Operands.{into_local, operand_in}
 use Rattle.run_state.specs.Stands.{StandsTables}
-use Rattle.run_events.specs.Acts.{stored_by}
-use Rattle.run_events.specs.Performs.{CanPut, Puts, store_in}
-use Rattle.run_events.proofs.Stays.{value_stays}
-use Rattle.run_machine.specs.Passing.{CanPassAll, HavePassed, IsOnePassed, PassesAll, PutsAs, argument_script, first_of, place_of, script_of}
-use Rattle.run_machine.proofs.Standing.{tables_on}
+use Rattle.run_answers.specs.Acts.{stored_by}
+use Rattle.run_answers.specs.Performs.{CanPut, Puts, store_in}
+use Rattle.run_answers.proofs.Stays.{value_stays}
+use Rattle.run_answers.specs.Passing.{CanPassAll, HavePassed, IsOnePassed, PassesAll, PutsAs, argument_script, first_of, place_of, script_of}
+use Rattle.run_answers.proofs.Standing.{tables_on}
 
 -- ---- scripts that do the same under all rows
 abbrev pub Alike : {V : Type 0} → Script V → Type 0

@@ -6,12 +6,12 @@ use Rattle.c_typed.specs.Order.{has}
 use Rattle.c_typed.specs.Decide.{is_permitted}
 use Rattle.seq_order.specs.declared.done.Marks.{Marks}
 use Rattle.seq_order.specs.Marked.{taken_in, done_in}
-use Rattle.run_code.specs.declared.steps.Listed.{Listed}
+use Rattle.run_layout.specs.declared.steps.Listed.{Listed}
 use Rattle.run_listing.specs.Along.{events_of}
 use Rattle.run_state.specs.declared.machine.Machine.{Machine}
 use Rattle.run_state.specs.declared.machine.Stage.{Stage}
 use Rattle.run_state.specs.declared.watch.Begun.{Begun}
-use Rattle.run_machine.specs.Picks.{top_of, passed_part, kept_in, kept_of, by_way, Decides, StraysIn}
+use Rattle.run_answers.specs.Picks.{top_of, passed_part, kept_in, kept_of, by_way, Decides, StraysIn}
 
 pub kept_as : (m : Machine) (done : List Marks) → slice_get m.strayed.items (length m.below.items) ≡ Some done → done_in done ≡ kept_of m
 kept_as m done h = sym (ap kept_in h)

@@ -8,24 +8,24 @@ use Rattle.c_model.specs.Runs.{State, chosen_pick, canonical_pick}
 use Rattle.c_model.specs.Steps.{Control, Ev, event_of}
 use Rattle.c_model.specs.World.{World}
 use Rattle.run_control.specs.View.{Meaning}
-use Rattle.run_code.specs.declared.steps.Due.{Due}
-use Rattle.run_code.specs.declared.whole.Code.{Code}
-use Rattle.run_events.specs.declared.fault.Fault.{Fault}
-use Rattle.run_events.specs.declared.fault.Fault.TheVariants as fault
-use Rattle.run_events.specs.Faults.{halt_by}
+use Rattle.run_layout.specs.declared.steps.Due.{Due}
+use Rattle.run_layout.specs.declared.whole.Code.{Code}
+use Rattle.run_answers.specs.declared.fault.Fault.{Fault}
+use Rattle.run_answers.specs.declared.fault.Fault.TheVariants as fault
+use Rattle.run_answers.specs.Faults.{halt_by}
 use Rattle.run_listing.specs.Along.{place_of}
 use Rattle.run_state.specs.declared.halt.Halt.{Halt}
 use Rattle.run_state.specs.declared.halt.Halt.TheVariants as halt
 use Rattle.run_state.specs.declared.machine.Machine.{Machine}
 use Rattle.run_state.specs.declared.machine.Stage.{Stage}
 use Rattle.run_state.specs.Stands.{Stands}
-use Rattle.run_machine.specs.declared.pick.Pick.{Pick}
-use Rattle.run_machine.specs.declared.pick.Pick.TheVariants as pick
-use Rattle.run_machine.specs.Picks.{ComesNext, Follows, TakesCanonical, event_at, top_of}
-use Rattle.run_machine.specs.Raising.{IsRaisedNext, RaisesAt, RaisesNext}
-use Rattle.run_machine.specs.Taking.{FollowsEvent}
+use Rattle.run_answers.specs.declared.pick.Pick.{Pick}
+use Rattle.run_answers.specs.declared.pick.Pick.TheVariants as pick
+use Rattle.run_answers.specs.Picks.{ComesNext, Follows, TakesCanonical, event_at, top_of}
+use Rattle.run_answers.specs.Raising.{IsRaisedNext, RaisesAt, RaisesNext}
+use Rattle.run_answers.specs.Taking.{FollowsEvent}
 use Rattle.run_machine.proofs.Onward.{came_next, ev_place}
-use Rattle.run_machine.proofs.Taken.{event_seen}
+use Rattle.run_answers.proofs.Taken.{event_seen}
 
 -- ---- an event that was performed
 by_fault : (m : Machine) (d : Due) (f : Fault) → RaisesAt m d (Err (halt_by (event_at m d.place) d.line f))

@@ -20,7 +20,7 @@ use Rattle.run_acts.specs.Views.{value_in}
 use Rattle.run_acts.proofs.Keeping.{int_of, nothing_of}
 use Rattle.run_state.specs.Meaning.{StandsProgram}
 use Rattle.run_state.specs.Stands.{IsResultOf, result_seen}
-use Rattle.run_machine.specs.Ending.{IsFunctionIn, LeavesNone, LeavesValue, depth_without}
+use Rattle.run_answers.specs.Ending.{IsFunctionIn, LeavesNone, LeavesValue, depth_without}
 
 -- ---- a value that names nothing
 abbrev IsPlain : Value → Type 0

@@ -52,8 +52,8 @@ use Rattle.c_model.specs.Values.{Value}
 use Rattle.c_model.specs.World.{World, Limits}
 use Rattle.seq_order.specs.declared.done.Marks.{Marks}
 use Rattle.seq_order.specs.Marked.{done_in}
-use Rattle.run_code.specs.declared.steps.Listed.{Listed}
-use Rattle.run_code.specs.declared.whole.Code.{Code}
+use Rattle.run_layout.specs.declared.steps.Listed.{Listed}
+use Rattle.run_layout.specs.declared.whole.Code.{Code}
 use Rattle.run_control.specs.declared.work.Work.{Work}
 use Rattle.run_control.specs.Stacked.{Closes, Stacked}
 use Rattle.run_control.specs.View.{Meaning}
@@ -64,9 +64,9 @@ use Rattle.run_state.specs.declared.machine.Machine.{Machine}
 use Rattle.run_state.specs.declared.machine.Open.{Open}
 use Rattle.run_state.specs.declared.machine.Stage.{Stage}
 use Rattle.run_state.specs.Stands.{Holds, HoldsAll, IsAbove, StandFrames, Stands, StandsBegun, StandsDone, StandsExpression, StandsFrame, StandsValues}
-use Rattle.run_machine.specs.Answering.{ComesTo, newest_items}
-use Rattle.run_machine.specs.Ended.{AnswersEnd}
-use Rattle.run_machine.specs.Ending.{
+use Rattle.run_answers.specs.Answering.{ComesTo, newest_items}
+use Rattle.run_answers.specs.Ended.{AnswersEnd}
+use Rattle.run_answers.specs.Ending.{
   EndsFrame,
   EndsRun,
   GoesBack,
@@ -85,10 +85,10 @@ use Rattle.run_machine.specs.Ending.{
   depth_without,
   stage_part,
 }
-use Rattle.run_machine.proofs.Given.{done_given, given_other, given_own, given_value, taken_given, values_given}
+use Rattle.run_answers.proofs.Given.{done_given, given_other, given_own, given_value, taken_given, values_given}
 use Rattle.run_machine.proofs.Results.{depth_left, left_as}
 use Rattle.run_machine.proofs.Rooms.{frames_below, holds_apart, locals_below, part_same, with_rooms}
-use Rattle.run_machine.proofs.Still.{above_same, depth_same, frame_aside, frames_aside}
+use Rattle.run_answers.proofs.Still.{above_same, depth_same, frame_aside, frames_aside}
 
 -- ---- the full expression of the frame that goes on
 -- what was noted of it, off the canonical way

@@ -33,8 +33,8 @@ use Rattle.prov_memory.specs.Memory.{Kept}
 use Rattle.c_model.specs.Steps.{Scene, Local, Begun}
 use Rattle.c_model.specs.Values.{Value}
 use Rattle.c_model.specs.World.{World}
-use Rattle.run_code.specs.declared.steps.Listed.{Listed}
-use Rattle.run_code.specs.declared.whole.Code.{Code}
+use Rattle.run_layout.specs.declared.steps.Listed.{Listed}
+use Rattle.run_layout.specs.declared.whole.Code.{Code}
 use Rattle.run_control.specs.declared.work.Work.{Work}
 use Rattle.run_control.specs.View.{Meaning}
 use Rattle.run_listing.specs.Along.{part_of}
@@ -42,7 +42,7 @@ use Rattle.run_state.specs.declared.machine.Machine.{Machine}
 use Rattle.run_state.specs.declared.machine.Open.{Open}
 use Rattle.run_state.specs.declared.machine.Stage.{Stage}
 use Rattle.run_state.specs.Stands.{Holds, HoldsAll, IsAbove, StandFrames, StandLocals, StandsBegun, StandsDone, StandsExpression, StandsFrame, StandsValues}
-use Rattle.run_machine.specs.Ending.{IsInRooms, KeepsTo, KeepToRooms, stage_part}
+use Rattle.run_answers.specs.Ending.{IsInRooms, KeepsTo, KeepToRooms, stage_part}
 
 -- the one machine with the values of another, and what is noted in a third
 abbrev pub with_rooms : (m n z : Machine) → Machine

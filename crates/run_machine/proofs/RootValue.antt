@@ -13,14 +13,14 @@ use Rattle.c_model.specs.World.{World}
 use Rattle.c_model.proofs.Decided.{due_has, val_due}
 use Rattle.program_view.specs.Trees.{expr_of}
 use Rattle.run_control.specs.View.{Meaning}
-use Rattle.run_code.specs.declared.steps.Operand.{Operand}
-use Rattle.run_code.specs.Resolved.{resolved}
+use Rattle.run_layout.specs.declared.steps.Operand.{Operand}
+use Rattle.run_layout.specs.Resolved.{resolved}
 use Rattle.run_state.specs.declared.machine.Machine.{Machine}
 use Rattle.run_state.specs.declared.machine.Stage.{Stage}
 use Rattle.run_state.specs.Operands.{AreAddresses, Gives, IsNamed, QuietGives, RoomGives, StandsObjects}
 use Rattle.run_state.specs.Stands.{Stands, StandsExpression}
-use Rattle.run_machine.specs.Settling.{IsUsable}
-use Rattle.run_machine.proofs.Finished.{done_at}
+use Rattle.run_answers.specs.Settling.{IsUsable}
+use Rattle.run_answers.proofs.Finished.{done_at}
 
 given_there : (o : Option Value) → is_some o ≡ true → (v : Value) × (o ≡ Some v)
 given_there None h = absurd (true≢false (sym h))

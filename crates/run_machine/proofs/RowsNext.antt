@@ -9,9 +9,9 @@ use Rattle.c_model.specs.Steps.{Begun, Control, Ev}
 use Rattle.c_model.specs.World.{World}
 use Rattle.program_view.specs.Laws.{TreesAreKept}
 use Rattle.run_control.specs.View.{Meaning}
-use Rattle.run_code.specs.declared.steps.Act.TheVariants as act
-use Rattle.run_code.specs.declared.steps.Due.{Due}
-use Rattle.run_code.specs.declared.steps.Expression.{Expression}
+use Rattle.run_layout.specs.declared.steps.Act.TheVariants as act
+use Rattle.run_layout.specs.declared.steps.Due.{Due}
+use Rattle.run_layout.specs.declared.steps.Expression.{Expression}
 use Rattle.run_listing.specs.Along.{place_of}
 use Rattle.run_listing.specs.Cursor.{StandsAtStart}
 use Rattle.run_state.specs.declared.halt.Halt.{Halt}
@@ -19,27 +19,27 @@ use Rattle.run_state.specs.declared.halt.Halt.TheVariants as halt
 use Rattle.run_state.specs.declared.machine.Machine.{Machine}
 use Rattle.run_state.specs.declared.machine.Stage.{Stage}
 use Rattle.run_state.specs.Stands.{Stands}
-use Rattle.run_events.specs.declared.acts.Outcome.{Outcome as Done_as}
-use Rattle.run_events.specs.declared.acts.Outcome.TheVariants as outcome
-use Rattle.run_events.specs.declared.fault.Fault.{Fault}
-use Rattle.run_events.specs.declared.fault.Fault.TheVariants as fault
-use Rattle.run_events.specs.Calling.{CallsNumbered}
-use Rattle.run_events.specs.Faults.{halt_by}
-use Rattle.run_events.specs.Opens.{Opens, OpensInitializer}
-use Rattle.run_machine.specs.declared.pick.Pick.{Pick}
-use Rattle.run_machine.specs.declared.pick.Pick.TheVariants as pick
-use Rattle.run_machine.specs.Picks.{Follows, FollowsCanonical, NextIsPermitted, TakesCanonical, top_of}
-use Rattle.run_machine.specs.Rows.{GrowsAt, GrowsByControl, GrowsNext, KeepsAnswered, KeepsRows, KeepsTaken}
-use Rattle.run_machine.specs.Starting.{MayCall, MayStart}
-use Rattle.run_machine.specs.Taking.{past_event, untouched}
-use Rattle.run_machine.proofs.Answered.{staged_so}
+use Rattle.run_answers.specs.declared.outcome.Outcome.{Outcome as Done_as}
+use Rattle.run_answers.specs.declared.outcome.Outcome.TheVariants as outcome
+use Rattle.run_answers.specs.declared.fault.Fault.{Fault}
+use Rattle.run_answers.specs.declared.fault.Fault.TheVariants as fault
+use Rattle.run_answers.specs.Calling.{CallsNumbered}
+use Rattle.run_answers.specs.Faults.{halt_by}
+use Rattle.run_answers.specs.Opens.{Opens, OpensInitializer}
+use Rattle.run_answers.specs.declared.pick.Pick.{Pick}
+use Rattle.run_answers.specs.declared.pick.Pick.TheVariants as pick
+use Rattle.run_answers.specs.Picks.{Follows, FollowsCanonical, NextIsPermitted, TakesCanonical, top_of}
+use Rattle.run_answers.specs.Rows.{GrowsAt, GrowsByControl, GrowsNext, KeepsAnswered, KeepsRows, KeepsTaken}
+use Rattle.run_answers.specs.Starting.{MayCall, MayStart}
+use Rattle.run_answers.specs.Taking.{past_event, untouched}
+use Rattle.run_answers.proofs.Answered.{staged_so}
 use Rattle.run_machine.proofs.Bodies as started
 use Rattle.run_machine.proofs.Callees as callees
-use Rattle.run_machine.proofs.Finished.{control_first, no_event}
+use Rattle.run_answers.proofs.Finished.{control_first, no_event}
 use Rattle.run_machine.proofs.LibraryNext as called
 use Rattle.run_machine.proofs.Onward as onward
 use Rattle.run_machine.proofs.RowsStand.{answered_then, rows_answered, rows_same, taken_then}
-use Rattle.run_machine.proofs.Staying.{cleared_goes, cleared_stands, followed}
+use Rattle.run_answers.proofs.Staying.{cleared_goes, cleared_stands, followed}
 
 -- ---- the body of an isolated initializer
 opened_memory : (past done : Machine) (number : ℕ) (who : Event) → OpensInitializer past number who done (Ok outcome.Started) → done.memory ≡ past.memory

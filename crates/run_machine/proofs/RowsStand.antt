@@ -12,22 +12,22 @@ use Rattle.run_control.specs.declared.work.Step.{Step}
 use Rattle.run_control.specs.declared.work.Step.TheVariants as taking
 use Rattle.run_control.specs.declared.work.Work.{Work as Kept_work}
 use Rattle.run_control.specs.View.{Meaning, block_of, readied, todo_of}
-use Rattle.run_code.specs.declared.steps.BlockCode.{BlockCode}
+use Rattle.run_layout.specs.declared.steps.BlockCode.{BlockCode}
 use Rattle.run_state.specs.declared.halt.Halt.{Halt}
 use Rattle.run_state.specs.declared.halt.Halt.TheVariants as halt
 use Rattle.run_state.specs.declared.machine.Machine.{Machine}
-use Rattle.run_machine.specs.declared.pick.Pick.{Pick}
-use Rattle.run_machine.specs.declared.pick.Pick.TheVariants as pick
-use Rattle.run_machine.specs.Answering.{HasTaken}
-use Rattle.run_machine.specs.Ending.{EndsFrame, GoesBack, NotesIn}
-use Rattle.run_code.specs.InRange.{part_of}
-use Rattle.run_machine.specs.Entering.{CanBear, Enters, EntersWithin, turned}
-use Rattle.run_machine.specs.Leaving.{LeavesBlock}
-use Rattle.run_machine.specs.Rows.{GrowsByControl, GrowsByStep, KeepsAnswered, KeepsMemory, KeepsRows, KeepsTaken}
+use Rattle.run_answers.specs.declared.pick.Pick.{Pick}
+use Rattle.run_answers.specs.declared.pick.Pick.TheVariants as pick
+use Rattle.run_answers.specs.Answering.{HasTaken}
+use Rattle.run_answers.specs.Ending.{EndsFrame, GoesBack, NotesIn}
+use Rattle.run_layout.specs.InRange.{part_of}
+use Rattle.run_answers.specs.Entering.{CanBear, Enters, EntersWithin, turned}
+use Rattle.run_answers.specs.Leaving.{LeavesBlock}
+use Rattle.run_answers.specs.Rows.{GrowsByControl, GrowsByStep, KeepsAnswered, KeepsMemory, KeepsRows, KeepsTaken}
 use Rattle.run_machine.proofs.Entered.{IsKnown, known}
 use Rattle.run_machine.proofs.Entering.{passed_rows}
 use Rattle.run_machine.proofs.Keeping.{in_noted}
-use Rattle.run_machine.proofs.Staying.{has_taken, with_work}
+use Rattle.run_answers.proofs.Staying.{has_taken, with_work}
 
 -- ---- memory, and rows
 pub rows_by : (m n : Machine) (a b : Kept) → a ≡ m.memory → n.memory ≡ b → RowsStay a.rows b.rows → KeepsRows m n

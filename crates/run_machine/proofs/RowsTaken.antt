@@ -8,29 +8,29 @@ use Rattle.c_model.specs.Steps.{Begun}
 use Rattle.c_model.specs.World.{World}
 use Rattle.library_laws.specs.Calls.{CallsMoreRows, LibraryCallSteps}
 use Rattle.run_control.specs.View.{Meaning}
-use Rattle.run_code.specs.declared.steps.Act.TheVariants as act
-use Rattle.run_code.specs.declared.steps.Due.{Due}
-use Rattle.run_code.specs.declared.steps.Expression.{Expression}
+use Rattle.run_layout.specs.declared.steps.Act.TheVariants as act
+use Rattle.run_layout.specs.declared.steps.Due.{Due}
+use Rattle.run_layout.specs.declared.steps.Expression.{Expression}
 use Rattle.run_state.specs.declared.halt.Halt.{Halt}
 use Rattle.run_state.specs.declared.halt.Halt.TheVariants as halt
 use Rattle.run_state.specs.declared.machine.Machine.{Machine}
 use Rattle.run_state.specs.declared.machine.Stage.{Stage}
-use Rattle.run_events.specs.declared.acts.Outcome.{Outcome as Done_as}
-use Rattle.run_events.specs.declared.acts.Outcome.TheVariants as outcome
-use Rattle.run_events.specs.declared.fault.Fault.{Fault}
-use Rattle.run_events.specs.declared.fault.Fault.TheVariants as fault
-use Rattle.run_events.specs.Acts.{is_body_act, AreGiven}
-use Rattle.run_events.specs.Calling.{CallsNumbered}
-use Rattle.run_events.specs.Faults.{halt_by}
-use Rattle.run_events.specs.Performs.{CanPerform}
-use Rattle.run_machine.specs.declared.pick.Pick.{Pick}
-use Rattle.run_machine.specs.declared.pick.Pick.TheVariants as pick
-use Rattle.run_machine.specs.Library.{LibraryStands, LibrarySteps, MayCallLibrary}
-use Rattle.run_machine.specs.Picks.{event_at}
-use Rattle.run_machine.specs.Rows.{KeepsAnswered, KeepsMemory, KeepsRows}
-use Rattle.run_machine.specs.Taking.{EventSteps, MayTake, past_event}
-use Rattle.run_machine.proofs.Answered as answered
-use Rattle.run_machine.proofs.Answered.{Did, did_so}
+use Rattle.run_answers.specs.declared.outcome.Outcome.{Outcome as Done_as}
+use Rattle.run_answers.specs.declared.outcome.Outcome.TheVariants as outcome
+use Rattle.run_answers.specs.declared.fault.Fault.{Fault}
+use Rattle.run_answers.specs.declared.fault.Fault.TheVariants as fault
+use Rattle.run_answers.specs.Acts.{is_body_act, AreGiven}
+use Rattle.run_answers.specs.Calling.{CallsNumbered}
+use Rattle.run_answers.specs.Faults.{halt_by}
+use Rattle.run_answers.specs.Performs.{CanPerform}
+use Rattle.run_answers.specs.declared.pick.Pick.{Pick}
+use Rattle.run_answers.specs.declared.pick.Pick.TheVariants as pick
+use Rattle.run_answers.specs.Library.{LibraryStands, LibrarySteps, MayCallLibrary}
+use Rattle.run_answers.specs.Picks.{event_at}
+use Rattle.run_answers.specs.Rows.{KeepsAnswered, KeepsMemory, KeepsRows}
+use Rattle.run_answers.specs.Taking.{EventSteps, MayTake, past_event}
+use Rattle.run_answers.proofs.Answered as answered
+use Rattle.run_answers.proofs.Answered.{Did, did_so}
 use Rattle.run_machine.proofs.LibraryTaken as library
 use Rattle.run_machine.proofs.RowsStand.{rows_answered, rows_by, rows_same}
 

@@ -23,12 +23,12 @@ use Rattle.run_control.specs.Stacked.{Stacked}
 use Rattle.run_control.specs.Targets.{AllEqual, bodies}
 use Rattle.run_control.specs.View.{Meaning, switch_of, todo_of, use_of}
 use Rattle.run_statements.specs.Jumping.{HasJumps, IsCase}
-use Rattle.run_code.specs.declared.steps.Operand.{Operand}
+use Rattle.run_layout.specs.declared.steps.Operand.{Operand}
 use Rattle.run_state.specs.declared.machine.Machine.{Machine}
 use Rattle.run_state.specs.Meaning.{StandsCode}
 use Rattle.run_state.specs.Operands.{operand_in}
-use Rattle.run_machine.specs.Jumps.{HasLabelsOf}
-use Rattle.run_machine.specs.Settling.{HasSelected}
+use Rattle.run_answers.specs.Jumps.{HasLabelsOf}
+use Rattle.run_answers.specs.Settling.{HasSelected}
 
 -- ---- the code
 -- where the `switch` of this number goes in the body of this function

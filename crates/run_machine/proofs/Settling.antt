@@ -58,7 +58,7 @@ use Rattle.run_control.specs.declared.work.Use.TheVariants as for_use
 use Rattle.run_control.specs.declared.work.Work.{Work}
 use Rattle.run_control.specs.Stacked.{Stacked}
 use Rattle.run_control.specs.View.{Meaning, after, is_nothing, todo_of, use_of}
-use Rattle.run_code.specs.declared.steps.Operand.{Operand}
+use Rattle.run_layout.specs.declared.steps.Operand.{Operand}
 use Rattle.run_state.specs.declared.halt.Halt.{Halt}
 use Rattle.run_state.specs.declared.halt.Halt.TheVariants as halt
 use Rattle.run_state.specs.declared.machine.Machine.{Machine}
@@ -66,19 +66,19 @@ use Rattle.run_state.specs.declared.machine.Open.{Open}
 use Rattle.run_state.specs.declared.machine.Stage.{Stage}
 use Rattle.run_state.specs.Operands.{QuietGives, RoomGives, operand_in}
 use Rattle.run_state.specs.Stands.{IsResultOf, StandLocals, Stands, StandsControl, result_seen}
-use Rattle.run_machine.specs.Answering.{Answers, AnswersControl, CanGoOn, ComesTo, IsWithin, MayGoOn}
-use Rattle.run_machine.specs.Ended.{AnswersEnd}
-use Rattle.run_machine.specs.Ending.{CanEnd}
-use Rattle.run_machine.specs.Leaving.{GoesStill}
-use Rattle.run_machine.specs.Moving.{GoesOn}
-use Rattle.run_machine.specs.Jumps.{HasCases}
-use Rattle.run_machine.specs.Settling.{CanSettle, GoesBehind, HasSelected, HasUsed, left_by}
+use Rattle.run_answers.specs.Answering.{Answers, AnswersControl, CanGoOn, ComesTo, IsWithin, MayGoOn}
+use Rattle.run_answers.specs.Ended.{AnswersEnd}
+use Rattle.run_answers.specs.Ending.{CanEnd}
+use Rattle.run_answers.specs.Leaving.{GoesStill}
+use Rattle.run_answers.specs.Moving.{GoesOn}
+use Rattle.run_answers.specs.Jumps.{HasCases}
+use Rattle.run_answers.specs.Settling.{CanSettle, GoesBehind, HasSelected, HasUsed, left_by}
 use Rattle.run_machine.proofs.Aside.{operand_aside}
-use Rattle.run_machine.proofs.Opened.{one_open}
+use Rattle.run_answers.proofs.Opened.{one_open}
 use Rattle.run_machine.proofs.RootValue.{root_gives}
 use Rattle.run_machine.proofs.Selecting.{selected_todo}
-use Rattle.run_machine.proofs.Staying.{no_memory}
-use Rattle.run_machine.proofs.Still.{above_same, depth_same, frame_aside, frames_aside, tables_aside}
+use Rattle.run_answers.proofs.Staying.{no_memory}
+use Rattle.run_answers.proofs.Still.{above_same, depth_same, frame_aside, frames_aside, tables_aside}
 
 -- ---- the definitions
 module _ (world : World) (st : State) (e : Begun) (begun : st.top.begun ≡ Some e) where

@@ -18,7 +18,7 @@ use Rattle.run_control.specs.Stacked.{Stacked, Closes}
 use Rattle.run_control.specs.View.{Meaning, is_nothing, readied, step_of, todo_of}
 use Rattle.run_state.specs.declared.machine.Stage.{Stage}
 use Rattle.run_state.specs.Stands.{StandsControl}
-use Rattle.run_machine.specs.Moving.{GoesOn, IsGone, Leaves, StepLeaves, TakesStep}
+use Rattle.run_answers.specs.Moving.{GoesOn, IsGone, Leaves, StepLeaves, TakesStep}
 
 both : (b : Bool) → b ≡ true → b ≡ false → ⊥
 both true e f = cc

@@ -59,8 +59,8 @@ use Rattle.c_model.specs.Steps.{Scene, auto_name, object_at, object_kind, pass_a
 use Rattle.c_model.specs.Values.{Fun, Int, Missing, Nothing, Pointer, Ptr, Value, Whole, function_in, int_bytes, integer_of, pointer_of}
 use Rattle.c_model.specs.World.{World}
 use Rattle.run_state.specs.Operands.{AreAddresses}
-use Rattle.run_machine.specs.Entering.{Birth, born_by, born_first}
-use Rattle.run_machine.specs.Passing.{FitsAt, RowsAreLawful, TakesValue, align_by, seen_by, size_by}
+use Rattle.run_answers.specs.Entering.{Birth, born_by, born_first}
+use Rattle.run_answers.specs.Passing.{FitsAt, RowsAreLawful, TakesValue, align_by, seen_by, size_by}
 
 -- ---- how many bytes a value has
 number_length : (k n : ℕ) → length (number_bytes k n) ≡ k

@@ -53,15 +53,15 @@ use Rattle.run_control.specs.declared.work.Work.{Work}
 use Rattle.run_control.specs.declared.work.Work.TheVariants as work
 use Rattle.run_control.specs.Stacked.{innermost}
 use Rattle.run_control.specs.View.{Meaning, block_of, todo_of}
-use Rattle.run_code.specs.declared.steps.BlockCode.{BlockCode}
+use Rattle.run_layout.specs.declared.steps.BlockCode.{BlockCode}
 use Rattle.run_state.specs.declared.machine.Local.{Local as Kept_local}
 use Rattle.run_state.specs.declared.machine.Machine.{Machine}
 use Rattle.run_state.specs.Stands.{StandLocals, Stands, StandsControl}
 use Rattle.run_control.specs.declared.work.Step.TheVariants as taking
-use Rattle.run_machine.specs.Answering.{AnswersStep, IsDeclared, as_before}
+use Rattle.run_answers.specs.Answering.{AnswersStep, IsDeclared, as_before}
 use Rattle.run_machine.proofs.Lives.{stands_live, with_lives, with_objects}
-use Rattle.run_machine.proofs.Staying.{control_stays}
-use Rattle.run_machine.proofs.Still.{depth_same, left_stands}
+use Rattle.run_answers.proofs.Staying.{control_stays}
+use Rattle.run_answers.proofs.Still.{depth_same, left_stands}
 
 -- ---- the act, under more rows
 abbrev with_value : {A B : Type 0} → B → Act A → Act B

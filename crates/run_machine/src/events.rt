@@ -1,39 +1,26 @@
 // An event of a full expression is taken.
 ghost use Rattle.std.specs.Prelude.{◌≡◌, Some, IfOk, OnOk};
-ghost use Rattle.run_code.specs.Named.{IsDueOf};
-ghost use Rattle.run_machine.specs.Completing.{CompletesEvent, CompletesPick};
-ghost use Rattle.run_machine.specs.Ending.{Notes};
-ghost use Rattle.run_machine.specs.Library.{AnswersLibrary};
-ghost use Rattle.run_machine.specs.LibraryCompletes.{CompletesLibrary};
-ghost use Rattle.run_machine.specs.Picks.{event_at, IsOfEvent};
-ghost use Rattle.run_machine.specs.Raising.{RaisesAt};
-ghost use Rattle.run_machine.specs.Rows.{GrowsAt, KeepsMemory};
-ghost use Rattle.run_machine.specs.Starting.{AnswersBody, AnswersCall, FunctionStands, FunctionSteps};
-ghost use Rattle.run_machine.specs.Taking.{past_event, AnswersEvent, DecidesBy, FollowsEvent};
+ghost use Rattle.run_layout.specs.Named.{IsDueOf};
+ghost use Rattle.run_answers.specs.Completing.{CompletesEvent, CompletesPick};
+ghost use Rattle.run_answers.specs.Ending.{Notes};
+ghost use Rattle.run_answers.specs.Library.{AnswersLibrary};
+ghost use Rattle.run_answers.specs.LibraryCompletes.{CompletesLibrary};
+ghost use Rattle.run_answers.specs.Picks.{event_at, IsOfEvent};
+ghost use Rattle.run_answers.specs.Raising.{RaisesAt};
+ghost use Rattle.run_answers.specs.Rows.{GrowsAt, KeepsMemory};
+ghost use Rattle.run_answers.specs.Starting.{AnswersBody, AnswersCall, FunctionStands, FunctionSteps};
+ghost use Rattle.run_answers.specs.Taking.{past_event, AnswersEvent, DecidesBy, FollowsEvent};
 
-use crate::laws::law_events;
-use crate::library::law_bodies;
-use crate::pick::Pick;
 use crate::picks::completed;
 use c_typed::Place;
 use library_laws::law_library;
 use program_view::law_view;
-use run_code::{Code, Due};
-use run_events::{Outcome, choose, perform};
+use run_answers::{Outcome, Pick, law_bodies, law_events};
+use run_events::{choose, perform};
+use run_layout::{Code, Due};
 use run_listing::law_cursor;
 use run_state::{Halt, Machine};
 use ub_base::{Event, NoMemory};
-
-/// Where a function's frame has started at a body, with the arguments in its first rooms, the machine stands for the state of the definitions in which it has
-/// started, once the frame has its number (`stands`). This is the definitions' next state, within the limits, where the body is that of a call that may call
-/// the function (`steps`).
-pub fn law_calls()
-    ensures stands { FunctionStands }
-    ensures steps { FunctionSteps }
-{
-    law_view();
-    law_cursor();
-}
 
 // The cursor passes the event that is taken.
 fn pass_event(machine: &mut Machine)

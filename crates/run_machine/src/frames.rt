@@ -1,10 +1,10 @@
 // Frames end.
 ghost use Rattle.std.specs.Prelude.{◌≡◌, [], true, None, OnOk};
 ghost use Rattle.run_control.specs.Stacked.{Closes};
-ghost use Rattle.run_machine.specs.Ended.{AnswersEnd};
-ghost use Rattle.run_machine.specs.Ending.{EndsFrame, HasGiven, LeavesValue, depth_without};
-ghost use Rattle.run_machine.specs.Keeping.{GoesFurther};
-ghost use Rattle.run_machine.specs.Rows.{KeepsMemory};
+ghost use Rattle.run_answers.specs.Ended.{AnswersEnd};
+ghost use Rattle.run_answers.specs.Ending.{EndsFrame, HasGiven, LeavesValue, depth_without};
+ghost use Rattle.run_answers.specs.Keeping.{GoesFurther};
+ghost use Rattle.run_answers.specs.Rows.{KeepsMemory};
 
 use crate::events::note;
 use c_typed::Place;

@@ -4,16 +4,11 @@
 mod control;
 mod events;
 mod frames;
-mod laws;
-mod library;
-mod pick;
 mod picks;
 
 pub use control::MOST_CREATED;
-pub use events::law_calls;
-pub use laws::{law_events, law_picks};
-pub use library::law_bodies;
-pub use pick::{Completed, Pick};
 pub use picks::{canonical, single};
-pub use run_code::{Code, code_of};
+pub use run_answers::{Completed, Pick};
+pub use run_code::code_of;
+pub use run_layout::Code;
 pub use run_state::{Begun, Halt, Machine, View, prepare};

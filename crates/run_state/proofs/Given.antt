@@ -13,8 +13,8 @@ use Rattle.run_acts.specs.Views.{value_in}
 use Rattle.run_acts.proofs.Keeping.{values_stay}
 use Rattle.run_acts.proofs.Viewed.{takes_same}
 use Rattle.run_control.specs.declared.statement.Statement.{Statement}
-use Rattle.run_code.specs.declared.whole.Code.{Code}
-use Rattle.run_code.specs.declared.steps.FunctionCode.{FunctionCode}
+use Rattle.run_layout.specs.declared.whole.Code.{Code}
+use Rattle.run_layout.specs.declared.steps.FunctionCode.{FunctionCode}
 use Rattle.run_statements.specs.declared.jumps.Jumps.{Jumps}
 use Rattle.run_statements.specs.Jumping.{HasJumps}
 use Rattle.run_state.specs.declared.machine.Machine.{Machine}

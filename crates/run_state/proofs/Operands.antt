@@ -37,10 +37,10 @@ use Rattle.run_acts.specs.Contents.{StandsAt}
 use Rattle.run_acts.specs.Kept.{IsOf}
 use Rattle.run_acts.specs.Views.{value_in}
 use Rattle.run_acts.proofs.Starting.{all_at}
-use Rattle.run_code.specs.declared.steps.BlockCode.{BlockCode}
-use Rattle.run_code.specs.declared.steps.Operand.{Operand}
-use Rattle.run_code.specs.declared.steps.Operand.TheVariants as operand
-use Rattle.run_code.specs.Resolved.{NodeResolved, node_resolved, tree_resolved, resolved, first_resolved, converted, member_of, constant_of, local_number, object_of}
+use Rattle.run_layout.specs.declared.steps.BlockCode.{BlockCode}
+use Rattle.run_layout.specs.declared.steps.Operand.{Operand}
+use Rattle.run_layout.specs.declared.steps.Operand.TheVariants as operand
+use Rattle.run_layout.specs.Resolved.{NodeResolved, node_resolved, tree_resolved, resolved, first_resolved, converted, member_of, constant_of, local_number, object_of}
 use Rattle.run_state.specs.declared.machine.Local.{Local}
 use Rattle.run_state.specs.declared.machine.Machine.{Machine}
 use Rattle.run_state.specs.Stands.{StandsLocal, StandLocals}
@@ -267,7 +267,7 @@ module _ (world : World) (m : Machine) (f : Scene) (firsts : List ℕ) (stands :
   plain : (h : Kept_value) (o : Operand) → IsOf m.memory h → operand_in m o ≡ Some h → Gives m o (value_in m.memory h)
   plain h o of there = (h, there, of, refl)
 
-  null_gives : (t : CType) → Gives m (Rattle.run_code.specs.Resolved.null_of t) (null_of t)
+  null_gives : (t : CType) → Gives m (Rattle.run_layout.specs.Resolved.null_of t) (null_of t)
   null_gives (function result params variadic) = (kept.Func 0, refl, record { made = tt; known = tt; tagged = tt }, refl)
   null_gives _ = (kept.Ptr 0 Empty, refl, record { made = tt; known = tt; tagged = tt }, refl)
 
@@ -349,7 +349,7 @@ member_room by n (operand.Local number offset) h = absurd (h refl)
 member_room by n (operand.Static number offset) h = absurd (h refl)
 member_room by n _ h = refl
 
-null_place : (t : CType) → is_place (Rattle.run_code.specs.Resolved.null_of t) ≡ true → ⊥
+null_place : (t : CType) → is_place (Rattle.run_layout.specs.Resolved.null_of t) ≡ true → ⊥
 null_place (function result params variadic) h = cc
 null_place _ h = cc
 

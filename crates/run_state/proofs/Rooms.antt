@@ -10,8 +10,8 @@ use Rattle.prov_memory.specs.Memory.{Kept}
 use Rattle.c_model.specs.Values.{Ptr, pointer_of, pointer_value}
 use Rattle.run_acts.specs.declared.values.Pointer.{Pointer}
 use Rattle.run_acts.specs.Views.{value_in, pointer_at}
-use Rattle.run_code.specs.declared.steps.Operand.{Operand}
-use Rattle.run_code.specs.declared.steps.Operand.TheVariants as operand
+use Rattle.run_layout.specs.declared.steps.Operand.{Operand}
+use Rattle.run_layout.specs.declared.steps.Operand.TheVariants as operand
 use Rattle.run_state.specs.declared.machine.Machine.{Machine}
 use Rattle.run_state.specs.Operands.{into_local, operand_in, pointer_into}
 

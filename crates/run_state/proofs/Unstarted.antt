@@ -7,7 +7,7 @@ use Rattle.mem_spec.specs.Store.{Store}
 use Rattle.prov_memory.specs.Memory.{Kept, empty, store_of}
 use Rattle.run_acts.proofs.Counts.{start_counts}
 use Rattle.run_acts.proofs.Viewed.{as_viewed}
-use Rattle.run_code.specs.declared.whole.Code.{Code}
+use Rattle.run_layout.specs.declared.whole.Code.{Code}
 use Rattle.run_state.specs.declared.machine.Machine.{Machine}
 use Rattle.run_state.specs.declared.machine.Open.{Open}
 use Rattle.run_state.specs.Begins.{CountsAsDefined, IsFirst, IsUnstarted, SeesMain}

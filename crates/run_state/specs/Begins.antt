@@ -33,10 +33,10 @@ use Rattle.run_control.specs.declared.work.Use.TheVariants as for_use
 use Rattle.run_control.specs.declared.work.Work.TheVariants as work
 use Rattle.run_control.specs.Stacked.{Stacked}
 use Rattle.run_control.specs.View.{Meaning}
-use Rattle.run_code.specs.declared.whole.Code.{Code}
-use Rattle.run_code.specs.declared.steps.FunctionCode.{FunctionCode}
-use Rattle.run_code.specs.declared.steps.StoreCode.{StoreCode}
-use Rattle.run_code.specs.OfTrees.{ListsTrees}
+use Rattle.run_layout.specs.declared.whole.Code.{Code}
+use Rattle.run_layout.specs.declared.steps.FunctionCode.{FunctionCode}
+use Rattle.run_layout.specs.declared.steps.StoreCode.{StoreCode}
+use Rattle.run_layout.specs.OfTrees.{ListsTrees}
 use Rattle.run_statements.specs.declared.jumps.Jumps.{Jumps}
 use Rattle.run_statements.specs.Jumping.{HasJumps}
 use Rattle.run_state.specs.declared.machine.Machine.{Machine}

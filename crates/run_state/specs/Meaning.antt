@@ -17,9 +17,9 @@ use Rattle.program_view.specs.Trees.{expr_of, is_pointer}
 use Rattle.program_view.specs.View.{function_of, model_of, world_of}
 use Rattle.run_control.specs.View.{Meaning, stmt_of}
 use Rattle.run_control.specs.Targets.{AllEqual, bodies}
-use Rattle.run_code.specs.declared.whole.Code.{Code}
-use Rattle.run_code.specs.declared.steps.Expression.{Expression}
-use Rattle.run_code.specs.declared.steps.FunctionCode.{FunctionCode}
+use Rattle.run_layout.specs.declared.whole.Code.{Code}
+use Rattle.run_layout.specs.declared.steps.Expression.{Expression}
+use Rattle.run_layout.specs.declared.steps.FunctionCode.{FunctionCode}
 
 -- the world of a run with these arguments, in which these objects stand before the first pick
 abbrev pub world_with : Program → List (List ℕ) → List Standing → List Row → (Path → ℕ) → Limits → World

@@ -21,10 +21,10 @@ use Rattle.program_view.specs.Trees.{expr_of, is_pointer}
 use Rattle.run_acts.specs.Kept.{IsOf}
 use Rattle.run_acts.specs.Starting.{ArePlaced}
 use Rattle.run_acts.specs.Views.{value_in}
-use Rattle.run_code.specs.declared.steps.BlockCode.{BlockCode}
-use Rattle.run_code.specs.declared.steps.Operand.{Operand}
-use Rattle.run_code.specs.declared.steps.Operand.TheVariants as operand
-use Rattle.run_code.specs.Resolved.{resolved}
+use Rattle.run_layout.specs.declared.steps.BlockCode.{BlockCode}
+use Rattle.run_layout.specs.declared.steps.Operand.{Operand}
+use Rattle.run_layout.specs.declared.steps.Operand.TheVariants as operand
+use Rattle.run_layout.specs.Resolved.{resolved}
 use Rattle.run_state.specs.declared.machine.Local.{Local}
 use Rattle.run_state.specs.declared.machine.Machine.{Machine}
 use Rattle.run_state.specs.Stands.{Holds, StandLocals}

@@ -5,7 +5,7 @@ ghost use Rattle.c_model.specs.Values.{integer_of, pointer_of};
 ghost use Rattle.prov_memory.specs.Memory.{Kept};
 ghost use Rattle.prov_memory.specs.declared.value.Value.{Value as Kept_value};
 ghost use Rattle.run_acts.specs.Views.{value_in, pointer_at};
-ghost use Rattle.run_code.specs.declared.steps.Operand.TheVariants as operands;
+ghost use Rattle.run_layout.specs.declared.steps.Operand.TheVariants as operands;
 ghost use Rattle.run_state.specs.Operands.{operand_in};
 ghost use Rattle.run_state.specs.declared.machine.Local.{Local as LocalOf};
 
@@ -14,8 +14,8 @@ use addr_map::AddrMap;
 use c_typed::Program;
 use prov_memory::{Memory, Outputs, Streams, Touched, Value, Via};
 use run_acts::{Filling, Places, Pointer, as_integer, as_pointer, pointer_to, truth};
-use run_code::{Code, Operand, Range};
 use run_control::{Control, Use};
+use run_layout::{Code, Operand, Range};
 use run_statements::Jumps;
 use seq_order::Done;
 use std::alloc::Global;

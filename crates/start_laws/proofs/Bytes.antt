@@ -15,7 +15,7 @@ use Rattle.c_typed.specs.Sites.{Expression, Head, expressions, sites}
 use Rattle.program_view.specs.Trees.{content_of}
 use Rattle.value_facts.specs.Small.{IsSmallContent}
 use Rattle.value_facts.specs.Trees.{AreSmallConstants, ListsBytes, ListsBytesIn}
-use Rattle.run_code.specs.Fitting.{AreLawful}
+use Rattle.run_layout.specs.Fitting.{AreLawful}
 use Rattle.code_view.proofs.Listed.{HeadLists, lists_lawful}
 use Rattle.start_laws.specs.Bytes.{LawfulHasBytes}
 

@@ -1,6 +1,6 @@
 use Rattle.std.proofs.Common.{arith, subst}
-use Rattle.run_machine.specs.Raising.{RaisesNext}
-use Rattle.run_machine.specs.Rows.{GrowsNext}
+use Rattle.run_answers.specs.Raising.{RaisesNext}
+use Rattle.run_answers.specs.Rows.{GrowsNext}
 use Rattle.canonical_laws.specs.Along.{AnswersAll}
 use Rattle.core_run.specs.Calls.{Tells, calls_of}
 use Rattle.core_run.specs.declared.watch.Go.{Go}

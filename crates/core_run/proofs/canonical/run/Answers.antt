@@ -5,8 +5,8 @@ use Rattle.addr_map.specs.declared.map.Row.{Row}
 use Rattle.mem_spec.specs.Streams.{Outputs}
 use Rattle.c_model.specs.World.{profile_limits}
 use Rattle.program_view.specs.View.{main_values}
-use Rattle.run_code.specs.declared.whole.Code.{Code}
-use Rattle.run_code.specs.OfTrees.{AreTermsOf}
+use Rattle.run_layout.specs.declared.whole.Code.{Code}
+use Rattle.run_layout.specs.OfTrees.{AreTermsOf}
 use Rattle.run_facts.specs.SetUp.{IsItsCode}
 use Rattle.core_run.specs.Calls.{StartedBy}
 use Rattle.core_run.specs.Canonical.{EndsSome, world_in}

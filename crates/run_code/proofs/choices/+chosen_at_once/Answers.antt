@@ -4,11 +4,11 @@ use Rattle.std.proofs.lemmas.Option.{slice_get_within}
 use Rattle.std.proofs.lemmas.Result.{on_ok_weaker}
 use Rattle.c_typed.specs.declared.tree.Typed.{out-Typed}
 use Rattle.c_typed.specs.Tree.{tree_of, size}
-use Rattle.run_code.specs.Numbered.{IsAt, AreBelow}
-use Rattle.run_code.specs.AtOnce.{chosen_of, operand_number}
-use Rattle.run_code.proofs.AtOnce.{chosen_from, of_others, noted_below, operand_there, one_passed, one_chosen, none_chosen, nothing_there}
-use Rattle.run_code.proofs.AtOnce.{operand_smaller, child_smaller}
-use Rattle.run_code.proofs.Collected.{drop_past}
+use Rattle.run_layout.specs.Numbered.{IsAt, AreBelow}
+use Rattle.run_layout.specs.AtOnce.{chosen_of, operand_number}
+use Rattle.run_layout.proofs.AtOnce.{chosen_from, of_others, noted_below, operand_there, one_passed, one_chosen, none_chosen, nothing_there}
+use Rattle.run_layout.proofs.AtOnce.{operand_smaller, child_smaller}
+use Rattle.run_layout.proofs.Collected.{drop_past}
 use Rattle.run_code.proofs.choices.+chosen_at_once.Goals as goal
 
 pub returns-in_default : goal.returns-in_default

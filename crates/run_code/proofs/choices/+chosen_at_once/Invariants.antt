@@ -1,8 +1,8 @@
 use Rattle.std.proofs.Common.{◌≡◌, ◌++◌, ℕ, suc, List, drop, Option}
 use Rattle.c_typed.specs.declared.tree.Typed.{out-Typed}
 use Rattle.c_typed.specs.Tree.{tree_of, size}
-use Rattle.run_code.specs.Numbered.{IsAt, AreBelow, AreNoted}
-use Rattle.run_code.proofs.AtOnce.{chosen_from}
+use Rattle.run_layout.specs.Numbered.{IsAt, AreBelow, AreNoted}
+use Rattle.run_layout.proofs.AtOnce.{chosen_from}
 use Rattle.run_code.proofs.choices.+chosen_at_once.Given as goal
 
 -- the choices so far, and those of the operands that are left

@@ -1,6 +1,6 @@
 use Rattle.std.proofs.Common.{◌≡◌, length, slice_get, Some, refl}
 use Rattle.std.proofs.lemmas.Option.{slice_get_read, slice_get_past}
-use Rattle.run_code.proofs.AtOnce.{noted_next, not_there}
+use Rattle.run_layout.proofs.AtOnce.{noted_next, not_there}
 use Rattle.run_code.proofs.choices.behind.Goals as goal
 
 pub returns-in-Some : goal.returns-in-Some

@@ -1,7 +1,7 @@
 use Rattle.std.proofs.Common.{arith, ◌≡◌, ◌+◌, suc, length, slice_get, Some, refl, sym, ap, ◌∙◌}
 use Rattle.std.proofs.lemmas.Option.{slice_get_read, slice_get_past}
-use Rattle.run_code.specs.AtOnce.{takes}
-use Rattle.run_code.proofs.AtOnce.{node_at, test_there, not_there, by_test, taken, first_known, first_unknown}
+use Rattle.run_layout.specs.AtOnce.{takes}
+use Rattle.run_layout.proofs.AtOnce.{node_at, test_there, not_there, by_test, taken, first_known, first_unknown}
 use Rattle.run_code.proofs.choices.first_operand.Goals as goal
 
 pub returns-in_default-get : goal.returns-in_default-get

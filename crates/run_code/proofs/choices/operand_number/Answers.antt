@@ -1,6 +1,6 @@
 use Rattle.std.proofs.Common.{arith, ◌≡◌, ◌+◌, suc, Some, ap, sym, ◌∙◌}
-use Rattle.run_code.specs.AtOnce.{operand_number}
-use Rattle.run_code.proofs.AtOnce.{number_first, one_further}
+use Rattle.run_layout.specs.AtOnce.{operand_number}
+use Rattle.run_layout.proofs.AtOnce.{number_first, one_further}
 use Rattle.run_code.proofs.choices.operand_number.Goals as goal
 
 pub loop-operand-init : goal.loop-operand-init

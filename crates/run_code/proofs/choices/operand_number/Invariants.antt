@@ -1,7 +1,7 @@
 use Rattle.std.proofs.Common.{◌≡◌, ◌≤◌, ℕ, suc, length, List}
 use Rattle.c_typed.specs.declared.tree.Typed.{Typed}
-use Rattle.run_code.specs.Numbered.{AreBelow, AreNoted}
-use Rattle.run_code.specs.AtOnce.{operand_number}
+use Rattle.run_layout.specs.Numbered.{AreBelow, AreNoted}
+use Rattle.run_layout.specs.AtOnce.{operand_number}
 use Rattle.run_code.proofs.choices.operand_number.Given as goal
 
 abbrev pub invariant-loop-operand : goal.invariant-loop-operand

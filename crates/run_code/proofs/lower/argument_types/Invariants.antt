@@ -1,7 +1,7 @@
 use Rattle.std.proofs.Common.{◌≡◌, ◌++◌, map, drop}
 use Rattle.c_types.specs.Types.{qualified_of, type_of}
 use Rattle.c_typed.specs.declared.tree.Typed.{out-Typed}
-use Rattle.run_code.specs.EventActs.{later_types}
+use Rattle.run_layout.specs.EventActs.{later_types}
 use Rattle.run_code.proofs.lower.argument_types.Given as goal
 
 -- the types so far, and those of the arguments that are left

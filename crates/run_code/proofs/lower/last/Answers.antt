@@ -1,5 +1,5 @@
 use Rattle.std.proofs.Common.{rules, ◌≡◌, ◌-◌, length, ap, ◌∙◌}
-use Rattle.run_code.specs.Resolved.{value_at}
+use Rattle.run_layout.specs.Resolved.{value_at}
 use Rattle.run_code.proofs.Picked.{last_at}
 use Rattle.run_code.proofs.lower.last.Goals as goal
 

@@ -1,5 +1,5 @@
 use Rattle.std.proofs.Common.{◌≡◌, sym, ap, ◌∙◌}
-use Rattle.run_code.specs.EventActs.{amount}
+use Rattle.run_layout.specs.EventActs.{amount}
 use Rattle.run_code.proofs.Heads.{loads, changes}
 use Rattle.run_code.proofs.lower.value_act.Goals.{then-old, else-old}
 use Rattle.run_code.proofs.lower.value_act.Goals as goal

@@ -1,7 +1,7 @@
 use Rattle.std.proofs.Common.{rules, arith, ◌≡◌, ◌<◌, ◌+◌, ◌∷◌, length, drop, refl, sym, ap, subst, ◌∙◌}
 use Rattle.std.proofs.lemmas.List.{drop_more}
 use Rattle.std.proofs.lemmas.Option.{slice_get_within, get_or_from_slice_get}
-use Rattle.run_code.proofs.Collected.{Between, begun, more_collected, collected, drop_past, relabelled}
+use Rattle.run_layout.proofs.Collected.{Between, begun, more_collected, collected, drop_past, relabelled}
 use Rattle.run_code.proofs.FittingLemmas.{root_fits, child_fits, node_pushed, nodes_set}
 use Rattle.run_code.proofs.Owned.{own_begun, own_more, own_all}
 use Rattle.run_code.proofs.Roomed.{one_roomed, more_roomed, all_roomed}

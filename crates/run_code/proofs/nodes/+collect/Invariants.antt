@@ -1,8 +1,8 @@
 use Rattle.std.proofs.Common.{drop}
 use Rattle.c_typed.specs.declared.program.Program.{Program}
-use Rattle.run_code.specs.Fitting.{TreeFits, NodesFit}
-use Rattle.run_code.specs.Rooms.{AreRoomed}
-use Rattle.run_code.proofs.Collected.{Between}
+use Rattle.run_layout.specs.Fitting.{TreeFits, NodesFit}
+use Rattle.run_layout.specs.Rooms.{AreRoomed}
+use Rattle.run_layout.proofs.Collected.{Between}
 use Rattle.run_code.proofs.Owned.{OwnSoFar}
 use Rattle.run_code.proofs.nodes.+collect.Given as goal
 

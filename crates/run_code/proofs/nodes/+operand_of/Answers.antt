@@ -1,5 +1,5 @@
 use Rattle.std.proofs.Common.{sym, ap, ◌∙◌}
-use Rattle.run_code.specs.Resolved.{by_conversion, member_of}
+use Rattle.run_layout.specs.Resolved.{by_conversion, member_of}
 use Rattle.run_code.proofs.ResolvedLemmas.{resolved-conversion, resolved-lone_conversion, resolved-member, resolved-lone_member}
 use Rattle.run_code.proofs.nodes.+operand_of.Goals as goal
 

@@ -2,7 +2,7 @@ use Rattle.std.proofs.Common.{◌≡◌, ◌+◌, suc, ◌∷◌, length, drop, 
 use Rattle.std.proofs.lemmas.List.{drop_more}
 use Rattle.std.proofs.lemmas.Option.{slice_get_read}
 use Rattle.c_typed.specs.declared.tree.Typed.{out-Typed}
-use Rattle.run_code.specs.Resolved.{operands_from}
+use Rattle.run_layout.specs.Resolved.{operands_from}
 use Rattle.run_code.proofs.Walked.{one_walked}
 use Rattle.run_code.proofs.nodes.operands.Goals as goal
 

@@ -1,7 +1,7 @@
 use Rattle.std.proofs.Common.{ℕ, suc, List, drop}
 use Rattle.c_typed.specs.declared.tree.Typed.{out-Typed}
-use Rattle.run_code.specs.Resolved.{operands_from}
-use Rattle.run_code.specs.Numbered.{AreNoted, AreBelow}
+use Rattle.run_layout.specs.Resolved.{operands_from}
+use Rattle.run_layout.specs.Numbered.{AreNoted, AreBelow}
 use Rattle.run_code.proofs.Walked.{Walks}
 use Rattle.run_code.proofs.nodes.operands.Given as goal
 

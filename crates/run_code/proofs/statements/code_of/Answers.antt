@@ -9,21 +9,22 @@ use Rattle.c_typed.specs.declared.statement.Body.TheVariants as body
 use Rattle.c_typed.specs.Tree.{tree_of}
 use Rattle.run_statements.specs.Bodies.{Grows, IsStatement}
 use Rattle.run_code.specs.declared.draft.Draft.{Draft}
-use Rattle.run_code.specs.declared.steps.FunctionCode.{FunctionCode}
-use Rattle.run_code.specs.declared.tables.Tables.{Tables}
-use Rattle.run_code.specs.OfTrees.{OfTerms, AreOfTerms}
-use Rattle.run_code.specs.Roots.{roots_in, code_trees, block_in, trees_in, AreCodeOf}
-use Rattle.run_code.specs.Fitting.{TreeFits, AreFit}
-use Rattle.run_code.specs.Blocks.{rows_of_block}
-use Rattle.run_code.specs.EventActs.{AreGrown}
-use Rattle.run_code.specs.Functions.{HasBlocks, HaveBlocks, HasExpressions, HaveExpressions, IsMore, laid_in}
+use Rattle.run_layout.specs.declared.steps.FunctionCode.{FunctionCode}
+use Rattle.run_layout.specs.declared.tables.Tables.{Tables}
+use Rattle.run_layout.specs.OfTrees.{OfTerms, AreOfTerms}
+use Rattle.run_layout.specs.Roots.{roots_in, code_trees, block_in, trees_in}
+use Rattle.run_code.specs.Statements.{AreCodeOf}
+use Rattle.run_layout.specs.Fitting.{TreeFits, AreFit}
+use Rattle.run_layout.specs.Blocks.{rows_of_block}
+use Rattle.run_layout.specs.EventActs.{AreGrown}
+use Rattle.run_layout.specs.Functions.{HasBlocks, HaveBlocks, HasExpressions, HaveExpressions, IsMore, laid_in}
 use Rattle.run_code.proofs.Blocked.{has_later}
-use Rattle.run_code.proofs.InTurn.{each_absent, each_given, each_later, each_none, each_pushed, expressions_later, no_more}
-use Rattle.run_code.proofs.Grown.{nothing_grown}
+use Rattle.run_layout.proofs.InTurn.{each_absent, each_given, each_later, each_none, each_pushed, expressions_later, no_more}
+use Rattle.run_layout.proofs.Grown.{nothing_grown}
 use Rattle.run_code.proofs.FittingLemmas.{part_fits}
 use Rattle.run_code.proofs.Coded.{all_coded, have_code}
 use Rattle.run_code.proofs.Rooted.{block_of, no_block, laid_block, laid_none, no_trees, all_same}
-use Rattle.run_code.proofs.Termed.{none_termed, lists_trees}
+use Rattle.run_layout.proofs.Termed.{none_termed, lists_trees}
 use Rattle.run_code.proofs.statements.code_of.Goals as goal
 use Rattle.run_code.proofs.statements.code_of.Goals.{in-Some+in-Block+in_ok-function-in-Block, in-Some+in_default, in-None}
 

@@ -1,10 +1,11 @@
 use Rattle.std.proofs.Common.{◌≡◌, ◌++◌, length, map, flat_map, take, drop}
 use Rattle.std.specs.List.{All}
 use Rattle.c_typed.specs.declared.program.Program.{Program}
-use Rattle.run_code.specs.Functions.{HaveBlocks, HaveExpressions}
-use Rattle.run_code.specs.Fitting.{TreeFits, AreFit}
-use Rattle.run_code.specs.OfTrees.{AreOfTerms}
-use Rattle.run_code.specs.Roots.{roots_in, code_trees, AreCodeOf}
+use Rattle.run_layout.specs.Functions.{HaveBlocks, HaveExpressions}
+use Rattle.run_layout.specs.Fitting.{TreeFits, AreFit}
+use Rattle.run_layout.specs.OfTrees.{AreOfTerms}
+use Rattle.run_layout.specs.Roots.{roots_in, code_trees}
+use Rattle.run_code.specs.Statements.{AreCodeOf}
 use Rattle.run_code.proofs.statements.code_of.Given as goal
 
 -- what is laid out so far, and the trees of the functions that are left; its numbers; the code of the functions so far; and the

@@ -1,14 +1,14 @@
 use Rattle.std.proofs.Common.{refl, ap, sym}
 use Rattle.std.proofs.lemmas.Result.{err_from_is_err_and}
-use Rattle.run_code.specs.declared.steps.Act.TheVariants as act
+use Rattle.run_layout.specs.declared.steps.Act.TheVariants as act
 use Rattle.run_acts.specs.Views.{value_in}
 use Rattle.c_model.specs.Nodes.{call_value}
 use Rattle.prov_memory.proofs.KeepLemmas.{keeps_none}
-use Rattle.run_code.specs.declared.steps.Operand.TheVariants as operand
-use Rattle.run_events.specs.Acts.{given_by}
-use Rattle.run_events.specs.Performs.{store_in}
+use Rattle.run_layout.specs.declared.steps.Operand.TheVariants as operand
+use Rattle.run_answers.specs.Acts.{given_by}
+use Rattle.run_answers.specs.Performs.{store_in}
 use Rattle.run_events.proofs.Valued.{left_of_room, taken_changes, twice_rest, twice_room, twice_others, with_none}
-use Rattle.run_events.proofs.Doing.{by_script, given_value, rows_rest}
+use Rattle.run_answers.proofs.Doing.{by_script, given_value, rows_rest}
 use Rattle.run_events.proofs.Rooms.{room_changes, room_done}
 use Rattle.run_events.proofs.acts.answered.Goals as goal
 

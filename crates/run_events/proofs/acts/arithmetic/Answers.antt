@@ -2,17 +2,17 @@ use Rattle.std.proofs.Common.{◌≡◌, refl, ap, ap₂, sym, ◌∙◌, ℤ, t
 use Rattle.std.proofs.lemmas.Result.{err_from_is_err_and}
 use Rattle.c_model.specs.Nodes as nodes
 use Rattle.c_model.specs.Values as model
-use Rattle.run_code.specs.declared.steps.Act.TheVariants as act
+use Rattle.run_layout.specs.declared.steps.Act.TheVariants as act
 use Rattle.prov_memory.specs.declared.value.Value.TheVariants as kept
 use Rattle.std.specs.Int.{w128}
 use Rattle.std.proofs.lemmas.Int.{to_z-of_z}
 use Rattle.c_model.specs.Values.{integer_of}
 use Rattle.mem_spec.specs.Script.{Done}
 use Rattle.prov_memory.proofs.KeepLemmas.{keeps_none}
-use Rattle.run_events.specs.Acts.{given_by}
-use Rattle.run_events.specs.Performs.{store_in}
+use Rattle.run_answers.specs.Acts.{given_by}
+use Rattle.run_answers.specs.Performs.{store_in}
 use Rattle.run_events.proofs.Valued.{int_of, unworked, worked}
-use Rattle.run_events.proofs.Doing.{given_as, rows_same}
+use Rattle.run_answers.proofs.Doing.{given_as, rows_same}
 use Rattle.run_events.proofs.Rooms.{room_changes, room_done, touches_all}
 use Rattle.run_events.proofs.acts.arithmetic.Goals as goal
 

@@ -1,7 +1,7 @@
 use Rattle.std.proofs.Common.{◌∙◌, Some, ap, subst, sym}
 use Rattle.std.proofs.lemmas.Option.{slice_get-get_or}
-use Rattle.run_code.specs.declared.steps.CallCode.{CallCode}
-use Rattle.run_events.specs.Calling.{Calls}
+use Rattle.run_layout.specs.declared.steps.CallCode.{CallCode}
+use Rattle.run_answers.specs.Calling.{Calls}
 use Rattle.run_events.proofs.Called.{same_call}
 use Rattle.run_events.proofs.acts.call_of.Goals as goal
 

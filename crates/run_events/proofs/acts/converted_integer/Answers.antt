@@ -8,10 +8,10 @@ use Rattle.c_model.specs.Values.{integer_of}
 use Rattle.mem_spec.specs.Script.{Give}
 use Rattle.prov_memory.specs.declared.value.Value.TheVariants as kept
 use Rattle.prov_memory.proofs.KeepLemmas.{keeps_none}
-use Rattle.run_code.specs.declared.steps.Act.TheVariants as act
-use Rattle.run_events.specs.Acts.{given_by}
+use Rattle.run_layout.specs.declared.steps.Act.TheVariants as act
+use Rattle.run_answers.specs.Acts.{given_by}
 use Rattle.run_events.proofs.Valued.{at_once, int_of}
-use Rattle.run_events.proofs.Doing.{given_as}
+use Rattle.run_answers.proofs.Doing.{given_as}
 use Rattle.run_events.proofs.Rooms.{room_changes, room_done}
 use Rattle.run_events.proofs.acts.converted_integer.Goals as goal
 

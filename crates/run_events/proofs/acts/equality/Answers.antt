@@ -1,13 +1,13 @@
 use Rattle.std.proofs.Common.{refl, ap₂, ◌∙◌}
 use Rattle.std.proofs.lemmas.Result.{err_from_is_err_and}
 use Rattle.c_model.specs.Nodes as nodes
-use Rattle.run_code.specs.declared.steps.Act.TheVariants as act
+use Rattle.run_layout.specs.declared.steps.Act.TheVariants as act
 use Rattle.run_acts.specs.Views.{value_in}
 use Rattle.mem_spec.specs.Script.{Give}
 use Rattle.prov_memory.proofs.KeepLemmas.{keeps_none}
-use Rattle.run_events.specs.Acts.{given_by}
+use Rattle.run_answers.specs.Acts.{given_by}
 use Rattle.run_events.proofs.Valued.{at_once, equal_int, int_of}
-use Rattle.run_events.proofs.Doing.{given_copy, rows_same}
+use Rattle.run_answers.proofs.Doing.{given_copy, rows_same}
 use Rattle.run_events.proofs.Rooms.{room_changes, room_done, touches_all}
 use Rattle.run_events.proofs.acts.equality.Goals as goal
 

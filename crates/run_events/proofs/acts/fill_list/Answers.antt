@@ -1,7 +1,7 @@
 use Rattle.std.proofs.Common.{refl}
 use Rattle.std.proofs.lemmas.Result.{err_from_is_err_and}
-use Rattle.run_events.specs.Faults.{fault_of}
-use Rattle.run_events.proofs.Doing.{rows_same}
+use Rattle.run_answers.specs.Faults.{fault_of}
+use Rattle.run_answers.proofs.Doing.{rows_same}
 use Rattle.run_events.proofs.Stored.{fill_done, fill_failed, fill_rows}
 use Rattle.run_events.proofs.acts.fill_list.Goals as goal
 

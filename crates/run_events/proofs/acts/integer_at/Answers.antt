@@ -10,9 +10,9 @@ use Rattle.c_model.specs.Values as model
 use Rattle.run_acts.specs.Loads.{integer_act}
 use Rattle.run_acts.specs.Views.{pointer_at}
 use Rattle.run_acts.proofs.Acts.{done_give, raised_give}
-use Rattle.run_events.specs.Acts.{script_in}
-use Rattle.run_events.specs.Performs.{store_in}
-use Rattle.run_events.proofs.Doing.{by_script, rows_kept}
+use Rattle.run_answers.specs.Acts.{script_in}
+use Rattle.run_answers.specs.Performs.{store_in}
+use Rattle.run_answers.proofs.Doing.{by_script, rows_kept}
 use Rattle.run_events.proofs.Rooms.{room_changes, room_done, touches_all}
 use Rattle.run_events.proofs.Valued.{int_of}
 use Rattle.run_events.proofs.acts.integer_at.Goals as goal

@@ -6,10 +6,10 @@ use Rattle.c_model.specs.Values.{integer_of}
 use Rattle.mem_spec.specs.Script.{Give}
 use Rattle.prov_memory.proofs.KeepLemmas.{keeps_none}
 use Rattle.run_acts.specs.Views.{value_in}
-use Rattle.run_code.specs.declared.steps.Act.TheVariants as act
-use Rattle.run_events.specs.Acts.{given_by}
+use Rattle.run_layout.specs.declared.steps.Act.TheVariants as act
+use Rattle.run_answers.specs.Acts.{given_by}
 use Rattle.run_events.proofs.Valued.{at_once}
-use Rattle.run_events.proofs.Doing.{given_as}
+use Rattle.run_answers.proofs.Doing.{given_as}
 use Rattle.run_events.proofs.Rooms.{room_changes, room_done}
 use Rattle.run_events.proofs.acts.integer_relation.Goals as goal
 

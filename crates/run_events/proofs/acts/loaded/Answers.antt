@@ -1,7 +1,7 @@
 use Rattle.std.proofs.Common.{sym, subst}
 use Rattle.c_typed.specs.declared.tree.Access.{Access}
-use Rattle.run_code.specs.declared.steps.Act.TheVariants as act
-use Rattle.run_events.specs.Performs.{ChangesOnly, Does}
+use Rattle.run_layout.specs.declared.steps.Act.TheVariants as act
+use Rattle.run_answers.specs.Performs.{ChangesOnly, Does}
 use Rattle.run_events.proofs.acts.loaded.Goals as goal
 
 pub returns-in-Integer-clause-exact : goal.returns-in-Integer-clause-exact

@@ -3,9 +3,9 @@ use Rattle.c_typed.specs.declared.tree.Access.TheVariants as access
 use Rattle.c_model.specs.Values.{pointer_of}
 use Rattle.run_acts.specs.Loads.{integer_act}
 use Rattle.run_acts.specs.Views.{pointer_at}
-use Rattle.run_code.specs.declared.steps.Act.TheVariants as act
-use Rattle.run_code.specs.declared.steps.Operand.{Operand}
-use Rattle.run_events.proofs.Doing.{Of, cell_of, place_same, pointer_made}
+use Rattle.run_layout.specs.declared.steps.Act.TheVariants as act
+use Rattle.run_layout.specs.declared.steps.Operand.{Operand}
+use Rattle.run_answers.proofs.Doing.{Of, cell_of, place_same, pointer_made}
 use Rattle.run_events.proofs.acts.loaded_integer.Goals as goal
 
 pub returns-in-Local-clause-exact : goal.returns-in-Local-clause-exact

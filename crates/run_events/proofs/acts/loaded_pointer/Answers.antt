@@ -9,8 +9,8 @@ use Rattle.run_acts.specs.Loads.{pointer_act}
 use Rattle.run_acts.specs.Views.{pointer_at}
 use Rattle.run_acts.proofs.Acts.{as_pointer, pointer_given, raise_given}
 use Rattle.run_acts.proofs.Keeping.{pointer_loaded}
-use Rattle.run_code.specs.declared.steps.Act.TheVariants as act
-use Rattle.run_events.proofs.Doing.{by_script, cell_of, mem_fails, place_same, pointer_made, rows_kept}
+use Rattle.run_layout.specs.declared.steps.Act.TheVariants as act
+use Rattle.run_answers.proofs.Doing.{by_script, cell_of, mem_fails, place_same, pointer_made, rows_kept}
 use Rattle.run_events.proofs.Rooms.{room_changes, room_done, touches_all}
 use Rattle.run_events.proofs.acts.loaded_pointer.Goals as goal
 

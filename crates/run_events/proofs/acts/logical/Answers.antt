@@ -1,11 +1,11 @@
 use Rattle.std.proofs.Common.{refl, ap, ◌∙◌}
-use Rattle.run_code.specs.declared.steps.Act.TheVariants as act
+use Rattle.run_layout.specs.declared.steps.Act.TheVariants as act
 use Rattle.run_acts.specs.Views.{value_in}
 use Rattle.c_model.specs.Nodes.{bool_value}
 use Rattle.c_model.specs.Values.{truth}
 use Rattle.mem_spec.specs.Script.{Give}
 use Rattle.prov_memory.proofs.KeepLemmas.{keeps_none}
-use Rattle.run_events.specs.Acts.{either_truth, given_by}
+use Rattle.run_answers.specs.Acts.{either_truth, given_by}
 use Rattle.run_events.proofs.Valued.{at_once}
 use Rattle.run_events.proofs.Rooms.{room_changes, room_done}
 use Rattle.run_events.proofs.acts.logical.Goals as goal

@@ -2,7 +2,7 @@ use Rattle.std.proofs.Common.{◌≡◌, refl, ap, ap₂, sym, ◌∙◌, subst,
 use Rattle.std.proofs.lemmas.Result.{err_from_is_err_and}
 use Rattle.c_model.specs.Nodes as nodes
 use Rattle.c_model.specs.Values as model
-use Rattle.run_code.specs.declared.steps.Act.TheVariants as act
+use Rattle.run_layout.specs.declared.steps.Act.TheVariants as act
 use Rattle.run_acts.specs.Views.{pointer_at}
 use Rattle.mem_spec.specs.Script.{Done}
 use Rattle.prov_memory.specs.Memory.{store_of}
@@ -11,8 +11,8 @@ use Rattle.std.specs.Int.{w128}
 use Rattle.std.proofs.lemmas.Int.{to_z-of_z}
 use Rattle.c_model.specs.Values.{integer_of, pointer_of}
 use Rattle.run_acts.specs.Updates.{IsNear}
-use Rattle.run_events.specs.Acts.{given_by}
-use Rattle.run_events.proofs.Doing.{by_script, given_as, pointer_is, pointer_made, rows_kept}
+use Rattle.run_answers.specs.Acts.{given_by}
+use Rattle.run_answers.proofs.Doing.{by_script, given_as, pointer_is, pointer_made, rows_kept}
 use Rattle.run_events.proofs.Rooms.{room_changes, room_done, touches_all}
 use Rattle.run_events.proofs.acts.move_by.Goals as goal
 

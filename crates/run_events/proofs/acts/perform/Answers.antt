@@ -1,9 +1,9 @@
 use Rattle.std.proofs.Common.{◌≡◌, ℕ, true, false, ap, sym, subst, ◌∙◌}
-use Rattle.run_code.specs.declared.steps.Act.{Act}
-use Rattle.run_events.specs.Acts.{is_body_act}
-use Rattle.run_events.specs.Calling.{CallsNumbered}
-use Rattle.run_events.specs.Opens.{Opens}
-use Rattle.run_events.specs.Performs.{gives_value}
+use Rattle.run_layout.specs.declared.steps.Act.{Act}
+use Rattle.run_answers.specs.Acts.{is_body_act}
+use Rattle.run_answers.specs.Calling.{CallsNumbered}
+use Rattle.run_answers.specs.Opens.{Opens}
+use Rattle.run_answers.specs.Performs.{gives_value}
 use Rattle.run_events.proofs.Opening.{opens_none}
 use Rattle.run_events.proofs.Performing.{fill_given, fill_performs, no_effect, store_given, store_performs, value_performs}
 use Rattle.run_events.proofs.Rooms.{touches_all}

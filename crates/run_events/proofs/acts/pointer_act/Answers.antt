@@ -1,13 +1,13 @@
 use Rattle.std.proofs.Common.{refl, sym, subst}
-use Rattle.run_code.specs.declared.steps.Act.TheVariants as act
+use Rattle.run_layout.specs.declared.steps.Act.TheVariants as act
 use Rattle.prov_memory.specs.declared.value.Value.TheVariants as kept
 use Rattle.std.specs.Prelude.{Ok}
 use Rattle.c_model.specs.Values.{Nothing}
 use Rattle.mem_spec.specs.Script.{Give}
 use Rattle.prov_memory.proofs.KeepLemmas.{keeps_none}
-use Rattle.run_code.specs.declared.steps.Act.{Act}
-use Rattle.run_events.specs.declared.acts.Outcome.TheVariants as outcome
-use Rattle.run_events.specs.Performs.{Does}
+use Rattle.run_layout.specs.declared.steps.Act.{Act}
+use Rattle.run_answers.specs.declared.outcome.Outcome.TheVariants as outcome
+use Rattle.run_answers.specs.Performs.{Does}
 use Rattle.run_events.proofs.Valued.{at_once, only_nothing}
 use Rattle.run_events.proofs.Rooms.{room_changes, room_done}
 use Rattle.run_events.proofs.acts.pointer_act.Goals as goal

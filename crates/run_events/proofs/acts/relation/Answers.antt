@@ -1,6 +1,6 @@
 use Rattle.std.proofs.Common.{Bool, sym, subst}
-use Rattle.run_code.specs.declared.steps.Act.TheVariants as act
-use Rattle.run_events.specs.Performs.{ChangesOnly, Does}
+use Rattle.run_layout.specs.declared.steps.Act.TheVariants as act
+use Rattle.run_answers.specs.Performs.{ChangesOnly, Does}
 use Rattle.run_events.proofs.acts.relation.Goals as goal
 
 pub returns-then-pointers-clause-exact : goal.returns-then-pointers-clause-exact

@@ -1,13 +1,13 @@
 use Rattle.std.proofs.Common.{refl}
 use Rattle.std.proofs.lemmas.Result.{err_from_is_err_and}
-use Rattle.run_code.specs.declared.steps.Act.TheVariants as act
+use Rattle.run_layout.specs.declared.steps.Act.TheVariants as act
 use Rattle.c_model.specs.Values.{Value}
 use Rattle.mem_spec.specs.Script.{Give}
 use Rattle.run_acts.specs.Views.{value_in}
 use Rattle.prov_memory.proofs.KeepLemmas.{keeps_none}
-use Rattle.run_events.specs.Acts.{given_by}
+use Rattle.run_answers.specs.Acts.{given_by}
 use Rattle.run_events.proofs.Valued.{at_once}
-use Rattle.run_events.proofs.Doing.{copy_of, given_copy, rows_same}
+use Rattle.run_answers.proofs.Doing.{copy_of, given_copy, rows_same}
 use Rattle.run_events.proofs.Rooms.{room_changes, room_done, touches_all}
 use Rattle.run_events.proofs.acts.same.Goals as goal
 

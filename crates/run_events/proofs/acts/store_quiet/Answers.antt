@@ -1,7 +1,7 @@
 use Rattle.std.proofs.Common.{refl}
 use Rattle.std.proofs.lemmas.Result.{err_from_is_err_and}
-use Rattle.run_events.specs.declared.fault.Fault.TheVariants as fault
-use Rattle.run_events.proofs.Doing.{rows_same}
+use Rattle.run_answers.specs.declared.fault.Fault.TheVariants as fault
+use Rattle.run_answers.proofs.Doing.{rows_same}
 use Rattle.run_events.proofs.Stored.{store_done, store_raised, store_rows}
 use Rattle.run_events.proofs.acts.store_quiet.Goals as goal
 

@@ -1,8 +1,8 @@
 use Rattle.std.proofs.Common.{◌+◌, refl}
 use Rattle.std.proofs.lemmas.Result.{err_from_is_err_and}
-use Rattle.run_code.specs.declared.steps.Operand.TheVariants as operand
-use Rattle.run_events.specs.declared.fault.Fault.TheVariants as fault
-use Rattle.run_events.proofs.Doing.{rows_same}
+use Rattle.run_layout.specs.declared.steps.Operand.TheVariants as operand
+use Rattle.run_answers.specs.declared.fault.Fault.TheVariants as fault
+use Rattle.run_answers.proofs.Doing.{rows_same}
 use Rattle.run_events.proofs.Stored.{room_copy, store_done, store_raised, store_rows}
 use Rattle.run_events.proofs.acts.store_room.Goals as goal
 

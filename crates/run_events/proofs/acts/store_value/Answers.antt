@@ -1,10 +1,10 @@
 use Rattle.std.proofs.Common.{sym, subst}
 use Rattle.run_acts.specs.Views.{pointer_at}
 use Rattle.std.specs.Prelude.{slice_get}
-use Rattle.run_code.specs.declared.steps.Operand.{Operand}
-use Rattle.run_events.specs.Acts.{given_by, stored_by, IsGiven}
-use Rattle.run_events.specs.Performs.{Effects}
-use Rattle.run_events.proofs.Doing.{pointer_made}
+use Rattle.run_layout.specs.declared.steps.Operand.{Operand}
+use Rattle.run_answers.specs.Acts.{given_by, stored_by, IsGiven}
+use Rattle.run_answers.specs.Performs.{Effects}
+use Rattle.run_answers.proofs.Doing.{pointer_made}
 use Rattle.run_events.proofs.Stored.{stored_at}
 use Rattle.run_events.proofs.acts.store_value.Goals as goal
 

@@ -1,13 +1,13 @@
 use Rattle.std.proofs.Common.{refl}
 use Rattle.std.proofs.lemmas.Result.{err_from_is_err_and}
 use Rattle.c_model.specs.Nodes as nodes
-use Rattle.run_code.specs.declared.steps.Act.TheVariants as act
+use Rattle.run_layout.specs.declared.steps.Act.TheVariants as act
 use Rattle.run_acts.specs.Views.{value_in}
 use Rattle.prov_memory.proofs.KeepLemmas.{keeps_none}
-use Rattle.run_events.specs.Acts.{given_by}
-use Rattle.run_events.specs.Performs.{store_in}
+use Rattle.run_answers.specs.Acts.{given_by}
+use Rattle.run_answers.specs.Performs.{store_in}
 use Rattle.run_events.proofs.Valued.{int_of, unary_int, with_none}
-use Rattle.run_events.proofs.Doing.{by_script, copy_same, rows_same}
+use Rattle.run_answers.proofs.Doing.{by_script, copy_same, rows_same}
 use Rattle.run_events.proofs.Rooms.{room_changes, room_done, touches_all}
 use Rattle.run_events.proofs.acts.unary_value.Goals as goal
 

@@ -1,15 +1,15 @@
 use Rattle.std.proofs.Common.{refl, sym, subst, ◌∙◌, Bool, false, to_z, of_z, rules}
 use Rattle.std.proofs.lemmas.Result.{err_from_is_err_and}
-use Rattle.run_code.specs.declared.steps.Act.TheVariants as act
+use Rattle.run_layout.specs.declared.steps.Act.TheVariants as act
 use Rattle.std.specs.Int.{w128}
 use Rattle.std.proofs.lemmas.Int.{to_z-of_z}
 use Rattle.std.specs.Prelude.{Ok}
 use Rattle.prov_memory.specs.declared.value.Value.TheVariants as kept
-use Rattle.run_events.specs.declared.acts.Outcome.TheVariants as outcome
-use Rattle.run_events.specs.Performs.{ChangesOnly, Does}
+use Rattle.run_answers.specs.declared.outcome.Outcome.TheVariants as outcome
+use Rattle.run_answers.specs.Performs.{ChangesOnly, Does}
 use Rattle.run_events.proofs.Valued.{both_change, both_done, update_did, update_fails}
 use Rattle.run_events.proofs.Rooms.{room_changes, room_done, touches_all}
-use Rattle.run_events.proofs.Doing.{rows_kept}
+use Rattle.run_answers.proofs.Doing.{rows_kept}
 use Rattle.run_events.proofs.acts.update.Goals as goal
 
 pub returns-in_err-both-clause-exact : goal.returns-in_err-both-clause-exact

@@ -1,6 +1,6 @@
 use Rattle.std.proofs.Common.{◌∙◌, refl, sym, subst, List, ℕ}
 use Rattle.std.proofs.lemmas.List.{take_all, take_more}
-use Rattle.run_events.specs.Choices.{HasChosen}
+use Rattle.run_answers.specs.Choices.{HasChosen}
 use Rattle.run_events.proofs.Chosen.{none_chosen, one_more}
 use Rattle.run_events.proofs.choices.choose_at_once.Goals as goal
 

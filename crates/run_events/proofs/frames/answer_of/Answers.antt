@@ -2,7 +2,7 @@ use Rattle.std.proofs.Common.{List, refl, subst, sym}
 use Rattle.c_types.specs.declared.library.LibFunc.{LibFunc}
 use Rattle.c_types.specs.declared.library.LibFunc.TheVariants.{Printf, Fprintf, Sprintf, Snprintf}
 use Rattle.c_types.specs.declared.ty.Qual.{Qual}
-use Rattle.run_events.specs.LibraryCalls.{CanCall, IsAnswered, types_seen}
+use Rattle.run_answers.specs.LibraryCalls.{CanCall, IsAnswered, types_seen}
 use Rattle.run_events.proofs.Library.{answers_fprintf, answers_plain, answers_printf, answers_snprintf, answers_sprintf}
 use Rattle.run_events.proofs.frames.answer_of.Goals as goal
 

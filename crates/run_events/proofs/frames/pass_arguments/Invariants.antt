@@ -1,6 +1,6 @@
 -- Only the values change; so many first operands have passed theirs.
 use Rattle.std.proofs.Common.{◌≡◌}
-use Rattle.run_events.specs.Opens.{PassesFirst}
+use Rattle.run_answers.specs.Opens.{PassesFirst}
 use Rattle.run_events.proofs.frames.pass_arguments.Given as goal
 
 abbrev pub invariant-loop-operand : goal.invariant-loop-operand

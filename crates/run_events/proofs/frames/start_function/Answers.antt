@@ -1,6 +1,6 @@
 use Rattle.std.proofs.Common.{◌≡◌, ◌+◌, ◌-◌, ◌^◌, ℕ, List, ap, arith, min, subst}
-use Rattle.run_code.specs.declared.steps.Operand.{Operand}
-use Rattle.run_events.specs.Opens.{Passes}
+use Rattle.run_layout.specs.declared.steps.Operand.{Operand}
+use Rattle.run_answers.specs.Opens.{Passes}
 use Rattle.run_events.proofs.frames.start_function.Goals as goal
 
 pub returns-clause-opens : goal.returns-clause-opens

@@ -1,6 +1,6 @@
 use Rattle.std.proofs.Common.{◌≡◌, length, Some, refl, ◌∙◌, ap, slice_get}
 use Rattle.std.proofs.lemmas.Option.{slice_get_read}
-use Rattle.run_code.specs.declared.steps.Listed.TheVariants as listed
+use Rattle.run_layout.specs.declared.steps.Listed.TheVariants as listed
 use Rattle.seq_order.specs.Marked.{taken_in}
 use Rattle.run_listing.proofs.Walked.{event_at, operand_at}
 use Rattle.run_listing.proofs.along.next.Goals as goal

@@ -1,6 +1,6 @@
 use Rattle.std.proofs.Common.{◌∙◌, ap}
 use Rattle.run_state.specs.declared.machine.Machine.{Machine}
-use Rattle.run_machine.proofs.Beginning.{begin_answers}
+use Rattle.run_answers.proofs.Beginning.{begin_answers}
 use Rattle.run_machine.proofs.Commencing.{begins_so}
 use Rattle.run_machine.proofs.control.begin.Goals as goal
 

@@ -1,6 +1,6 @@
 use Rattle.run_machine.proofs.Keeping.{keeps_worked}
 use Rattle.run_machine.proofs.RowsStand.{control_rows, taken_same}
-use Rattle.run_machine.proofs.Staying.{control_answers}
+use Rattle.run_answers.proofs.Staying.{control_answers}
 use Rattle.run_machine.proofs.Steering.{takes_step}
 use Rattle.run_machine.proofs.control.control_step.Goals as goal
 

@@ -1,7 +1,7 @@
 -- The work stays, the number is that of the loop's place, and the objects before it are new.
 use Rattle.std.proofs.Common.{◌≡◌, ◌-◌, ◌^◌, length, min}
-use Rattle.run_machine.specs.Entering.{AreNew, CanBear}
-use Rattle.run_machine.specs.Keeping.{FillsObjects}
+use Rattle.run_answers.specs.Entering.{AreNew, CanBear}
+use Rattle.run_answers.specs.Keeping.{FillsObjects}
 use Rattle.run_machine.proofs.control.create_objects.Given as goal
 
 abbrev pub invariant-loop-object : goal.invariant-loop-object

@@ -1,4 +1,4 @@
-use Rattle.run_machine.proofs.Staying.{go_answers}
+use Rattle.run_answers.proofs.Staying.{go_answers}
 use Rattle.run_machine.proofs.control.go.Goals as goal
 
 pub returns-clause-answers : goal.returns-clause-answers

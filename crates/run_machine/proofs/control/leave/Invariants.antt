@@ -1,6 +1,6 @@
 -- The work stays, and the objects before the loop's place have died.
 use Rattle.std.proofs.Common.{◌≡◌}
-use Rattle.run_machine.specs.Leaving.{HaveDied}
+use Rattle.run_answers.specs.Leaving.{HaveDied}
 use Rattle.run_machine.proofs.control.leave.Given as goal
 
 abbrev pub invariant-loop-object : goal.invariant-loop-object

@@ -1,7 +1,7 @@
 -- The work stays, the number is that of the loop's place, and the objects before it have taken their arguments.
 use Rattle.std.proofs.Common.{◌≡◌, ◌-◌, ◌^◌, length, min}
-use Rattle.run_machine.specs.Passing.{CanPassAll, HavePassed}
-use Rattle.run_machine.specs.Keeping.{FillsObjects}
+use Rattle.run_answers.specs.Passing.{CanPassAll, HavePassed}
+use Rattle.run_answers.specs.Keeping.{FillsObjects}
 use Rattle.run_machine.proofs.control.store_arguments.Given as goal
 
 abbrev pub invariant-loop-object : goal.invariant-loop-object

@@ -4,7 +4,7 @@ use Rattle.run_machine.proofs.Entering.{enter_answers}
 use Rattle.run_machine.proofs.Keeping.{keeps_going, keeps_left, keeps_nothing, keeps_stays, keeps_writing}
 use Rattle.run_machine.proofs.Left.{block_answers}
 use Rattle.run_machine.proofs.RowsStand.{entered_rows, left_rows, taken_same}
-use Rattle.run_machine.proofs.Staying.{by_step, nothing_answers}
+use Rattle.run_answers.proofs.Staying.{by_step, nothing_answers}
 use Rattle.run_machine.proofs.Steering.{block_left, gone_back, gone_on, gone_out, label_gone}
 use Rattle.run_machine.proofs.control.take_step.Goals as goal
 

@@ -1,7 +1,7 @@
 use Rattle.std.proofs.Common.{◌∙◌, ap, refl, Ok, Err}
-use Rattle.run_machine.specs.declared.pick.Pick.TheVariants as pick
-use Rattle.run_machine.specs.Picks.{event_at}
-use Rattle.run_machine.proofs.Answered.{completed_done, completed_else, completed_ended, taken_done, taken_ended, taken_started, taken_stopped}
+use Rattle.run_answers.specs.declared.pick.Pick.TheVariants as pick
+use Rattle.run_answers.specs.Picks.{event_at}
+use Rattle.run_answers.proofs.Answered.{completed_done, completed_else, completed_ended, taken_done, taken_ended, taken_started, taken_stopped}
 use Rattle.run_machine.proofs.Bodies.{body_done, body_ended, body_started, body_stopped}
 use Rattle.run_machine.proofs.Callees.{call_done, call_ended, call_started, call_stopped}
 use Rattle.run_machine.proofs.LibraryCompletes.{completed_called}

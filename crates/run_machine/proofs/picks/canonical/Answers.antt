@@ -3,14 +3,14 @@ use Rattle.c_model.specs.Runs.{canonical_pick, chosen_pick}
 use Rattle.run_listing.specs.Along.{place_of}
 use Rattle.run_machine.proofs.Bodies.{next_bodies, none_body}
 use Rattle.run_machine.proofs.Callees.{next_calls, none_call}
-use Rattle.run_machine.specs.Picks.{top_of}
+use Rattle.run_answers.specs.Picks.{top_of}
 use Rattle.run_machine.proofs.Keeping.{event_kept, step_kept}
 use Rattle.run_machine.proofs.LibraryNext.{next_completed, next_library, none_completed, none_library}
 use Rattle.run_machine.proofs.Onward.{next_answers, next_completes, none_completes, none_next}
 use Rattle.run_machine.proofs.Raised.{next_raises, none_raises}
 use Rattle.run_machine.proofs.RowsNext.{next_grows, step_grows}
-use Rattle.run_machine.proofs.Staying.{event_untold, followed, step_told, steps_taken}
-use Rattle.run_machine.proofs.Taken.{event_taken}
+use Rattle.run_answers.proofs.Staying.{event_untold, followed, step_told, steps_taken}
+use Rattle.run_answers.proofs.Taken.{event_taken}
 use Rattle.run_machine.proofs.picks.canonical.Goals as goal
 
 pub returns-in-Some : goal.returns-in-Some

@@ -1,7 +1,7 @@
 use Rattle.std.proofs.Common.{ap, subst, ◌∙◌}
 use Rattle.seq_order.specs.Marked.{taken_in}
 use Rattle.run_listing.specs.Along.{part_of, Next}
-use Rattle.run_machine.proofs.Parts.{named_next}
+use Rattle.run_answers.proofs.Parts.{named_next}
 use Rattle.run_machine.proofs.picks.listed_next.Goals as goal
 
 pub returns-clause-next : goal.returns-clause-next

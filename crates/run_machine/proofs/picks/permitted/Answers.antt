@@ -1,13 +1,13 @@
 use Rattle.std.proofs.Common.{rules, ◌≡◌, refl, sym, ap, subst, ◌∙◌, inl, inr}
 use Rattle.std.specs.Borrow.{Bor}
 use Rattle.std.specs.Option.{IfSome}
-use Rattle.run_code.specs.Named.{IsDueOf}
-use Rattle.run_code.specs.declared.whole.Code.{Code}
+use Rattle.run_layout.specs.Named.{IsDueOf}
+use Rattle.run_layout.specs.declared.whole.Code.{Code}
 use Rattle.run_listing.specs.Along.{part_of, IsListed}
 use Rattle.run_state.specs.declared.machine.Machine.{Machine}
-use Rattle.run_machine.specs.Picks.{ComesNext, Decides, Permits, Strays}
-use Rattle.run_machine.specs.Straying.{Reaches}
-use Rattle.run_machine.proofs.Parts.{named_listed}
+use Rattle.run_answers.specs.Picks.{ComesNext, Decides, Permits, Strays}
+use Rattle.run_answers.specs.Straying.{Reaches}
+use Rattle.run_answers.proofs.Parts.{named_listed}
 use Rattle.run_machine.proofs.Picked.{strays_code}
 use Rattle.run_machine.proofs.picks.permitted.Goals as goal
 

@@ -4,7 +4,7 @@ use Rattle.c_typed.specs.Decide.{canonical}
 use Rattle.seq_order.specs.Marked.{taken_in}
 use Rattle.run_listing.specs.Along.{part_of, events_of}
 use Rattle.run_machine.proofs.Picked.{kept_as}
-use Rattle.run_machine.proofs.Parts.{named_found}
+use Rattle.run_answers.proofs.Parts.{named_found}
 use Rattle.run_machine.proofs.picks.strayed_next.Goals as goal
 
 pub returns-clause-next : goal.returns-clause-next

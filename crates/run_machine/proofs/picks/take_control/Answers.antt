@@ -1,6 +1,6 @@
 use Rattle.run_machine.proofs.Keeping.{status_kept}
 use Rattle.run_machine.proofs.RowsStand.{halt_rows, status_rows}
-use Rattle.run_machine.proofs.Staying.{halt_told, status_told}
+use Rattle.run_answers.proofs.Staying.{halt_told, status_told}
 use Rattle.run_machine.proofs.picks.take_control.Goals as goal
 
 pub returns-in-Ok-clause-answers : goal.returns-in-Ok-clause-answers

@@ -7,7 +7,7 @@ use Rattle.prov_memory.specs.Memory.{Kept}
 use Rattle.prov_memory.specs.Sound.{IsSound}
 use Rattle.prov_memory.specs.Tags.{AreTagged}
 use Rattle.prov_memory.proofs.SoundLemmas.{empty_sound}
-use Rattle.run_code.specs.declared.whole.Code.{Code}
+use Rattle.run_layout.specs.declared.whole.Code.{Code}
 use Rattle.run_state.specs.declared.machine.Machine.{Machine}
 use Rattle.run_state.specs.declared.machine.Open.{Open}
 use Rattle.run_state.proofs.Beginning.{assembled_parts, parts_after, begins}

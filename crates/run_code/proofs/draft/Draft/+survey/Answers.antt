@@ -1,6 +1,6 @@
 use Rattle.std.proofs.Common.{arith, ◌≡◌, refl, sym, ap, ap₂, ◌+◌, ◌++◌, ◌∙◌, drop}
 use Rattle.run_code.proofs.Blocked.{adds_none, adds_both, adds_head, adds_same, next_entry, no_entry, of_for, of_if, row_of, rows_in, whole_block}
-use Rattle.run_code.specs.Blocks.{entry_rows, rows_of, start_rows}
+use Rattle.run_layout.specs.Blocks.{entry_rows, rows_of, start_rows}
 use Rattle.run_code.proofs.Entries.{on_ok}
 use Rattle.run_code.proofs.draft.Draft.+survey.Goals as goal
 

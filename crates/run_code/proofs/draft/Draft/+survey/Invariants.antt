@@ -1,9 +1,9 @@
 use Rattle.std.proofs.Common.{◌≡◌, drop}
 use Rattle.c_typed.specs.declared.program.Program.{Program}
-use Rattle.run_code.specs.declared.draft.FunctionDraft.{FunctionDraft}
-use Rattle.run_code.specs.declared.tables.Tables.{Tables}
-use Rattle.run_code.specs.Blocks.{AddsBlocks}
-use Rattle.run_code.specs.Fitting.{AreFit}
+use Rattle.run_layout.specs.declared.draft.FunctionDraft.{FunctionDraft}
+use Rattle.run_layout.specs.declared.tables.Tables.{Tables}
+use Rattle.run_layout.specs.Blocks.{AddsBlocks}
+use Rattle.run_layout.specs.Fitting.{AreFit}
 use Rattle.run_code.proofs.Blocked.{rows_in}
 use Rattle.run_code.proofs.draft.Draft.+survey.Given as goal
 

@@ -2,13 +2,13 @@ use Rattle.std.proofs.Common.{rules, arith, sym, subst, ◌≡◌, ◌∙◌, ap
 use Rattle.std.proofs.Math.ListN.{set}
 use Rattle.std.proofs.lemmas.List.{length-append}
 use Rattle.core_ir.specs.Term.{term_of, terms_from}
-use Rattle.run_code.specs.declared.steps.Listed.{Listed}
-use Rattle.run_code.specs.declared.steps.Listed.TheVariants.{Operand}
-use Rattle.run_code.specs.Listings.{Entry, operand, entries_of, continuation, flat, all_flat}
+use Rattle.run_layout.specs.declared.steps.Listed.{Listed}
+use Rattle.run_layout.specs.declared.steps.Listed.TheVariants.{Operand}
+use Rattle.run_layout.specs.Listings.{Entry, operand, entries_of, continuation, flat, all_flat}
 use Rattle.run_code.proofs.Entries.{two_parts, part_more, choice_parts, pair_flat, choice_flat, parts_left, split, continued_by}
-use Rattle.run_code.specs.EventActs.{AreEntries}
+use Rattle.run_layout.specs.EventActs.{AreEntries}
 use Rattle.run_code.proofs.Entries.{on_ok}
-use Rattle.run_code.proofs.Grown.{entries_pushed, entries_set, grown_both}
+use Rattle.run_layout.proofs.Grown.{entries_pushed, entries_set, grown_both}
 use Rattle.run_code.proofs.draft.Draft.+term.Goals as goal
 
 pub continuation-returns-clause-listing : goal.continuation-returns-clause-listing

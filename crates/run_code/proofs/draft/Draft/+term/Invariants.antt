@@ -1,9 +1,9 @@
 use Rattle.std.proofs.Common.{◌≡◌, ◌++◌, length, map, drop}
 use Rattle.c_typed.specs.declared.program.Program.{Program}
 use Rattle.core_ir.specs.Term.{term_of, terms_from}
-use Rattle.run_code.specs.EventActs.{AreEntries, AreGrown}
-use Rattle.run_code.specs.Fitting.{NodesFit, AreFit}
-use Rattle.run_code.specs.Listings.{entries_of, flat, all_flat}
+use Rattle.run_layout.specs.EventActs.{AreEntries, AreGrown}
+use Rattle.run_layout.specs.Fitting.{NodesFit, AreFit}
+use Rattle.run_layout.specs.Listings.{entries_of, flat, all_flat}
 use Rattle.run_code.proofs.draft.Draft.+term.Given as goal
 
 -- the entries so far, and those of the parts that are left

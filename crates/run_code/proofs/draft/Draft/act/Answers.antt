@@ -1,7 +1,7 @@
 use Rattle.std.proofs.lemmas.Result.{IfOk-weaker}
 use Rattle.c_typed.specs.declared.tree.Typed.{out-Typed}
-use Rattle.run_code.specs.EventActs.{head_at, seen}
-use Rattle.run_code.proofs.Grown.{effect_acts, body_acts}
+use Rattle.run_layout.specs.EventActs.{head_at, seen}
+use Rattle.run_layout.proofs.Grown.{effect_acts, body_acts}
 use Rattle.run_code.proofs.draft.Draft.act.Goals as goal
 
 pub returns-in-Eff-clause-act : goal.returns-in-Eff-clause-act

@@ -1,5 +1,5 @@
 use Rattle.std.proofs.Common.{refl, subst, ◌∙◌}
-use Rattle.run_code.specs.EventActs.{GoesBy}
+use Rattle.run_layout.specs.EventActs.{GoesBy}
 use Rattle.run_code.proofs.draft.Draft.call.Goals as goal
 
 pub returns-clause-act : goal.returns-clause-act

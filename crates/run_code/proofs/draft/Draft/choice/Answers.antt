@@ -1,6 +1,6 @@
 use Rattle.std.proofs.Common.{arith, ◌≡◌, suc, length, slice_get, Some, refl, sym, ◌∙◌}
 use Rattle.std.proofs.lemmas.Option.{slice_get_read}
-use Rattle.run_code.proofs.Grown.{choice_of_grown}
+use Rattle.run_layout.proofs.Grown.{choice_of_grown}
 use Rattle.run_code.proofs.draft.Draft.choice.Goals as goal
 
 pub returns-clause-fit : goal.returns-clause-fit

@@ -1,6 +1,6 @@
 use Rattle.std.proofs.Common.{◌≡◌, ◌++◌, ap, subst, ◌∙◌}
 use Rattle.std.proofs.lemmas.Result.{IfOk-weaker}
-use Rattle.run_code.specs.AtOnce.{chosen_of, Lists}
+use Rattle.run_layout.specs.AtOnce.{chosen_of, Lists}
 use Rattle.run_code.proofs.FittingLemmas.{always}
 use Rattle.run_code.proofs.draft.Draft.chosen.Goals as goal
 

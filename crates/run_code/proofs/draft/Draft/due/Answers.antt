@@ -1,7 +1,7 @@
 use Rattle.std.proofs.Common.{refl, ap, ◌∙◌}
 use Rattle.c_typed.specs.declared.tree.Typed.{out-Typed}
-use Rattle.run_code.specs.EventActs.{head_at, seen, room_of}
-use Rattle.run_code.proofs.Grown.{act_grown, grown_both, noted_due, choice_there}
+use Rattle.run_layout.specs.EventActs.{head_at, seen, room_of}
+use Rattle.run_layout.proofs.Grown.{act_grown, grown_both, noted_due, choice_there}
 use Rattle.run_code.proofs.draft.Draft.due.Goals as goal
 
 pub returns-clause-grown : goal.returns-clause-grown

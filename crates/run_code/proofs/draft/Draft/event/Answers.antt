@@ -1,7 +1,7 @@
 use Rattle.std.proofs.Common.{◌≡◌, length, slice_get, Some, refl, ap}
 use Rattle.std.proofs.lemmas.Option.{slice_get_read}
 use Rattle.c_typed.specs.declared.tree.Place.{Place}
-use Rattle.run_code.proofs.Grown.{event_added}
+use Rattle.run_layout.proofs.Grown.{event_added}
 use Rattle.run_code.proofs.FittingLemmas.{node_fits}
 use Rattle.run_code.proofs.draft.Draft.event.Goals as goal
 

@@ -2,23 +2,23 @@ use Rattle.std.proofs.Common.{arith, ◌≡◌, ◌+◌, ℕ, suc, List, [], Non
 use Rattle.c_typed.specs.Tree.{tree_of, size}
 use Rattle.elaborate.specs.Expressions.{own_trees}
 use Rattle.std.proofs.lemmas.List.Elements.{All-nil}
-use Rattle.run_code.specs.EventActs.{AreEntries, AreGrown}
-use Rattle.run_code.specs.declared.expressions.Laid.{Laid}
-use Rattle.run_code.specs.declared.tables.Tables.{Tables}
-use Rattle.run_code.specs.Listings.{entries_of}
-use Rattle.run_code.specs.OfTrees.{flat_of, AreOfTerms}
-use Rattle.run_code.specs.Numbered.{AreAdded, AreNodes}
-use Rattle.run_code.specs.declared.nodes.NodeInfo.{NodeInfo}
-use Rattle.run_code.specs.Fitting.{RootFits, NodesFit, AreFit}
-use Rattle.run_code.proofs.Collected.{nodes_added}
+use Rattle.run_layout.specs.EventActs.{AreEntries, AreGrown}
+use Rattle.run_layout.specs.declared.expressions.Laid.{Laid}
+use Rattle.run_layout.specs.declared.tables.Tables.{Tables}
+use Rattle.run_layout.specs.Listings.{entries_of}
+use Rattle.run_layout.specs.OfTrees.{flat_of, AreOfTerms}
+use Rattle.run_layout.specs.Numbered.{AreAdded, AreNodes}
+use Rattle.run_layout.specs.declared.nodes.NodeInfo.{NodeInfo}
+use Rattle.run_layout.specs.Fitting.{RootFits, NodesFit, AreFit}
+use Rattle.run_layout.proofs.Collected.{nodes_added}
 use Rattle.run_code.proofs.FittingLemmas.{always}
-use Rattle.run_code.specs.Functions.{AddsExpression}
+use Rattle.run_layout.specs.Functions.{AddsExpression}
 use Rattle.run_code.proofs.Entries.{on_ok}
-use Rattle.run_code.specs.Initializers.{HaveNumbers}
-use Rattle.run_code.specs.Rooms.{AreRoomed, IsRoomedBy}
+use Rattle.run_layout.specs.Initializers.{HaveNumbers}
+use Rattle.run_layout.specs.Rooms.{AreRoomed, IsRoomedBy}
 use Rattle.run_code.proofs.Owned.{numbers_had}
 use Rattle.run_code.proofs.Roomed.{roomed_by}
-use Rattle.run_code.proofs.Grown.{entries_grown, grown_both}
+use Rattle.run_layout.proofs.Grown.{entries_grown, grown_both}
 use Rattle.run_code.proofs.draft.Draft.expression.Goals as goal
 
 pub add_expression-requires-clause-laid_out : goal.add_expression-requires-clause-laid_out

@@ -3,12 +3,12 @@ use Rattle.std.specs.Borrow.{Bor}
 use Rattle.std.specs.List.{All}
 use Rattle.std.proofs.lemmas.List.{drop_more, take_more}
 use Rattle.c_typed.specs.declared.tree.Typed.{Typed}
-use Rattle.run_code.specs.Fitting.{TreeFits}
-use Rattle.run_code.specs.Roots.{roots_in}
+use Rattle.run_layout.specs.Fitting.{TreeFits}
+use Rattle.run_layout.specs.Roots.{roots_in}
 use Rattle.std.proofs.lemmas.Result.{IfOk-weaker}
 use Rattle.run_code.proofs.FittingLemmas.{always, next_mapped_fits, mapped_drop}
-use Rattle.run_code.proofs.Grown.{grown_both, nothing_grown}
-use Rattle.run_code.proofs.InTurn.{all_added, next_added, next_taken, none_added}
+use Rattle.run_layout.proofs.Grown.{grown_both, nothing_grown}
+use Rattle.run_layout.proofs.InTurn.{all_added, next_added, next_taken, none_added}
 use Rattle.run_code.proofs.Rooted.{next_mapped}
 use Rattle.run_code.proofs.draft.Draft.expressions.Goals as goal
 

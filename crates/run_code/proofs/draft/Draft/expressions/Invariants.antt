@@ -1,11 +1,11 @@
 use Rattle.std.proofs.Common.{◌≡◌, ◌++◌, map, drop, take}
 use Rattle.std.specs.List.{All}
 use Rattle.c_typed.specs.declared.program.Program.{Program}
-use Rattle.run_code.specs.EventActs.{AreGrown}
-use Rattle.run_code.specs.Fitting.{TreeFits, AreFit}
-use Rattle.run_code.specs.Functions.{AddsExpressions}
-use Rattle.run_code.specs.OfTrees.{AreOfTerms}
-use Rattle.run_code.specs.Roots.{roots_in}
+use Rattle.run_layout.specs.EventActs.{AreGrown}
+use Rattle.run_layout.specs.Fitting.{TreeFits, AreFit}
+use Rattle.run_layout.specs.Functions.{AddsExpressions}
+use Rattle.run_layout.specs.OfTrees.{AreOfTerms}
+use Rattle.run_layout.specs.Roots.{roots_in}
 use Rattle.run_code.proofs.draft.Draft.expressions.Given as goal
 
 -- what is laid out so far, and the trees that are left; the listings are those of the terms, where they were

@@ -7,14 +7,14 @@ use Rattle.c_typed.specs.declared.tree.Typed.{Typed}
 use Rattle.elaborate.specs.Expressions.{block_trees}
 use Rattle.run_statements.proofs.Loops.{at_block}
 use Rattle.c_types.specs.declared.ty.FuncTy.{out-FuncTy}
-use Rattle.run_code.specs.declared.expressions.Laid.{Laid}
-use Rattle.run_code.specs.Blocks.{rows_of_block, AddsBlocks}
-use Rattle.run_code.specs.Functions.{IsMore}
-use Rattle.run_code.specs.Fitting.{TreeFits}
+use Rattle.run_layout.specs.declared.expressions.Laid.{Laid}
+use Rattle.run_layout.specs.Blocks.{rows_of_block, AddsBlocks}
+use Rattle.run_layout.specs.Functions.{IsMore}
+use Rattle.run_layout.specs.Fitting.{TreeFits}
 use Rattle.run_code.proofs.FittingLemmas.{dropped}
 use Rattle.run_code.proofs.Blocked.{function_blocks, function_firsts}
-use Rattle.run_code.proofs.InTurn.{function_laid}
-use Rattle.run_code.proofs.Grown.{grown_both}
+use Rattle.run_layout.proofs.InTurn.{function_laid}
+use Rattle.run_layout.proofs.Grown.{grown_both}
 use Rattle.run_code.proofs.draft.Draft.function.Goals as goal
 
 pub returns-clause-body : goal.returns-clause-body

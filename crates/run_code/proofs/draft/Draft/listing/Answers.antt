@@ -1,4 +1,4 @@
-use Rattle.run_code.proofs.Grown.{no_entries}
+use Rattle.run_layout.proofs.Grown.{no_entries}
 use Rattle.run_code.proofs.draft.Draft.listing.Goals as goal
 
 pub returns-in-None-clause-due : goal.returns-in-None-clause-due

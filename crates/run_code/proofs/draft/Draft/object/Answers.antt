@@ -2,7 +2,7 @@ use Rattle.std.proofs.Common.{refl, ap, ◌∙◌}
 use Rattle.c_types.specs.declared.tags.Extent.{Extent}
 use Rattle.c_types.specs.Types.{qualified_of}
 use Rattle.run_objects.specs.Extents.{extent_of}
-use Rattle.run_code.specs.Blocks.{access_by}
+use Rattle.run_layout.specs.Blocks.{access_by}
 use Rattle.run_code.proofs.Blocked.{object_added, qual_form, qual_type}
 use Rattle.run_code.proofs.draft.Draft.object.Goals as goal
 

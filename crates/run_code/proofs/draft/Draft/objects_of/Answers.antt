@@ -1,8 +1,8 @@
 use Rattle.std.proofs.Common.{arith, ◌+◌, ◌≡◌, ◌∙◌, map, drop, refl, subst, sym}
 use Rattle.c_types.specs.Types.{qualified_of}
-use Rattle.run_code.specs.Blocks.{AreObjectsFrom}
+use Rattle.run_layout.specs.Blocks.{AreObjectsFrom}
 use Rattle.run_code.proofs.Blocked.{all_objects, longer_by_one, next_counted, next_object, next_qual}
-use Rattle.run_code.proofs.Grown.{grown_both, nothing_grown}
+use Rattle.run_layout.proofs.Grown.{grown_both, nothing_grown}
 use Rattle.run_code.proofs.draft.Draft.objects_of.Goals as goal
 
 pub loop-qual-init : goal.loop-qual-init

@@ -1,10 +1,10 @@
 use Rattle.std.proofs.Common.{◌≡◌, ◌≤◌, ◌+◌, length, map, drop}
 use Rattle.c_types.specs.Types.{qualified_of}
 use Rattle.c_typed.specs.declared.program.Program.{Program}
-use Rattle.run_code.specs.declared.tables.Tables.{Tables}
-use Rattle.run_code.specs.Blocks.{AreObjectsFrom, counted_by}
-use Rattle.run_code.specs.EventActs.{AreGrown}
-use Rattle.run_code.specs.Fitting.{AreFit}
+use Rattle.run_layout.specs.declared.tables.Tables.{Tables}
+use Rattle.run_layout.specs.Blocks.{AreObjectsFrom, counted_by}
+use Rattle.run_layout.specs.EventActs.{AreGrown}
+use Rattle.run_layout.specs.Fitting.{AreFit}
 use Rattle.run_code.proofs.draft.Draft.objects_of.Given as goal
 
 -- objects are only added, and no full expression; with the objects that are left there are all of them

@@ -1,5 +1,5 @@
 use Rattle.std.proofs.Common.{sym, subst}
-use Rattle.run_code.specs.Fitting.{AccessFits}
+use Rattle.run_layout.specs.Fitting.{AccessFits}
 use Rattle.run_code.proofs.draft.Draft.store.Goals as goal
 
 pub returns-clause-fit : goal.returns-clause-fit

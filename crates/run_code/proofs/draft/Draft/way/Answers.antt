@@ -1,9 +1,9 @@
 use Rattle.std.proofs.Common.{arith, ◌≡◌, suc, slice_get, Some, refl, sym, ap, subst, ◌∙◌}
 use Rattle.std.proofs.lemmas.Option.{slice_get_within}
 use Rattle.c_typed.specs.declared.tree.Typed.{out-Typed}
-use Rattle.run_code.specs.Numbered.{IsAt, AreBelow}
-use Rattle.run_code.specs.AtOnce.{chosen_of, operand_number, Lists}
-use Rattle.run_code.proofs.AtOnce.{chosen_none, chosen_there, operand_there, lists_none}
+use Rattle.run_layout.specs.Numbered.{IsAt, AreBelow}
+use Rattle.run_layout.specs.AtOnce.{chosen_of, operand_number, Lists}
+use Rattle.run_layout.proofs.AtOnce.{chosen_none, chosen_there, operand_there, lists_none}
 use Rattle.run_code.proofs.draft.Draft.way.Goals as goal
 
 pub returns-in_default-get-clause-goes : goal.returns-in_default-get-clause-goes

@@ -1,6 +1,6 @@
 use Rattle.std.proofs.Common.{arith, true, refl}
-use Rattle.run_code.proofs.AtOnce.{front_longer}
-use Rattle.run_code.proofs.Grown.{goes_grown}
+use Rattle.run_layout.proofs.AtOnce.{front_longer}
+use Rattle.run_layout.proofs.Grown.{goes_grown}
 use Rattle.run_code.proofs.draft.Draft.ways.Goals as goal
 
 pub returns-clause-fit : goal.returns-clause-fit

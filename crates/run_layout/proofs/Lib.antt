@@ -1,0 +1,11 @@
+pub mod Listings
+pub mod Collected
+pub mod Grown
+pub mod NamedLemmas
+pub mod Termed
+pub mod InTurn
+pub mod Followed
+pub mod AtOnce
+pub mod ChosenLemmas
+pub mod Tested
+pub mod Keeping

@@ -1,9 +1,0 @@
-use Rattle.run_machine.proofs.Called.{function_stands}
-use Rattle.run_machine.proofs.Calling.{function_steps}
-use Rattle.run_machine.proofs.events.law_calls.Goals as goal
-
-pub returns-clause-stands : goal.returns-clause-stands
-returns-clause-stands c = function_stands c.law_view.ensures.trees c.law_cursor.ensures.starts
-
-pub returns-clause-steps : goal.returns-clause-steps
-returns-clause-steps c = function_steps
