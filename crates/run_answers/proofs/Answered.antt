@@ -63,31 +63,11 @@ use Rattle.run_answers.specs.Performs.{gives_value, store_in, CanPerform, Change
 use Rattle.run_answers.specs.Ways.{Chooses}
 use Rattle.run_answers.specs.declared.pick.Pick.{Pick}
 use Rattle.run_answers.specs.declared.pick.Pick.TheVariants as pick
-use Rattle.run_answers.specs.Answering.{Answers, ComesTo}
+use Rattle.run_answers.specs.Answering.{Answers}
 use Rattle.run_answers.specs.Completing.{CompletesAfter, CompletesEvent, CompletesPick, EventCompletes}
 use Rattle.run_answers.specs.Ending.{Notes, NotesIn, NotesWay}
 use Rattle.run_answers.specs.Picks.{at_cursor, event_at}
-use Rattle.run_answers.specs.Taking.{
-  AnswersEvent,
-  AnswersTaken,
-  Decides,
-  DecidesBy,
-  EventComes,
-  EventStands,
-  EventSteps,
-  FollowsEvent,
-  IsAt,
-  IsPast,
-  IsTaken,
-  IsTakenTo,
-  MayTake,
-  TakesEvent,
-  after_event,
-  past_event,
-  passed_stage,
-  staged,
-  store_after,
-}
+use Rattle.run_answers.specs.Taking.{AnswersEvent, AnswersTaken, Decides, DecidesBy, EventComes, EventStands, EventSteps, FollowsEvent, IsAt, IsPast, IsTaken, MayTake, TakesEvent, after_event, past_event, passed_stage, staged, store_after}
 use Rattle.run_answers.proofs.Taken.{event_seen}
 
 -- ---- the cursor

@@ -1,5 +1,5 @@
 -- The acts of nodes under the rows of a memory and under more.
-use Rattle.std.proofs.Common.{◌≡◌, ℕ, ◌==◌, Bool, true, false, not, ◌&&◌, ◌||◌, List, [], ◌∷◌, length, map, Option, Some, None, is_some, if◌then◌else◌, refl}
+use Rattle.std.proofs.Common.{◌≡◌, ℕ, ◌==◌, Bool, true, false, not, ◌&&◌, ◌||◌, List, [], ◌∷◌, length, Option, Some, None, is_some, if◌then◌else◌, refl}
 use Rattle.std.proofs.Common.{ap, ap₂, sym, subst, ◌∙◌, ℤ, pos, ◌+ℤ◌}
 use Rattle.std.specs.Prelude.{unsigned_abs, Result, Ok, Err}
 use Rattle.ub_base.specs.declared.clause.Clause.{Clause}
@@ -27,7 +27,7 @@ use Rattle.c_typed.specs.declared.tree.UnOp.{UnOp}
 use Rattle.c_typed.specs.declared.tree.UnOp.TheVariants as unary
 use Rattle.mem_spec.specs.Agreement.{bytes_of_kind}
 use Rattle.mem_spec.specs.Bytes.{number_bytes, pointer_bytes}
-use Rattle.mem_spec.specs.Store.{Store, TaggedByte, Life, is_live, settled, range_from, can_find, findable}
+use Rattle.mem_spec.specs.Store.{Store, TaggedByte, Life, is_live, settled, range_from, findable}
 use Rattle.mem_spec.specs.Script.{Script, Give, Raise, Finish, Exceed, Misplace, Do, Act, Done, Raised, Ended, Outside, Unplaced, run, require}
 use Rattle.mem_spec.specs.Script.{Touch, Ask, Get, Put, Bear, Bury, Show, Find, Settle, Take, Print, item_of, refuses, refused, answer, left, touched, touch}
 use Rattle.mem_spec.specs.Script.{◌>>=◌, ◌>>◌}

@@ -1,16 +1,12 @@
 -- The act of an event in the code is that of its node.
-use Rattle.std.proofs.Common.{◌≡◌, ℕ, zero, suc, ◌+◌, ◌-◌, ◌<◌, ◌≤◌, Bool, true, false, not, ◌&&◌, ◌||◌, ◌==◌, nat_lt, List, [], ◌∷◌, map, length, slice_get}
+use Rattle.std.proofs.Common.{◌≡◌, ℕ, zero, suc, ◌+◌, ◌-◌, ◌<◌, ◌≤◌, Bool, true, false, ◌&&◌, ◌||◌, ◌==◌, nat_lt, List, [], ◌∷◌, map, length, slice_get}
 use Rattle.std.proofs.Common.{Option, Some, None, refl, sym, ap, ap₂, subst, ◌∙◌, arith, ℤ, pos, if◌then◌else◌}
 use Rattle.std.specs.Prelude.{option_map, unsigned_abs}
 use Rattle.std.specs.Borrow.{Bor}
 use Rattle.std.proofs.lemmas.Bool.Decides.{nat_tests}
 use Rattle.ub_base.specs.declared.clause.Kind.{Kind}
 use Rattle.ub_base.specs.declared.clause.Kind.TheVariants.{Val, Eff, Body}
-use Rattle.ub_base.specs.declared.names.Event.{Event}
-use Rattle.c_types.specs.declared.ty.Ty.{Ty}
 use Rattle.c_types.specs.Types.{CType, pointer, type_of}
-use Rattle.c_typed.specs.declared.class.Class.{Class}
-use Rattle.c_typed.specs.declared.class.Class.TheVariants as class
 use Rattle.c_typed.specs.declared.program.Constant.{Constant}
 use Rattle.c_typed.specs.declared.program.Content.{Content}
 use Rattle.c_typed.specs.declared.program.Content.TheVariants as content
@@ -53,20 +49,18 @@ use Rattle.run_acts.specs.Views.{value_in}
 use Rattle.run_layout.specs.declared.nodes.NodeInfo.{NodeInfo}
 use Rattle.run_layout.specs.declared.steps.Act.{Act}
 use Rattle.run_layout.specs.declared.steps.Act.TheVariants as act
-use Rattle.run_layout.specs.declared.steps.Due.{Due}
 use Rattle.run_layout.specs.declared.steps.Operand.{Operand}
 use Rattle.run_layout.specs.declared.steps.Operand.TheVariants as operand
 use Rattle.run_layout.specs.declared.steps.StoreCode.{StoreCode}
-use Rattle.run_layout.specs.declared.tables.Tables.{Tables}
 use Rattle.run_layout.specs.EventActs.{head_at, pointed, sight_of, IsAct, IsDue, IsStore, Sight}
 use Rattle.run_layout.specs.EventActs as code
-use Rattle.run_layout.specs.Numbered.{AreBelow, AreNodes, AreNoted, IsAt, IsNode}
+use Rattle.run_layout.specs.Numbered.{AreBelow, AreNodes, AreNoted, IsAt}
 use Rattle.run_layout.specs.Resolved as resolved
 use Rattle.run_layout.specs.Resolved.{object_of, operands_from}
 use Rattle.run_state.specs.declared.machine.Machine.{Machine}
-use Rattle.run_state.specs.Operands.{operand_in, Gives}
+use Rattle.run_state.specs.Operands.{Gives}
 use Rattle.run_answers.specs.Acts.{filled_from, given_by, is_body_act, script_in, stored_by, AreGiven, IsGiven}
-use Rattle.run_answers.specs.Nodes.{head_of, Evaluates, IsNearBy, OwnIsGiven, TakesGiven, IsActOf, ActsAreOfNodes}
+use Rattle.run_answers.specs.Nodes.{head_of, Evaluates, IsNearBy, OwnIsGiven, ActsAreOfNodes}
 
 -- ---- the head of a node
 abbrev head_seen : SeenNode → sites.Head

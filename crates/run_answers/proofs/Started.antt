@@ -11,7 +11,7 @@ use Rattle.c_typed.specs.Order.{place}
 use Rattle.c_model.specs.Control.{Begin, Unused, ready_work}
 use Rattle.c_model.specs.Program.{Expr, expr, Exprs, Isolated}
 use Rattle.c_model.specs.Runs.{Running, State, acted, depth_of, entry_of, limit_passed, limited, moved, step, within}
-use Rattle.c_model.specs.Steps.{Begun, Ev, Local, Scene, at_node, does, event_act, move, move_of}
+use Rattle.c_model.specs.Steps.{Begun, Ev, Local, at_node, does, event_act, move, move_of}
 use Rattle.c_model.specs.Values.{Nothing}
 use Rattle.c_model.specs.World.{World}
 use Rattle.mem_spec.specs.Script.{run}

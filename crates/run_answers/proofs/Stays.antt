@@ -1,30 +1,19 @@
 -- What a memory that is kept leaves of what stands in it.
-use Rattle.std.proofs.Common.{◌≡◌, ◌≢◌, ℕ, zero, suc, ◌+◌, ◌-◌, ◌<◌, ◌≤◌, Bool, true, false, refl, sym, ap, ap₂, ◌∙◌, subst, arith, if◌then◌else◌}
+use Rattle.std.proofs.Common.{◌≡◌, ℕ, zero, suc, ◌+◌, ◌-◌, ◌<◌, ◌≤◌, Bool, true, false, refl, ap, ap₂, ◌∙◌, arith, if◌then◌else◌}
 use Rattle.std.proofs.Common.{List, [], ◌∷◌, ◌++◌, length, map, slice_get, Option, Some, None}
 use Rattle.std.specs.Prelude.{◌==◌, nat_le, option_map}
-use Rattle.std.specs.Borrow.{Bor}
-use Rattle.std.specs.List.{All}
 use Rattle.std.proofs.lemmas.Bool.Decides.{nat_tests}
-use Rattle.std.proofs.lemmas.List.Elements.{All-head, All-tail}
-use Rattle.addr_map.specs.declared.map.Row.{Row}
 use Rattle.exposure.specs.declared.prov.Prov.{Prov}
 use Rattle.c_types.specs.declared.ty.Ty.{Ty}
 use Rattle.c_types.specs.Types.{CType, type_of}
-use Rattle.c_typed.specs.Lawful.{ContentIsLawful}
-use Rattle.c_typed.specs.declared.program.Constant.{Constant}
-use Rattle.c_typed.specs.declared.tree.Access.{Access}
-use Rattle.c_typed.specs.declared.tree.Access.TheVariants as access
-use Rattle.mem_spec.specs.Acts.{Seen, scalar}
 use Rattle.mem_spec.specs.Store.{TaggedByte}
 use Rattle.prov_memory.specs.declared.cell.Cell.{Cell}
 use Rattle.prov_memory.specs.declared.cell.State.{State}
 use Rattle.prov_memory.specs.declared.cell.State.TheVariants as states
-use Rattle.prov_memory.specs.declared.cell.Via.{Via}
-use Rattle.prov_memory.specs.declared.cell.Via.TheVariants as vias
 use Rattle.prov_memory.specs.declared.value.Value.{Value as Kept_value}
 use Rattle.prov_memory.specs.declared.value.Value.TheVariants as kept
 use Rattle.prov_memory.specs.Cells.{byte_in_state, integer_or, kind_numbered, tagged_in, type_numbered}
-use Rattle.prov_memory.specs.Keeps.{Keeps, IsNumbered}
+use Rattle.prov_memory.specs.Keeps.{Keeps}
 use Rattle.prov_memory.specs.Memory.{Kept, CellsKnown}
 use Rattle.prov_memory.specs.Pieces.{seen}
 use Rattle.prov_memory.specs.Tags.{CellsTagged}

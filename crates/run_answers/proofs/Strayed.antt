@@ -1,5 +1,5 @@
 -- A machine that leaves the canonical way stands for what it stood for.
-use Rattle.std.proofs.Common.{◌≡◌, ◌≢◌, ℕ, Bool, true, false, refl, sym, ap, ◌∙◌, subst, List, ◌∷◌, length, map, reverse, Option, Some, None, slice_get, arith}
+use Rattle.std.proofs.Common.{◌≡◌, ℕ, Bool, true, false, refl, sym, ap, ◌∙◌, subst, List, ◌∷◌, length, map, reverse, Option, Some, None, arith}
 use Rattle.std.proofs.lemmas.List.{length-reverse}
 use Rattle.c_typed.specs.declared.tree.Place.{Place}
 use Rattle.c_model.specs.Runs.{State}
@@ -14,8 +14,8 @@ use Rattle.run_listing.specs.Cursor.{PassedIsDone, StandsStraight}
 use Rattle.run_state.specs.declared.machine.Machine.{Machine}
 use Rattle.run_state.specs.declared.machine.Open.{Open}
 use Rattle.run_state.specs.declared.machine.Stage.{Stage}
-use Rattle.run_state.specs.Stands.{HoldsAll, StandFrames, Stands, StandsBegun, StandsDone, StandsExpression, StandsFrame, StandsTables, frames_of}
-use Rattle.run_answers.specs.Picks.{LeavesWay, by_way, top_of}
+use Rattle.run_state.specs.Stands.{HoldsAll, StandFrames, Stands, StandsBegun, StandsDone, StandsExpression, StandsFrame, frames_of}
+use Rattle.run_answers.specs.Picks.{LeavesWay, by_way}
 use Rattle.run_answers.specs.Straying.{LeavesStanding}
 use Rattle.run_answers.specs.Taking.{StandsOpen}
 use Rattle.run_answers.proofs.Behind.{open_at}

@@ -1,5 +1,5 @@
 -- What an event takes that may come next is given.
-use Rattle.std.proofs.Common.{◌≡◌, ℕ, zero, suc, ◌+◌, ◌-◌, ◌<◌, ◌≤◌, Bool, true, false, not, ◌&&◌, ◌||◌, ◌==◌, nat_lt, List, [], ◌∷◌, map, length, slice_get}
+use Rattle.std.proofs.Common.{◌≡◌, ℕ, zero, suc, ◌+◌, ◌<◌, ◌≤◌, Bool, true, false, not, ◌&&◌, ◌||◌, ◌==◌, nat_lt, List, [], ◌∷◌, length, slice_get}
 use Rattle.std.proofs.Common.{Option, Some, None, refl, sym, ap, ap₂, subst, ◌∙◌, arith, if◌then◌else◌}
 use Rattle.std.specs.Prelude.{is_some, unsigned_abs}
 use Rattle.std.specs.List.{All}
@@ -22,7 +22,7 @@ use Rattle.c_typed.specs.declared.tree.Typed.{Typed, fold-roll-Typed, out-Typed}
 use Rattle.c_typed.specs.Decide.{due_in, due_among, has_kind}
 use Rattle.c_typed.specs.Lawful.{CountIs}
 use Rattle.c_typed.specs.Sites as sites
-use Rattle.c_typed.specs.Order.{Taken, goes, place, is_body, is_due, is_choice, is_number, own_rule, IsPermitted}
+use Rattle.c_typed.specs.Order.{Taken, goes, place, is_body, is_choice, is_number, own_rule, IsPermitted}
 use Rattle.c_typed.specs.Tree.{Tree, Trees, kinds_of, is_quiet, is_quiet_class, class_of, size, sizes}
 use Rattle.c_typed.specs.Tree as order
 use Rattle.c_model.specs.Nodes as nodes
@@ -50,7 +50,7 @@ use Rattle.run_listing.specs.Along.{part_of}
 use Rattle.run_state.specs.declared.machine.Machine.{Machine}
 use Rattle.run_state.specs.Operands.{Gives, IsNamed, IsThere, QuietGives, RoomGives, StandsObjects}
 use Rattle.run_state.specs.Stands.{IsUpdate, StandsValues}
-use Rattle.run_answers.specs.Nodes.{head_of, Evaluates, OwnIsGiven, TakesGiven}
+use Rattle.run_answers.specs.Nodes.{head_of, Evaluates, OwnIsGiven}
 use Rattle.run_answers.specs.Takes.{CallTakesGiven, ListIsThere, PermittedTakesGiven}
 use Rattle.run_answers.proofs.Before.{is_call, is_operand, node_among_in, node_in as stands_in, operand_before, own_before}
 use Rattle.run_answers.proofs.Nodes.{head_is, node_is}

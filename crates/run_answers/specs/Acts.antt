@@ -1,5 +1,5 @@
 -- What the acts of events do, where their operands give values (own).
-use Rattle.std.specs.Prelude.{◌≡◌, not, ◌&&◌, ◌||◌, Bool, true, false, List, [], map, slice_get, Option, Some, None, option_map, if◌then◌else◌}
+use Rattle.std.specs.Prelude.{◌≡◌, not, ◌&&◌, ◌||◌, Bool, true, false, List, map, slice_get, Option, Some, None, option_map, if◌then◌else◌}
 use Rattle.std.specs.Borrow.{Bor}
 use Rattle.ub_base.specs.declared.names.Event.{Event}
 use Rattle.addr_map.specs.declared.map.Row.{Row}

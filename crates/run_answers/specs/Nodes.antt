@@ -1,5 +1,5 @@
 -- The act of an event in the code is that of its node in the definitions of runs, where its operands give their values (own).
-use Rattle.std.specs.Prelude.{◌≡◌, ◌<◌, ℕ, suc, zero, Bool, true, false, List, length, Some, slice_get}
+use Rattle.std.specs.Prelude.{◌≡◌, ◌<◌, ℕ, suc, zero, true, false, List, length, Some, slice_get}
 use Rattle.ub_base.specs.declared.clause.Kind.{Kind}
 use Rattle.ub_base.specs.declared.clause.Kind.TheVariants.{Val, Eff}
 use Rattle.c_typed.specs.declared.tree.Place.{Place}
@@ -16,7 +16,6 @@ use Rattle.program_view.specs.Trees.{expr_of, exprs_of}
 use Rattle.run_acts.specs.Updates.{IsNear, IsNearChange}
 use Rattle.run_layout.specs.declared.nodes.NodeInfo.{NodeInfo}
 use Rattle.run_layout.specs.declared.steps.Due.{Due}
-use Rattle.run_layout.specs.declared.steps.Operand.{Operand}
 use Rattle.run_layout.specs.declared.steps.Operand.TheVariants as operand
 use Rattle.run_layout.specs.EventActs.{IsDue, head_at, sight_of}
 use Rattle.run_layout.specs.Numbered.{AreNodes}

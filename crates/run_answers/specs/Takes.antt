@@ -6,7 +6,7 @@ use Rattle.c_typed.specs.declared.tree.Typed.{Typed, out-Typed}
 use Rattle.c_typed.specs.Lawful.{CountIs}
 use Rattle.c_typed.specs.Order.{IsPermitted, is_body}
 use Rattle.c_typed.specs.Tree.{is_quiet}
-use Rattle.c_model.specs.Program.{Call, Expr, Head, Listed, tree_of}
+use Rattle.c_model.specs.Program.{Call, Head, Listed, tree_of}
 use Rattle.c_model.specs.Steps.{Scene, Begun, is_done, taken_by, values_of}
 use Rattle.c_model.specs.Values as values
 use Rattle.c_model.specs.World.{World}

@@ -14,7 +14,7 @@ use completion_laws::law_listed_completes;
 use library_laws::law_library;
 use program_view::law_view;
 use run_layout::law_choices;
-use run_listing::{law_cursor, law_cursor, law_listed_tree, law_strayed};
+use run_listing::{law_cursor, law_listed_tree, law_strayed};
 use run_state::law_operands;
 
 /// The act of an event in the code is that of its node in the definitions of runs, where the operands that it evaluates give their values: it does the
