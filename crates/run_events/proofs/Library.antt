@@ -1,38 +1,5 @@
 -- Calls of the library: their arguments, what is answered, and what is done with it.
-use Rattle.std.proofs.Common.{
-  ◌≡◌,
-  ◌≢◌,
-  ℕ,
-  zero,
-  suc,
-  ◌+◌,
-  ◌<◌,
-  ◌≤◌,
-  ◌^◌,
-  true,
-  refl,
-  sym,
-  ap,
-  ap₂,
-  ◌∙◌,
-  subst,
-  arith,
-  List,
-  [],
-  ◌∷◌,
-  ◌++◌,
-  length,
-  map,
-  take,
-  drop,
-  IsTrue,
-  Some,
-  None,
-  Result,
-  Ok,
-  Err,
-  slice_get,
-}
+use Rattle.std.proofs.Common.{◌≡◌, ◌≢◌, ℕ, zero, suc, ◌+◌, ◌<◌, ◌≤◌, true, refl, sym, ap, ap₂, ◌∙◌, subst, arith, List, [], ◌∷◌, ◌++◌, length, take, drop, IsTrue, Some, None, Result, Ok, Err, slice_get}
 use Rattle.ub_base.specs.declared.clause.Clause.{Clause}
 use Rattle.ub_base.specs.declared.clause.Cause.{Cause}
 use Rattle.ub_base.specs.declared.names.Event.{Event}
@@ -73,20 +40,7 @@ use Rattle.run_answers.specs.declared.outcome.Outcome.{Outcome}
 use Rattle.run_answers.specs.declared.outcome.Outcome.TheVariants as outcome
 use Rattle.run_answers.specs.declared.fault.Fault.{Fault}
 use Rattle.run_answers.specs.declared.fault.Fault.TheVariants as fault
-use Rattle.run_answers.specs.LibraryCalls.{
-  Arguments,
-  AreArguments,
-  CallsLibrary,
-  CanCall,
-  ChangesByCall,
-  DoesCall,
-  HasCalled,
-  IsAnswered,
-  TakesAnswer,
-  TouchesStreams,
-  call_in,
-  types_seen,
-}
+use Rattle.run_answers.specs.LibraryCalls.{Arguments, AreArguments, CallsLibrary, CanCall, ChangesByCall, DoesCall, IsAnswered, TakesAnswer, TouchesStreams, call_in, types_seen}
 use Rattle.run_answers.specs.Performs.{store_in}
 use Rattle.run_answers.proofs.Doing.{cell_of}
 use Rattle.run_events.proofs.Rooms.{no_fewer}

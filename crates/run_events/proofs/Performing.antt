@@ -23,7 +23,7 @@ use Rattle.run_answers.specs.declared.outcome.Outcome.TheVariants as outcome
 use Rattle.run_answers.specs.declared.fault.Fault.{Fault}
 use Rattle.run_answers.specs.declared.fault.Fault.TheVariants as fault
 use Rattle.run_answers.specs.Acts.{filled_from, given_by, script_in, stored_by, value_script, AreGiven, IsGiven}
-use Rattle.run_answers.specs.Performs.{gives_value, kept_room, store_in, CanPerform, Does, Effects, IsDone, Performs}
+use Rattle.run_answers.specs.Performs.{gives_value, kept_room, store_in, CanPerform, Does, Effects, Performs}
 use Rattle.run_events.proofs.Rooms.{no_update}
 use Rattle.run_answers.proofs.Worlds.{filled_same, stored_same, value_same}
 

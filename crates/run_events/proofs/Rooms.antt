@@ -1,12 +1,11 @@
 -- A value that goes to the room of its node.
-use Rattle.std.proofs.Common.{◌≡◌, ◌≢◌, ◌∙◌, ℕ, zero, suc, ◌+◌, ◌-◌, ◌<◌, ◌≤◌, ◌==◌, Bool, true, false, refl, sym, ap, subst, arith}
-use Rattle.std.proofs.Common.{List, [], ◌∷◌, length, slice_get, Option, Some, None}
+use Rattle.std.proofs.Common.{◌≡◌, ◌≢◌, ◌∙◌, ℕ, zero, suc, ◌+◌, ◌<◌, ◌≤◌, ◌==◌, Bool, true, false, refl, sym, ap, subst, arith}
+use Rattle.std.proofs.Common.{List, [], ◌∷◌, length, slice_get, Some, None}
 use Rattle.std.specs.Prelude.{Ok}
-use Rattle.std.specs.Option.{ForSome}
 use Rattle.std.proofs.lemmas.Bool.Decides.{nat_tests}
 use Rattle.ub_base.specs.declared.names.Event.{Event}
 use Rattle.ub_base.specs.declared.names.Item.{Item}
-use Rattle.mem_spec.specs.Script.{Script, Done, run}
+use Rattle.mem_spec.specs.Script.{Done, run}
 use Rattle.prov_memory.specs.declared.value.Value.{Value as Kept_value}
 use Rattle.prov_memory.specs.Keeps.{Keeps}
 use Rattle.prov_memory.specs.Memory.{Kept, store_of}
@@ -19,7 +18,7 @@ use Rattle.run_state.specs.declared.machine.Machine.{Machine}
 use Rattle.run_state.specs.Stands.{Holds}
 use Rattle.run_answers.specs.declared.outcome.Outcome.TheVariants as outcome
 use Rattle.run_answers.specs.Acts.{script_in}
-use Rattle.run_answers.specs.Performs.{kept_room, store_in, ChangesOnly, Does, HoldsUpdate, IsDone, TouchesMemory, TouchesValues}
+use Rattle.run_answers.specs.Performs.{kept_room, store_in, ChangesOnly, Does, HoldsUpdate, TouchesMemory, TouchesValues}
 
 -- ---- rooms
 within : {A : Type 0} (xs : List A) (n : ℕ) (x : A) → slice_get xs n ≡ Some x → n < length xs

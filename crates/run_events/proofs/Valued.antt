@@ -1,9 +1,8 @@
 -- Acts that give a value, act by act.
-use Rattle.std.proofs.Common.{◌≡◌, ◌≢◌, ◌∙◌, ℕ, ◌+◌, ◌<◌, ◌≤◌, Bool, true, false, refl, sym, ap, ap₂, subst, arith, List, [], length, slice_get, Some, None, ℤ}
+use Rattle.std.proofs.Common.{◌≡◌, ◌≢◌, ◌∙◌, ℕ, ◌+◌, ◌<◌, ◌≤◌, Bool, true, false, refl, sym, ap, ap₂, subst, arith, List, [], length, slice_get, Some, ℤ}
 use Rattle.std.proofs.Common.{if◌then◌else◌, not, pos}
 use Rattle.std.specs.Prelude.{Result, Ok, Err}
 use Rattle.std.specs.Borrow.{Bor}
-use Rattle.std.specs.Option.{ForSome}
 use Rattle.ub_base.specs.declared.clause.Clause.{Clause}
 use Rattle.ub_base.specs.declared.names.Event.{Event}
 use Rattle.ub_base.specs.declared.names.Item.{Item}
@@ -51,7 +50,7 @@ use Rattle.run_answers.specs.declared.outcome.Outcome.TheVariants as outcome
 use Rattle.run_answers.specs.declared.fault.Fault.{Fault}
 use Rattle.run_answers.specs.declared.fault.Fault.TheVariants as fault
 use Rattle.run_answers.specs.Acts.{given_by, AreGiven, IsGiven}
-use Rattle.run_answers.specs.Performs.{gives_value, is_pointer_act, store_in, CanAct, ChangesOnly, Does, IsDone, TouchesValues}
+use Rattle.run_answers.specs.Performs.{gives_value, is_pointer_act, store_in, CanAct, ChangesOnly, Does, TouchesValues}
 use Rattle.run_answers.specs.Faults.{fault_of}
 use Rattle.run_answers.proofs.Doing.{Of, cell_of, given_as, pointer_made}
 use Rattle.run_events.proofs.Rooms.{no_fewer}

@@ -30,7 +30,7 @@ use run_acts::{
     Filling, Pointer, answer, binary, changed, convert, distance, equal, fill, load, member, moved,
     part, related, store, unary,
 };
-use run_answers::Fault;
+use run_answers::{Fault, Outcome};
 use run_layout::{Act, Operand, StoreCode};
 use run_state::Machine;
 use ub_base::{Clause, Event, Items, NoMemory};

@@ -10,12 +10,12 @@ ghost use Rattle.run_answers.specs.Depth.{StartsWithin};
 ghost use Rattle.run_answers.specs.LibraryCalls.{types_seen, AreArguments, CallsLibrary, CanCall, IsAnswered, TakesAnswer, TouchesStreams};
 ghost use Rattle.run_answers.specs.Opens.{started_on, IsOnTop, OpensFrame, OpensFunction, OpensInitializer, Passes};
 
-use crate::acts::{Outcome, in_room};
+use crate::acts::in_room;
 use c_typed::Program;
 use c_types::LibFunc;
 use prov_memory::{LibAnswer, Values};
 use run_acts::{as_function, callee};
-use run_answers::Fault;
+use run_answers::{Fault, Outcome};
 use run_control::Use;
 use run_layout::{CallCode, FunctionCode, Operand, Range};
 use run_state::{Machine, Open};

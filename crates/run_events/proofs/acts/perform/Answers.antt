@@ -1,4 +1,4 @@
-use Rattle.std.proofs.Common.{◌≡◌, ℕ, true, false, ap, sym, subst, ◌∙◌}
+use Rattle.std.proofs.Common.{◌≡◌, ℕ, true, ap, sym, subst}
 use Rattle.run_layout.specs.declared.steps.Act.{Act}
 use Rattle.run_answers.specs.Acts.{is_body_act}
 use Rattle.run_answers.specs.Calling.{CallsNumbered}

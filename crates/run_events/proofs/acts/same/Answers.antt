@@ -1,7 +1,6 @@
 use Rattle.std.proofs.Common.{refl}
 use Rattle.std.proofs.lemmas.Result.{err_from_is_err_and}
 use Rattle.run_layout.specs.declared.steps.Act.TheVariants as act
-use Rattle.c_model.specs.Values.{Value}
 use Rattle.mem_spec.specs.Script.{Give}
 use Rattle.run_acts.specs.Views.{value_in}
 use Rattle.prov_memory.proofs.KeepLemmas.{keeps_none}

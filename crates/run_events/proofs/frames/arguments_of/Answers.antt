@@ -1,4 +1,4 @@
-use Rattle.std.proofs.Common.{◌≡◌, ◌≤◌, ◌<◌, ◌∙◌, List, Some, ap, length, slice_get, subst, sym}
+use Rattle.std.proofs.Common.{◌≤◌, ◌∙◌, List, ap, length, slice_get, subst, sym}
 use Rattle.std.proofs.lemmas.Option.{slice_get-get_or}
 use Rattle.run_layout.specs.declared.steps.Operand.{Operand}
 use Rattle.run_events.proofs.Library.{all_of_them, none_first, one_more}
