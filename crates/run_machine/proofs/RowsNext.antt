@@ -69,9 +69,9 @@ module _ (trees : TreesAreKept) (starts : StandsAtStart) (d : Due) (now start do
 
   pub body_stopped : (x : Fault) (line : ℕ) (h : Halt) → p ≡ Err x → h ≡ halt_by who line x → Bodies done (Err h)
   body_stopped x line h same halts world meaning m st e s t =
-      subst (λ (k : Halt). KeepsAnswered m done (Err k)) (sym halts) (by x (opened (Err x) same world meaning m st e s t))
+      subst (λ (k : Halt). KeepsAnswered {A = Pick} m done (Err k)) (sym halts) (by x (opened (Err x) same world meaning m st e s t))
     where
-      by : (x : Fault) → OpensInitializer (past_event now) t.event.number who done (Err x) → KeepsAnswered m done (Err (halt_by who line x))
+      by : (x : Fault) → OpensInitializer (past_event now) t.event.number who done (Err x) → KeepsAnswered {A = Pick} m done (Err (halt_by who line x))
       by fault.NoMemory o = tt
       by fault.Unplaced o = absurd o
       by (fault.Raise clause) o = absurd o
@@ -110,7 +110,7 @@ module _ (trees : TreesAreKept) (starts : StandsAtStart) (d : Due) (now start do
         rows_same m done (ap (λ (k : Machine). k.memory) o.opens.counted ∙ ap (λ (k : Machine). k.memory) o.opens.opens.rest
         ∙ ap (λ (k : Machine). k.memory) o.opens.rest ∙ memory_is)
 
-    stops_rows : (line : ℕ) (x : Fault) (same : p ≡ Err x) → Either_at (Err x) same → KeepsAnswered m done (Err (halt_by who line x))
+    stops_rows : (line : ℕ) (x : Fault) (same : p ≡ Err x) → Either_at (Err x) same → KeepsAnswered {A = Pick} m done (Err (halt_by who line x))
     stops_rows line fault.NoMemory same either = tt
     stops_rows line fault.Unplaced same (inl r) = absurd r.only
     stops_rows line fault.Unplaced same (inr o) = absurd o.opens
@@ -133,7 +133,7 @@ module _ (trees : TreesAreKept) (starts : StandsAtStart) (d : Due) (now start do
 
   pub call_stopped : (x : Fault) (line : ℕ) (h : Halt) → p ≡ Err x → h ≡ halt_by who line x → Calls done (Err h)
   call_stopped x line h same halts world meaning m st e s t =
-      subst (λ (k : Halt). KeepsAnswered m done (Err k)) (sym halts)
+      subst (λ (k : Halt). KeepsAnswered {A = Pick} m done (Err k)) (sym halts)
       (stops_rows world meaning m st e s t line x same (either world meaning m st e s t (Err x) same))
 
 -- ---- along the canonical way

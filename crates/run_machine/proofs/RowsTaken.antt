@@ -76,11 +76,11 @@ module _ (steps : EventSteps) (d : Due) (now start done new : Machine) (p : Resu
 
   -- its act isn't done
   pub rows_stopped : (x : Fault) (h : Halt) → p ≡ Err x → Stay d now start done p → (world : World) (meaning : Option ℕ → Meaning) (m : Machine)
-      (st : State) (e : Begun) (s : Stage) (laid : Expression) → MayTake world meaning m st e s laid d now → KeepsAnswered m done (Err h)
+      (st : State) (e : Begun) (s : Stage) (laid : Expression) → MayTake world meaning m st e s laid d now → KeepsAnswered {A = Pick} m done (Err h)
   rows_stopped x h same stay world meaning m st e s laid t =
       let stays : Stay d now (past_event now) done (Err x) =
       subst (λ (q : Result Done_as Fault). Stay d now (past_event now) done q) same (subst (λ (k : Machine). Stay d now k done p) is stay) in
-      rows_answered m done (Err h)
+      rows_answered {A = Pick} m done (Err h)
       (rows_by m done now.memory done.memory (ap (λ (k : Machine). k.memory) (answered.at steps world meaning m st e s laid d now t).1) refl
       (stays world.rows (answered.can steps world meaning m st e s laid d now t) (answered.given steps world meaning m st e s laid d now t)
       t.act.no_body))
@@ -117,7 +117,7 @@ module _ (stands : LibraryStands) (steps : LibrarySteps) (more : CallsMoreRows) 
 
     -- a call that raises a clause itself leaves the memory
     by_fault : (line : ℕ) (x : Fault) (same : p ≡ Err x) → Raises_at (Err x) same ⊎ Calls_at (Err x) same →
-        KeepsAnswered m done (Err (halt_by (event_at now d.place) line x))
+        KeepsAnswered {A = Pick} m done (Err (halt_by (event_at now d.place) line x))
     by_fault line fault.NoMemory same either = tt
     by_fault line fault.Unplaced same (inl x) = absurd x.only
     by_fault line fault.Unplaced same (inr c) = rows_kept (Err fault.Unplaced) same c
@@ -148,5 +148,5 @@ module _ (stands : LibraryStands) (steps : LibrarySteps) (more : CallsMoreRows) 
 
   pub called_stopped : (x : Fault) (line : ℕ) (h : Halt) → p ≡ Err x → h ≡ halt_by (event_at now d.place) line x → Libraries done (Err h)
   called_stopped x line h same halts world meaning m st e s laid t =
-      subst (λ (k : Halt). KeepsAnswered m done (Err k)) (sym halts)
+      subst (λ (k : Halt). KeepsAnswered {A = Pick} m done (Err k)) (sym halts)
       (by_fault world meaning m st e s laid t line x same (either world meaning m st e s laid t (Err x) same))
