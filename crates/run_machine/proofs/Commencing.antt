@@ -1,30 +1,5 @@
 -- A full expression begins: what that does to the machine.
-use Rattle.std.proofs.Common.{
-  ◌≡◌,
-  ◌≢◌,
-  ℕ,
-  ◌+◌,
-  ◌-◌,
-  ◌≤◌,
-  ◌^◌,
-  min,
-  refl,
-  sym,
-  ap,
-  ◌∙◌,
-  subst,
-  arith,
-  List,
-  [],
-  ◌∷◌,
-  length,
-  Option,
-  Some,
-  None,
-  Ok,
-  slice_get,
-}
-use Rattle.prov_memory.specs.declared.value.Value.{Value as Kept_value}
+use Rattle.std.proofs.Common.{◌≡◌, ◌≢◌, ℕ, ◌+◌, ◌-◌, ◌≤◌, ◌^◌, min, refl, sym, ap, ◌∙◌, subst, arith, List, [], length, Option, Some, None, Ok, slice_get}
 use Rattle.seq_order.specs.Marked.{taken_in}
 use Rattle.run_control.specs.declared.work.Use.{Use}
 use Rattle.run_layout.specs.declared.steps.Expression.{Expression}
@@ -36,7 +11,7 @@ use Rattle.run_state.specs.declared.machine.Open.{Open}
 use Rattle.run_state.specs.declared.watch.Begun.{Begun as Shown}
 use Rattle.run_answers.specs.Choices.{HasChosen}
 use Rattle.run_answers.specs.Beginning.{HasShown, IsAmong}
-use Rattle.run_answers.specs.Keeping.{BeginsExpression, KeepsControl, KeepsFrames, begins, machine_with}
+use Rattle.run_answers.specs.Keeping.{KeepsControl, KeepsFrames, begins, machine_with}
 use Rattle.run_answers.specs.Picks.{top_of}
 use Rattle.run_answers.proofs.Beginning.{begun_open, shown_in}
 

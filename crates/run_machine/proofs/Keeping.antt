@@ -1,39 +1,5 @@
 -- What a control step does to the machine, by the calls of which it consists.
-use Rattle.std.proofs.Common.{
-  ◌≡◌,
-  ◌≢◌,
-  ◌⊎◌,
-  inl,
-  inr,
-  ℕ,
-  ◌+◌,
-  ◌-◌,
-  ◌≤◌,
-  ◌^◌,
-  min,
-  Bool,
-  true,
-  false,
-  refl,
-  sym,
-  ap,
-  ◌∙◌,
-  subst,
-  arith,
-  List,
-  [],
-  ◌∷◌,
-  ◌++◌,
-  length,
-  Option,
-  Some,
-  None,
-  Result,
-  Ok,
-  Err,
-  IfOk,
-  slice_get,
-}
+use Rattle.std.proofs.Common.{◌≡◌, inl, inr, ℕ, ◌+◌, ◌-◌, ◌≤◌, ◌^◌, min, Bool, true, false, refl, sym, ap, ◌∙◌, subst, arith, List, [], ◌∷◌, ◌++◌, length, Option, Some, None, Result, Ok, Err, IfOk, slice_get}
 use Rattle.std.proofs.lemmas.Result.{on_ok_weaker}
 use Rattle.std.specs.Borrow.{Bor}
 use Rattle.std.specs.Prelude.{OnOk}
@@ -44,41 +10,20 @@ use Rattle.c_typed.specs.declared.tree.Place.{Place}
 use Rattle.c_typed.specs.Order.{place}
 use Rattle.prov_memory.specs.declared.value.Value.{Value as Kept_value}
 use Rattle.prov_memory.specs.Memory.{Kept}
-use Rattle.seq_order.specs.declared.done.Marks.{Marks}
-use Rattle.seq_order.specs.Marked.{taken_in}
 use Rattle.run_control.specs.declared.statement.Switch.{Switch}
 use Rattle.run_control.specs.declared.work.Use.{Use}
 use Rattle.run_control.specs.declared.work.Use.TheVariants as for_use
 use Rattle.run_control.specs.Stacked.{Stacked}
-use Rattle.run_layout.specs.declared.steps.Due.{Due}
 use Rattle.run_layout.specs.declared.steps.Operand.{Operand}
 use Rattle.run_state.specs.declared.halt.Halt.{Halt}
 use Rattle.run_state.specs.declared.machine.Machine.{Machine}
 use Rattle.run_state.specs.declared.machine.Open.{Open}
 use Rattle.run_state.specs.declared.machine.Stage.{Stage}
-use Rattle.run_state.specs.declared.watch.Begun.{Begun as Shown}
 use Rattle.run_state.specs.Operands.{operand_in}
 use Rattle.run_answers.specs.declared.pick.Pick.{Pick}
 use Rattle.run_answers.specs.declared.pick.Pick.TheVariants as pick
 use Rattle.run_answers.specs.Ending.{EndsFrame, GoesBack, NotesIn, NotesWay, depth_without}
-use Rattle.run_answers.specs.Keeping.{
-  BeginsExpression,
-  EndsTop,
-  FillsObjects,
-  GoesFurther,
-  KeepsControl,
-  KeepsFrames,
-  KeepsPick,
-  KeepsStep,
-  ResultAfter,
-  ResultBehind,
-  StaysClosed,
-  StaysSo,
-  begins,
-  ends,
-  machine_with,
-  stays,
-}
+use Rattle.run_answers.specs.Keeping.{EndsTop, FillsObjects, GoesFurther, KeepsControl, KeepsFrames, KeepsPick, KeepsStep, ResultAfter, ResultBehind, StaysClosed, StaysSo, begins, ends, machine_with, stays}
 use Rattle.run_answers.specs.Picks.{IsOfEvent}
 use Rattle.run_answers.specs.Settling.{HasSelected, HasUsed}
 use Rattle.run_machine.proofs.Aside.{operand_aside}

@@ -75,7 +75,6 @@ use Rattle.run_control.specs.declared.work.Work.{Work}
 use Rattle.run_control.specs.Stacked.{Stacked}
 use Rattle.run_control.specs.View.{Meaning, block_of, is_nothing, todo_of}
 use Rattle.run_layout.specs.declared.steps.BlockCode.{BlockCode}
-use Rattle.run_acts.proofs.Keeping.{values_stay}
 use Rattle.run_state.specs.declared.halt.Halt.{Halt}
 use Rattle.run_state.specs.declared.halt.Halt.TheVariants as halt
 use Rattle.run_state.specs.declared.machine.Machine.{Machine}

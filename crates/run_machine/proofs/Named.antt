@@ -1,6 +1,5 @@
 -- An event that is named is taken from a machine that stands for what the one before stood for.
-use Rattle.std.proofs.Common.{◌≡◌, ◌+◌, ◌-◌, ◌^◌, ◌⊎◌, min, ℕ, Bool, true, false, refl, sym, ap, ◌∙◌, subst, inl, inr, List, [], Option, Some, None, Result, Err}
-use Rattle.std.specs.Borrow.{Bor}
+use Rattle.std.proofs.Common.{◌≡◌, ◌⊎◌, Bool, true, false, refl, sym, ap, ◌∙◌, subst, inl, inr, List, [], Some, Result, Err}
 use Rattle.ub_base.specs.declared.names.Item.{Item}
 use Rattle.c_typed.specs.declared.tree.Place.{Place}
 use Rattle.run_layout.specs.declared.steps.Due.{Due}

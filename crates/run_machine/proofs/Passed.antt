@@ -26,7 +26,6 @@ use Rattle.c_model.specs.Steps.{Begun, Scene, auto_name, object_at, pass_all}
 use Rattle.c_model.specs.Values.{Value, Nothing, address_after}
 use Rattle.c_model.specs.World.{World}
 use Rattle.run_acts.specs.Views.{value_in}
-use Rattle.run_acts.proofs.Keeping.{values_stay}
 use Rattle.run_layout.specs.declared.steps.ObjectCode.{ObjectCode}
 use Rattle.run_layout.specs.declared.steps.StoreCode.{StoreCode}
 use Rattle.run_control.specs.View.{Meaning}

@@ -1,7 +1,6 @@
 -- A clause is raised of the event that was taken, and of a node in its line.
-use Rattle.std.proofs.Common.{◌≡◌, ◌+◌, ◌-◌, ◌^◌, min, ℕ, refl, sym, ap, ◌∙◌, subst, Option, Some, None, Result, Ok, Err, true}
+use Rattle.std.proofs.Common.{◌≡◌, ℕ, refl, sym, ap, ◌∙◌, subst, Option, Some, None, Result, Ok, Err}
 use Rattle.std.specs.Borrow.{Bor}
-use Rattle.ub_base.specs.declared.clause.Clause.{Clause}
 use Rattle.ub_base.specs.declared.names.Event.{Event}
 use Rattle.c_typed.specs.declared.tree.Place.{Place}
 use Rattle.c_model.specs.Runs.{State, chosen_pick, canonical_pick}
@@ -17,11 +16,9 @@ use Rattle.run_listing.specs.Along.{place_of}
 use Rattle.run_state.specs.declared.halt.Halt.{Halt}
 use Rattle.run_state.specs.declared.halt.Halt.TheVariants as halt
 use Rattle.run_state.specs.declared.machine.Machine.{Machine}
-use Rattle.run_state.specs.declared.machine.Stage.{Stage}
 use Rattle.run_state.specs.Stands.{Stands}
 use Rattle.run_answers.specs.declared.pick.Pick.{Pick}
-use Rattle.run_answers.specs.declared.pick.Pick.TheVariants as pick
-use Rattle.run_answers.specs.Picks.{ComesNext, Follows, TakesCanonical, event_at, top_of}
+use Rattle.run_answers.specs.Picks.{Follows, TakesCanonical, event_at, top_of}
 use Rattle.run_answers.specs.Raising.{IsRaisedNext, RaisesAt, RaisesNext}
 use Rattle.run_answers.specs.Taking.{FollowsEvent}
 use Rattle.run_machine.proofs.Onward.{came_next, ev_place}

@@ -1,5 +1,5 @@
 -- Rows of objects stay where a body starts a frame, and along the canonical way.
-use Rattle.std.proofs.Common.{◌≡◌, ◌⊎◌, inl, inr, ℕ, refl, sym, ap, ◌∙◌, subst, List, [], Option, Some, None, Result, Ok, Err}
+use Rattle.std.proofs.Common.{◌≡◌, ◌⊎◌, inl, inr, ℕ, sym, ap, ◌∙◌, subst, List, [], Option, Some, None, Result, Ok, Err}
 use Rattle.std.specs.Borrow.{Bor}
 use Rattle.ub_base.specs.declared.names.Event.{Event}
 use Rattle.ub_base.specs.declared.names.Item.{Item}
@@ -11,7 +11,6 @@ use Rattle.program_view.specs.Laws.{TreesAreKept}
 use Rattle.run_control.specs.View.{Meaning}
 use Rattle.run_layout.specs.declared.steps.Act.TheVariants as act
 use Rattle.run_layout.specs.declared.steps.Due.{Due}
-use Rattle.run_layout.specs.declared.steps.Expression.{Expression}
 use Rattle.run_listing.specs.Along.{place_of}
 use Rattle.run_listing.specs.Cursor.{StandsAtStart}
 use Rattle.run_state.specs.declared.halt.Halt.{Halt}
@@ -29,7 +28,7 @@ use Rattle.run_answers.specs.Opens.{Opens, OpensInitializer}
 use Rattle.run_answers.specs.declared.pick.Pick.{Pick}
 use Rattle.run_answers.specs.declared.pick.Pick.TheVariants as pick
 use Rattle.run_answers.specs.Picks.{Follows, FollowsCanonical, NextIsPermitted, TakesCanonical, top_of}
-use Rattle.run_answers.specs.Rows.{GrowsAt, GrowsByControl, GrowsNext, KeepsAnswered, KeepsRows, KeepsTaken}
+use Rattle.run_answers.specs.Rows.{GrowsAt, GrowsByControl, GrowsNext, KeepsAnswered, KeepsRows}
 use Rattle.run_answers.specs.Starting.{MayCall, MayStart}
 use Rattle.run_answers.specs.Taking.{past_event, untouched}
 use Rattle.run_answers.proofs.Answered.{staged_so}
@@ -38,7 +37,7 @@ use Rattle.run_machine.proofs.Callees as callees
 use Rattle.run_answers.proofs.Finished.{control_first, no_event}
 use Rattle.run_machine.proofs.LibraryNext as called
 use Rattle.run_machine.proofs.Onward as onward
-use Rattle.run_machine.proofs.RowsStand.{answered_then, rows_answered, rows_same, taken_then}
+use Rattle.run_machine.proofs.RowsStand.{answered_then, rows_same, taken_then}
 use Rattle.run_answers.proofs.Staying.{cleared_goes, cleared_stands, followed}
 
 -- ---- the body of an isolated initializer

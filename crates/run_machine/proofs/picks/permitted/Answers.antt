@@ -6,7 +6,6 @@ use Rattle.run_layout.specs.declared.whole.Code.{Code}
 use Rattle.run_listing.specs.Along.{part_of, IsListed}
 use Rattle.run_state.specs.declared.machine.Machine.{Machine}
 use Rattle.run_answers.specs.Picks.{ComesNext, Decides, Permits, Strays}
-use Rattle.run_answers.specs.Straying.{Reaches}
 use Rattle.run_answers.proofs.Parts.{named_listed}
 use Rattle.run_machine.proofs.Picked.{strays_code}
 use Rattle.run_machine.proofs.picks.permitted.Goals as goal

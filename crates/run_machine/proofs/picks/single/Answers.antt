@@ -1,4 +1,4 @@
-use Rattle.std.proofs.Common.{rules, ◌≡◌, sym, Option, Some, Result, Ok, Err, subst}
+use Rattle.std.proofs.Common.{rules, ◌≡◌, sym, Err, subst}
 use Rattle.std.specs.Option.{IfSome}
 use Rattle.run_answers.specs.Straying.{Reaches, TakesFrom, TakesSo}
 use Rattle.run_machine.proofs.Named.{promised_of, taken_from, taken_or_wanted}
