@@ -30,8 +30,8 @@ use Rattle.canonical_laws.specs.Listed.{event_of}
 use Rattle.canonical_laws.proofs.Steps.{step_raises}
 use Rattle.core_run.proofs.Rows.{event_next, may_go_on}
 
-same_entry : (a b : Entry) (as bs : List Entry) → a ∷ as ≡ b ∷ bs → a ≡ b
-same_entry a b as bs q = cc
+same_entry : (a b : Entry) (before after : List Entry) → a ∷ before ≡ b ∷ after → a ≡ b
+same_entry a b before after q = cc (q)
 
 module _ (asked : EventIsAsked) (goes : ControlGoesOn) (asks : ArgumentsAreAsked) (world : World) (p : Program) (numbers : Numbers) (old new : Machine)
     (st : State) (n : ℕ) (a : IsAlong world p numbers old st n) (few : suc n < 2 ^ 32) (extends : Extends old.memory.rows world.rows)
@@ -74,8 +74,8 @@ module _ (asked : EventIsAsked) (goes : ControlGoesOn) (asks : ArgumentsAreAsked
   by_pick : GrowsNext old new answer → RaisesNext old answer → (q : Model_pick) → canonical_pick world st.top st.top.begun ≡ q → (e : Entry)
       → step world st q ≡ Raises clause (e ∷ st.trace) → IsOfRaise e
   by_pick g raises Control is e so =
-      absurd ((g.steps world (meaning_of p numbers old.code.now) st a.going.stands
-      (may_go_on asked goes asks world p numbers old st n a few apart is)).1)
+      absurd (g.steps world (meaning_of p numbers old.code.now) st a.going.stands
+      (may_go_on asked goes asks world p numbers old st n a few apart is))
   by_pick g raises (Ev u) is e so =
       let q = event_next asked goes asks world p numbers old st n a few extends u is in
       let r = raises world (meaning_of p numbers old.code.now) st u a.going.stands is in

@@ -1,10 +1,9 @@
 -- The rows of the memories of a run: they keep the rules of an address map, and only grow.
-use Rattle.std.proofs.Common.{◌≡◌, ◌≤◌, ◌<◌, ◌+◌, ◌^◌, ℕ, suc, arith, refl, sym, ap, subst, List, [], ◌∷◌, Result, Ok, Err}
+use Rattle.std.proofs.Common.{◌≡◌, ◌<◌, ◌^◌, ℕ, suc, arith, refl, sym, ap, subst, List, [], ◌∷◌, Result, Ok, Err}
 use Rattle.std.specs.List.{All}
 use Rattle.std.proofs.lemmas.List.Elements.{All-cons, All-nil}
 use Rattle.ub_base.specs.Frames.{Path, Row as Started_frame}
 use Rattle.addr_map.specs.declared.map.Row.{Row}
-use Rattle.addr_map.specs.Rows.{is_lawful}
 use Rattle.addr_map.specs.Sound.{AreApart, IsMap}
 use Rattle.addr_map.proofs.RowLists.{end_of_lawful}
 use Rattle.c_typed.specs.declared.program.Program.{Program}
@@ -24,7 +23,7 @@ use Rattle.run_state.specs.Operands.{AreAddresses}
 use Rattle.run_answers.specs.declared.pick.Pick.{Pick}
 use Rattle.run_answers.specs.declared.pick.Pick.TheVariants as pick
 use Rattle.run_answers.specs.Answering.{MayGoOn}
-use Rattle.run_answers.specs.Rows.{GrowsNext, KeepsAnswered}
+use Rattle.run_answers.specs.Rows.{GrowsNext, KeepsAnswered, KeepsTaken}
 use Rattle.code_view.specs.Numbering.{meaning_of}
 use Rattle.value_facts.specs.Small.{EndInTime}
 use Rattle.control_laws.specs.Asked.{ArgumentsAreAsked}
@@ -85,6 +84,14 @@ ends_over extend p strings input before after output frames placed ran map some 
     some.2 rows number (fits_suits extend some.0 placed frames rows number map some.1 fits)
 
 -- ---- a canonical pick
+-- a control step raises no clause
+kept_by_step : (old new : Machine) (r : Result Pick Halt) → KeepsTaken old new r → KeepsAnswered old new r
+kept_by_step old new (Ok t) k = k
+kept_by_step old new (Err (halt.Raised event line clause)) k = absurd k
+kept_by_step old new (Err (halt.Over cause number)) k = k
+kept_by_step old new (Err halt.Unplaced) k = k
+kept_by_step old new (Err halt.NoMemory) k = tt
+
 module _ (asked : EventIsAsked) (goes : ControlGoesOn) (asks : ArgumentsAreAsked) (world : World) (p : Program) (numbers : Numbers) (old : Machine)
     (st : State) (n : ℕ) (a : IsAlong world p numbers old st n) (few : suc n < 2 ^ 32) where
   -- a control step may be taken, and so may an event
@@ -119,7 +126,7 @@ module _ (asked : EventIsAsked) (goes : ControlGoesOn) (asks : ArgumentsAreAsked
         by (library b may) = g.libraries world (meaning_of p numbers old.code.now) st q.expression q.stage q.laid u may is
 
     pub rows_stay : (q : Model_pick) → canonical_pick world st.top st.top.begun ≡ q → KeepsAnswered old new r
-    rows_stay Control is = (g.steps world (meaning_of p numbers old.code.now) st a.going.stands (may_go_on apart is)).0
+    rows_stay Control is = kept_by_step old new r (g.steps world (meaning_of p numbers old.code.now) st a.going.stands (may_go_on apart is))
     rows_stay (Ev u) is = by_event u is (event_next extends u is)
 
 -- ---- so it is of each pick of a run

@@ -1,5 +1,5 @@
 -- A run tells the picks of the canonical order of its program, each with its items, and ends as the definitions of runs say (own).
-use Rattle.std.specs.Prelude.{◌≡◌, ◌⊎◌, ◌+◌, ◌-◌, ◌<◌, ℕ, suc, List, ◌∷◌, Option, Some, None, slice_get}
+use Rattle.std.specs.Prelude.{◌≡◌, ◌⊎◌, ◌+◌, ◌-◌, ◌<◌, ℕ, suc, List, [], ◌∷◌, Option, Some, None, slice_get}
 use Rattle.std.specs.List.{All}
 use Rattle.ub_base.specs.declared.clause.Clause.{Clause}
 use Rattle.ub_base.specs.declared.names.Event.{Event}

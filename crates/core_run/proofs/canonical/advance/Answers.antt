@@ -55,7 +55,8 @@ returns-in-On-clause-canonical g c = λ p strings input numbers before earlier a
 
 pub returns-in-Err-clause-canonical : goal.returns-in-Err-clause-canonical
 returns-in-Err-clause-canonical g c = λ p strings input numbers before earlier at.
-    ends_by c.law_along.ensures c.law_event_asked.ensures c.law_control.ensures c.law_entered_arguments.ensures p strings input numbers before (g.W.Watch.heard c.args.watch.now) c.args.machine.now c.canonical.new.machine c.args.picks
+    ends_by c.law_along.ensures c.law_event_asked.ensures c.law_control.ensures c.law_entered_arguments.ensures p strings input numbers before
+    (g.W.Watch.heard c.args.watch.now) c.args.machine.now c.canonical.new.machine c.args.picks
     c.args.frames.now earlier at (omega (arith, c.requires.few)) c.in-Err.halt c.in_ok-ended_by-in-Err.field-0
     (subst (AnswersAll c.args.machine.now c.canonical.new.machine) c.in-Err.is (record {
       takes = c.canonical.ensures.takes;
