@@ -1,5 +1,5 @@
 -- Two events of one node don't conflict, but for those of an assignment or a list.
-use Rattle.std.proofs.Common.{◌≡◌, ◌⊎◌, inl, inr, ⊎_elim, ℕ, ◌+◌, ◌*◌, ◌<◌, ◌≤◌, nat_lt, ◌==◌, Bool, true, false, not, ◌&&◌, ◌||◌, if◌then◌else◌, List, []}
+use Rattle.std.proofs.Common.{◌≡◌, ◌⊎◌, inl, inr, ⊎_elim, ℕ, ◌<◌, ◌==◌, Bool, true, false, not, ◌&&◌, ◌||◌, List, []}
 use Rattle.std.proofs.Common.{Some, refl, sym, ap, ap₂, subst, ◌∙◌, true≢false, arith}
 use Rattle.std.proofs.lemmas.Bool.Decides.{nat_tests}
 use Rattle.ub_base.specs.declared.clause.Kind.{Kind}
@@ -12,7 +12,7 @@ use Rattle.c_typed.specs.declared.class.Class.{Class}
 use Rattle.c_typed.specs.declared.class.Class.TheVariants.{Object, Constant, Plain, Store, Update, Choice, Comma, Call, Isolated}
 use Rattle.c_typed.specs.Tree.{Tree, Trees, node, size, kinds_of}
 use Rattle.c_typed.specs.Order.{Taken, is_body, is_due, own_rule, place}
-use Rattle.c_typed.specs.Decide.{due_in, has_kind, is_before}
+use Rattle.c_typed.specs.Decide.{has_kind, is_before}
 use Rattle.c_model.specs.Findings.{accesses}
 use Rattle.c_model.specs.FirstFinding.{are_apart, quarrels, races}
 use Rattle.c_model.specs.Keys.{kind_key}
