@@ -1,5 +1,5 @@
 -- What an audit that was judged or stopped has for a cause.
-use Rattle.std.proofs.Common.{◌≡◌, sym, subst}
+use Rattle.std.proofs.Common.{◌≡◌, sym, subst, Option}
 use Rattle.audit_sources.specs.declared.fetch.FetchFault.{FetchFault}
 use Rattle.audit_sources.specs.declared.fetch.FetchFault.TheVariants as Fault
 use Rattle.command.specs.declared.request.AuditRequest.{AuditRequest}

@@ -10,13 +10,6 @@ use footprint_run::{Audit, Finding};
 use std::alloc::Global;
 use ub_base::{Clause, Event, Item, Kind, NoMemory, ObjName};
 
-/// The two acts of a finding.
-#[derive(Clone, Copy)]
-pub struct Acts<'c> {
-    pub first: Option<Act<'c>>,
-    pub second: Option<Act<'c>>,
-}
-
 fn course_of<'a>(asked: &Asked<'a>) -> Course<'a> {
     Course {
         input: asked.input,
@@ -203,11 +196,12 @@ pub fn look_again(
     asked: &Asked<'_>,
     core: &CoreProgram<'_>,
     audit: &Audit,
-    acts: &Acts<'_>,
+    first: &Option<Act<'_>>,
+    second: &Option<Act<'_>>,
     looked: &mut Looked,
 ) -> Result<(), NoMemory> {
     looked.look(alloc, asked, core, audit, events_of(&audit.finding))?;
-    match turned_by(&audit.finding, &acts.first, &acts.second) {
+    match turned_by(&audit.finding, first, second) {
         Some(before) => looked.both.see(alloc, asked, core, &before),
         None => Ok(()),
     }

@@ -1,12 +1,9 @@
 // The explanation of a verdict.
 ghost use Rattle.std.specs.Prelude.{◌≤◌, ◌^◌, length};
 
-use crate::again::{Acts, Both, Looked, look_again};
+use crate::again::{Both, Looked, look_again};
 use crate::asked::Asked;
 use crate::found::{events_of, verdict_of};
-use c_lex::Tokens;
-use c_typed::{Program, Typed};
-use core_ir::CoreProgram;
 use elaborate::{elaborate, roots_of};
 use explain_case::{Case, Words, first_act, library_call, second_act};
 use explain_facts::{Events, Found, Outcome};
@@ -137,173 +134,72 @@ fn put_unlexed(
     }
 }
 
-// The text of a run: its page, its program, the terms and the full expressions of that.
-#[derive(Clone, Copy)]
-struct Text<'c, 'a> {
-    page: &'c Page<'c, 'a>,
-    program: &'c Program,
-    core: &'c CoreProgram<'c>,
-    roots: &'c [&'c Typed],
-}
-
-// Adds the explanation of what was found of a run, and looked at again.
-fn put_looked<'c, 'a>(
-    alloc: Global,
-    out: &mut Bytes,
-    request: &Request<'a>,
-    text: &Text<'c, 'a>,
-    audit: &'c Audit,
-    acts: &Acts<'c>,
-    looked: &'c Looked,
-) -> Result<(), NoMemory> {
-    let call = library_call(
-        text.page,
-        &audit.frames,
-        looked.moment.open.as_slice(),
-        text.roots,
-        acts.first,
-    );
-    let case = Case {
-        words: words_of(&request.asked),
-        page: text.page,
-        program: text.program,
-        roots: text.roots,
-        found: found_of(audit, events_of(&audit.finding)),
-        moment: &looked.moment,
-        trail: &looked.trail,
-        target: &looked.target,
-        origin: &looked.origin,
-        first: acts.first,
-        second: acts.second,
-        call,
-        both: shown_both(&looked.both),
-    };
-    put_found(alloc, out, request, &case)
-}
-
-// Adds the explanation of a run with its finding.
-fn put_audited<'c, 'a>(
-    alloc: Global,
-    out: &mut Bytes,
-    request: &Request<'a>,
-    text: &Text<'c, 'a>,
-    audit: &'c Audit,
-) -> Result<(), NoMemory> {
-    let events = events_of(&audit.finding);
-    let acts = Acts {
-        first: first_act(text.page, text.roots, events),
-        second: second_act(text.page, text.roots, events),
-    };
-    let mut looked = Looked::new(alloc);
-    match look_again(alloc, &request.asked, text.core, audit, &acts, &mut looked) {
-        Ok(()) => put_looked(alloc, out, request, text, audit, &acts, &looked),
-        Err(NoMemory) => Err(NoMemory),
-    }
-}
-
-// Adds the explanation of the run of a text.
-fn put_run(
-    alloc: Global,
-    out: &mut Bytes,
-    request: &Request<'_>,
-    text: &Text<'_, '_>,
-) -> Result<(), NoMemory>
-    requires { request.now.asked.steps ≤ 100000000 }
+// Adds the explanation in this form. All that a case holds is made here: its references stand at one lifetime.
+fn put_explanation(alloc: Global, out: &mut Bytes, request: &Request<'_>) -> Result<(), NoMemory>
+    requires text { length request.now.asked.text.now ≤ 2 ^ 20 }
+    requires steps { request.now.asked.steps ≤ 100000000 }
 {
     let asked = &request.asked;
+    let tokens = match tokens_of(alloc, asked.text) {
+        Ok(tokens) => tokens,
+        Err(Refused::NoMemory) => return Err(NoMemory),
+        Err(refused) => return put_unlexed(alloc, out, request, refused),
+    };
+    let tags = tags_of(alloc, &tokens)?;
+    let page = Page {
+        text: asked.text,
+        file: asked.file,
+        tokens: &tokens,
+        tags: tags.as_slice(),
+        written: asked.written,
+    };
+    let program = match program_of(alloc, &tokens) {
+        Ok(program) => program,
+        Err(Refused::NoMemory) => return Err(NoMemory),
+        Err(refused) => {
+            let refusal = refusal_of(&page, refused);
+            return put_refused(alloc, out, request, &page, refusal);
+        }
+    };
+    let core = elaborate(alloc, &program)?;
     let audit = audit_run(
         alloc,
-        text.core,
+        &core,
         asked.input,
         asked.args,
         asked.mode,
         asked.steps,
         &mut Quiet,
     )?;
-    put_audited(alloc, out, request, text, &audit)
-}
-
-// Adds the explanation of the run of a program with these terms.
-fn put_terms<'c, 'a>(
-    alloc: Global,
-    out: &mut Bytes,
-    request: &Request<'a>,
-    page: &'c Page<'c, 'a>,
-    program: &'c Program,
-    core: &'c CoreProgram<'c>,
-) -> Result<(), NoMemory>
-    requires { request.now.asked.steps ≤ 100000000 }
-{
-    let roots = roots_of(alloc, program)?;
-    let text = Text {
-        page,
-        program,
-        core,
+    let roots = roots_of(alloc, &program)?;
+    let events = events_of(&audit.finding);
+    let first = first_act(&page, roots.as_slice(), events);
+    let second = second_act(&page, roots.as_slice(), events);
+    let mut looked = Looked::new(alloc);
+    look_again(alloc, asked, &core, &audit, &first, &second, &mut looked)?;
+    let call = library_call(
+        &page,
+        &audit.frames,
+        looked.moment.open.as_slice(),
+        roots.as_slice(),
+        first,
+    );
+    let case = Case {
+        words: words_of(asked),
+        page: &page,
+        program: &program,
         roots: roots.as_slice(),
+        found: found_of(&audit, events),
+        moment: &looked.moment,
+        trail: &looked.trail,
+        target: &looked.target,
+        origin: &looked.origin,
+        first,
+        second,
+        call,
+        both: shown_both(&looked.both),
     };
-    put_run(alloc, out, request, &text)
-}
-
-// Adds the explanation of the run of a program.
-fn put_program<'c, 'a>(
-    alloc: Global,
-    out: &mut Bytes,
-    request: &Request<'a>,
-    page: &'c Page<'c, 'a>,
-    program: &'c Program,
-) -> Result<(), NoMemory>
-    requires { request.now.asked.steps ≤ 100000000 }
-{
-    let core = elaborate(alloc, program)?;
-    put_terms(alloc, out, request, page, program, &core)
-}
-
-// Adds the explanation of a page.
-fn put_page<'a>(
-    alloc: Global,
-    out: &mut Bytes,
-    request: &Request<'a>,
-    page: &Page<'_, 'a>,
-) -> Result<(), NoMemory>
-    requires { request.now.asked.steps ≤ 100000000 }
-{
-    match program_of(alloc, page.tokens) {
-        Ok(program) => put_program(alloc, out, request, page, &program),
-        Err(Refused::NoMemory) => Err(NoMemory),
-        Err(refused) => put_refused(alloc, out, request, page, refusal_of(page, refused)),
-    }
-}
-
-// Adds the explanation of a text with these tokens.
-fn put_read<'a>(
-    alloc: Global,
-    out: &mut Bytes,
-    request: &Request<'a>,
-    tokens: &Tokens<'a>,
-) -> Result<(), NoMemory>
-    requires { request.now.asked.steps ≤ 100000000 }
-{
-    let tags = tags_of(alloc, tokens)?;
-    let page = Page {
-        text: request.asked.text,
-        file: request.asked.file,
-        tokens,
-        tags: tags.as_slice(),
-        written: request.asked.written,
-    };
-    put_page(alloc, out, request, &page)
-}
-
-// Adds the explanation in this form.
-fn put_explanation(alloc: Global, out: &mut Bytes, request: &Request<'_>) -> Result<(), NoMemory>
-    requires text { length request.now.asked.text.now ≤ 2 ^ 20 }
-    requires steps { request.now.asked.steps ≤ 100000000 }
-{
-    match tokens_of(alloc, request.asked.text) {
-        Ok(tokens) => put_read(alloc, out, request, &tokens),
-        Err(Refused::NoMemory) => Err(NoMemory),
-        Err(refused) => put_unlexed(alloc, out, request, refused),
-    }
+    put_found(alloc, out, request, &case)
 }
 
 /// The explanation in words: lines of text, the last one ended too.
