@@ -1,9 +1,10 @@
 -- What an audit that was judged or stopped has for a cause.
-use Rattle.std.proofs.Common.{◌≡◌, sym, subst, Option}
+use Rattle.std.proofs.Common.{◌≡◌, ℕ, List, Option, None, sym, subst}
+use Rattle.ub_base.specs.Held.{Held}
 use Rattle.audit_sources.specs.declared.fetch.FetchFault.{FetchFault}
 use Rattle.audit_sources.specs.declared.fetch.FetchFault.TheVariants as Fault
 use Rattle.command.specs.declared.request.AuditRequest.{AuditRequest}
-use Rattle.audit_verdict.specs.Cause.{AuditCause, Disk, IsJudged, IsStopped, stopped}
+use Rattle.audit_verdict.specs.Cause.{AuditCause, Disk, IsJudged, IsStopped, Leaves, stopped}
 use Rattle.audit_verdict.specs.declared.answer.Answer.{Answer}
 use Rattle.audit_verdict.specs.declared.answer.Answer.TheVariants.{
   Clean,
