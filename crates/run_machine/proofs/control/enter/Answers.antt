@@ -36,5 +36,5 @@ pub returns-in_err-create_objects-clause-streams : goal.returns-in_err-create_ob
 returns-in_err-create_objects-clause-streams c =
     let p = err_from_is_err_and c.from_residual-in_err-create_objects.result c.from_residual-in_err-create_objects.ensures.1 in
     let m = c.args.machine.now in
-    streams_handed m (record m { entered = c.args.number; top = record m.top { turn = c.saturating_add-machine.result } }) c.create_objects.new.machine c.from_residual-in_err-create_objects.result
-    p.0 _ p.1 p.2 refl c.in_err-create_objects.ensures.streams
+    streams_handed m (record m { entered = c.args.number; top = record m.top { turn = c.saturating_add-machine.result } })
+    c.create_objects.new.machine c.from_residual-in_err-create_objects.result p.0 _ p.1 p.2 refl c.in_err-create_objects.ensures.streams
