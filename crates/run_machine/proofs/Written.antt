@@ -33,8 +33,8 @@ streams_then a b c (Err halt.NoMemory) first second = tt
 
 -- where memory alone may be wanted
 pub streams_none : {A : Type 0} (m n : Machine) (r : Result A Halt) → KeepsMemory m n r → KeepsStreams m n r
-streams_none m n (Ok x) is = tt
-streams_none m n (Err h) is = subst (λ (k : Halt). KeepsStreams m n (Err k)) (sym is) tt
+streams_none {A} m n (Ok x) is = tt
+streams_none {A} m n (Err h) is = subst (λ (k : Halt). KeepsStreams {A = A} m n (Err k)) (sym is) tt
 
 -- what is answered there is handed on
 pub streams_err : {A B : Type 0} (m n : Machine) (h : Halt) → KeepsStreams {A = A} m n (Err h) → KeepsStreams {A = B} m n (Err h)
@@ -45,8 +45,8 @@ streams_err m n halt.NoMemory is = tt
 
 pub streams_handed : {A B : Type 0} (a b n : Machine) (r : Result B Halt) (y e : Halt) → r ≡ Err y → y ≡ e → b.streams ≡ a.streams
     → KeepsStreams {A = A} b n (Err e) → KeepsStreams a n r
-streams_handed a b n r y e fails fault first is =
-    subst (λ q. KeepsStreams a n q) (sym (fails ∙ ap Err fault)) (streams_then a b n (Err e) first (streams_err b n e is))
+streams_handed {A} {B} a b n r y e fails fault first is =
+    subst (λ (q : Result B Halt). KeepsStreams a n q) (sym (fails ∙ ap Err fault)) (streams_then a b n (Err e) first (streams_err b n e is))
 
 -- ---- an object is created
 one_created : (a m n : Machine) (o : ObjectCode) (first k : ℕ) (h : Halt) → CreatesOne m o first k n (Err h) → KeepsStreams {A = Unit {0}} a n (Err h)

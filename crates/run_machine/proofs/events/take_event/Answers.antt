@@ -233,14 +233,14 @@ returns-in-Err-clause-rows c = record {
 
 pub returns-in-Ok-Done-clause-streams : goal.returns-in-Ok-Done-clause-streams
 returns-in-Ok-Done-clause-streams c =
-    finished_streams c.args.machine.now _ _ _ _ _ c.finish_event.new.machine c.finish_event.result c.finish_event.ensures.follows
+    finished_streams c.args.machine.now _ _ _ c.args.due.now _ c.finish_event.new.machine c.finish_event.result c.finish_event.ensures.follows
 
 pub returns-in-Ok-Started-clause-streams : goal.returns-in-Ok-Started-clause-streams
 returns-in-Ok-Started-clause-streams c = tt
 
 pub returns-in-Ok-End-clause-streams : goal.returns-in-Ok-End-clause-streams
 returns-in-Ok-End-clause-streams c =
-    finished_streams c.args.machine.now _ _ _ _ _ c.finish_event-in-Ok-End.new.machine c.finish_event-in-Ok-End.result
+    finished_streams c.args.machine.now _ _ _ c.args.due.now _ c.finish_event-in-Ok-End.new.machine c.finish_event-in-Ok-End.result
     c.finish_event-in-Ok-End.ensures.follows
 
 pub returns-in-Err-clause-streams : goal.returns-in-Err-clause-streams
