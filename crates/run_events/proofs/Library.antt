@@ -423,7 +423,7 @@ written_so old mid new answer node r same t = by answer same t
     by (answers.Value v) same t = done outcome.Done t.0
     by (answers.End status) same t = done (outcome.End status) t.0
     by (answers.Raise c) same t = as_before (fault.Raise c) t.0 t.1 (same refl)
-    by (answers.Outside cause number) same t = as_before (fault.Over cause number) t.0 t.1 (same refl)
+    by (answers.Outside cause n) same t = as_before (fault.Over cause n) t.0 t.1 (same refl)
     by answers.Unplaced same t = as_before fault.Unplaced t.0 t.1 (same refl)
     by answers.NoMemory same t = as_before fault.NoMemory t.0 t.1 (same refl)
 
