@@ -4,7 +4,6 @@ use Rattle.c_types.specs.Types.{signature_of}
 use Rattle.c_model.specs.Steps.{function_of}
 use Rattle.run_acts.specs.Calls.{type_by}
 use Rattle.run_answers.specs.declared.fault.Fault.TheVariants as fault
-use Rattle.run_answers.specs.Calling.{type_of_call}
 use Rattle.run_answers.specs.Performs.{store_in}
 use Rattle.run_events.proofs.Called.{by_type, library_is, no_type, refused, runs_by, runs_found}
 use Rattle.run_events.proofs.frames.call.Goals as goal
