@@ -1,0 +1,217 @@
+-- Frames are left, up to one that is open.
+use Rattle.std.proofs.Common.{◌≡◌, ◌≢◌, ◌<◌, ◌≤◌, ◌+◌, ◌-◌, ◌⊎◌, inl, inr, ⊎_elim, ℕ, zero, suc, Bool, true, false, List, [], ◌∷◌, length, refl, ap, sym, subst, ◌∙◌}
+use Rattle.std.proofs.Common.{arith, Option, Some, None, ◌++◌, length-append, take}
+use Rattle.std.proofs.lemmas.List.{take-append-le, take_all}
+use Rattle.std.specs.Prelude.{slice_get, IfSome}
+use Rattle.std.proofs.lemmas.Option.{same_Some}
+use Rattle.ub_base.specs.declared.names.Frame.{Frame}
+use Rattle.ub_base.specs.declared.names.Item.{Item}
+use Rattle.run_evaluations.specs.Follows.{HasStarted}
+use Rattle.run_evaluations.specs.Scopes.{Scope}
+use Rattle.run_evaluations.specs.Told.{Opened, given, settled}
+use Rattle.evaluation_log.proofs.WholeLemmas.{get_seam}
+use Rattle.conflict_detector.specs.declared.frames.RecordedFrames.{RecordedFrames}
+use Rattle.conflict_detector.specs.Followed.{AreFollowed, names_of}
+use Rattle.conflict_detector.specs.Telling.{AreStarted, IsBare, IsOpen, IsReached, LeftTo, fresh}
+use Rattle.conflict_detector.specs.Telling.IsOpen as open
+use Rattle.conflict_detector.specs.Telling.LeftTo as leaving
+
+-- ---- lists of frames
+pub started_given : (body : Item → Bool) (u : Opened) (us : List Opened) → AreStarted (u ∷ us) → AreStarted (given body u ∷ us)
+started_given body u [] h = tt
+started_given body u (w ∷ ws) h = h
+
+pub started_below : (t : Opened) (ts : List Opened) → AreStarted (t ∷ ts) → AreStarted ts
+started_below t [] h = tt
+started_below t (u ∷ us) h = h.1
+
+pub open_given : (f : Frame) (body : Item → Bool) (u : Opened) (us : List Opened) → IsOpen f (u ∷ us) → IsOpen f (given body u ∷ us)
+open_given f body u us (open.top u us h) = open.top _ us h
+open_given f body u us (open.below u us h) = open.below _ us h
+
+pub open_below : (f : Frame) (t : Opened) (ts : List Opened) → IsOpen f (t ∷ ts) → t.frame ≢ f → IsOpen f ts
+open_below f t ts (open.top t ts h) other = absurd (other h)
+open_below f t ts (open.below t ts h) other = h
+
+none_open : (f : Frame) → IsOpen f [] → ⊥
+none_open f ()
+
+pub left_more : (f : Frame) (t u : Opened) (us os : List Opened) (body : Item → Bool) → LeftTo f (t ∷ u ∷ us) os → t.frame ≢ f →
+    LeftTo f (given body u ∷ us) os
+left_more f t u us os body leaving.stays other = leaving.left t u us body other leaving.stays
+left_more f t u us os body (leaving.left a b bs given_body ne h) other = leaving.left a b bs given_body ne (left_more f t u us _ body h other)
+
+-- ---- names
+pub count_names : (os : List Opened) → length (names_of os) ≡ length os
+count_names [] = refl
+count_names (t ∷ ts) = length-append (names_of ts) (t.frame ∷ []) ∙ (let e = count_names ts in omega (arith, e))
+
+pub top_name : (t : Opened) (ts : List Opened) → slice_get (names_of (t ∷ ts)) (length (names_of (t ∷ ts)) - 1) ≡ Some t.frame
+top_name t ts =
+    ap (slice_get (names_of (t ∷ ts))) (let e = length-append (names_of ts) (t.frame ∷ []) in omega (arith, e)) ∙ get_seam (names_of ts) t.frame
+
+pub pop_name : (t : Opened) (ts : List Opened) → take (length (names_of (t ∷ ts)) - 1) (names_of (t ∷ ts)) ≡ names_of ts
+pop_name t ts = ap (λ (n : ℕ). take n (names_of ts ++ (t.frame ∷ []))) (let e = length-append (names_of ts) (t.frame ∷ []) in omega (arith, e)) ∙
+    (take-append-le (length (names_of ts)) (names_of ts) (t.frame ∷ []) (omega arith) ∙ take_all (length (names_of ts)) (names_of ts) (omega arith))
+
+pub pop_names : (n : ℕ) (fs new : List Frame) (t : Opened) (ts : List Opened) → n ≡ length fs → fs ≡ names_of (t ∷ ts) → new ≡ take (n - 1) fs →
+    new ≡ names_of ts
+pop_names n fs new t ts len names popped =
+    popped ∙ (ap (λ (k : ℕ). take (k - 1) fs) len ∙ (ap (λ (gs : List Frame). take (length gs - 1) gs) names ∙ pop_name t ts))
+
+top_yes : (o : Option Frame) (g f : Frame) → o ≡ Some g → IfSome o (λ z. z ≡ f) → g ≡ f
+top_yes None g f h yes = absurd (cc)
+top_yes (Some z) g f h yes = sym (same_Some z g h) ∙ yes
+
+top_no : (o : Option Frame) (g f : Frame) → o ≡ Some g → IfSome o (λ z. z ≢ f) → g ≢ f
+top_no None g f h no = absurd (cc)
+top_no (Some z) g f h no = λ e. no (same_Some z g h ∙ e)
+
+abbrev top_of : RecordedFrames → Option Frame
+top_of r = slice_get r.names.items (length r.names.items - 1)
+
+top_is : (r : RecordedFrames) (t : Opened) (ts : List Opened) → AreFollowed (t ∷ ts) r → top_of r ≡ Some t.frame
+top_is r t ts h = ap (λ (fs : List Frame). slice_get fs (length fs - 1)) h.names ∙ top_name t ts
+
+pub is_named : (r : RecordedFrames) (t : Opened) (ts : List Opened) (f : Frame) → AreFollowed (t ∷ ts) r → IfSome (top_of r) (λ z. z ≡ f) → t.frame ≡ f
+is_named r t ts f h yes = top_yes (top_of r) t.frame f (top_is r t ts h) yes
+
+pub is_other : (r : RecordedFrames) (t : Opened) (ts : List Opened) (f : Frame) → AreFollowed (t ∷ ts) r → IfSome (top_of r) (λ z. z ≢ f) → t.frame ≢ f
+is_other r t ts f h no = top_no (top_of r) t.frame f (top_is r t ts h) no
+
+pub count_frames : (r : RecordedFrames) (os : List Opened) → AreFollowed os r → length r.names.items ≡ length os
+count_frames r os h = ap length h.names ∙ count_names os
+
+-- ---- up to a frame
+-- so many frames are left, and this one is open still
+pub record Leaves (f : Frame) (os : List Opened) (now : RecordedFrames) (left : ℕ) : Type 0 where
+  pub frames : List Opened
+  pub to : LeftTo f frames os
+  pub follows : AreFollowed frames now
+  pub open : IsOpen f frames
+  pub started : AreStarted frames
+  pub count : length frames + left ≡ length os
+
+abbrev pub Leaving : Frame → RecordedFrames → RecordedFrames → ℕ → Type 0
+Leaving f old now left = (os : List Opened) → AreFollowed os old → IsOpen f os → AreStarted os → Leaves f os now left
+
+pub leaves_none : (f : Frame) (o : RecordedFrames) → Leaving f o o 0
+leaves_none f o = λ os h in_it started. record { frames = os; to = leaving.stays; follows = h; open = in_it; started = started; count = omega arith }
+
+abbrev Gives : RecordedFrames → RecordedFrames → Type 0
+Gives now new = (t u : Opened) (us : List Opened) → AreFollowed (t ∷ u ∷ us) now → HasStarted u us → (body : Item → Bool) × AreFollowed (given body u ∷ us) new
+
+leaves_from : (f : Frame) (os frames : List Opened) (now new : RecordedFrames) (left : ℕ) → LeftTo f frames os → AreFollowed frames now → IsOpen f frames →
+    AreStarted frames → length frames + left ≡ length os → IfSome (top_of now) (λ z. z ≢ f) → Gives now new → Leaves f os new (left + 1)
+leaves_from f os [] now new left to h in_it started count no gives = absurd (none_open f in_it)
+leaves_from f os (t ∷ []) now new left to h in_it started count no gives = absurd (none_open f (open_below f t [] in_it (is_other now t [] f h no)))
+leaves_from f os (t ∷ u ∷ us) now new left to h in_it started count no gives =
+    let other = is_other now t (u ∷ us) f h no in
+    let g = gives t u us h started.0 in
+    record {
+      frames = given g.0 u ∷ us;
+      to = left_more f t u us os g.0 to other;
+      follows = g.1;
+      open = open_given f g.0 u us (open_below f t (u ∷ us) in_it other);
+      started = started_given g.0 u us started.1;
+      count = omega (arith, count);
+    }
+
+pub leaves_one : (f : Frame) (old now new : RecordedFrames) (left : ℕ) → Leaving f old now left → IfSome (top_of now) (λ z. z ≢ f) → Gives now new →
+    Leaving f old new (left + 1)
+leaves_one f old now new left before no gives = λ os h in_it started.
+    let b = before os h in_it started in
+    leaves_from f os b.frames now new left b.to b.follows b.open b.started b.count no gives
+
+reached_from : (f : Frame) (os frames : List Opened) (now : RecordedFrames) → LeftTo f frames os → AreFollowed frames now → IsOpen f frames →
+    AreStarted frames → IfSome (top_of now) (λ z. z ≡ f) → IsReached f os frames
+reached_from f os [] now to h in_it started yes = absurd (none_open f in_it)
+reached_from f os (t ∷ ts) now to h in_it started yes = record {
+  top = t;
+  below = ts;
+  is = refl;
+  name = is_named now t ts f h yes;
+  left = to;
+  started = started;
+}
+
+pub leaves_reach : (f : Frame) (old now : RecordedFrames) (left : ℕ) → Leaving f old now left → IfSome (top_of now) (λ z. z ≡ f) →
+    (os : List Opened) → AreFollowed os old → IsOpen f os → AreStarted os → (fs : List Opened) × IsReached f os fs × AreFollowed fs now
+leaves_reach f old now left before yes os h in_it started =
+    let b = before os h in_it started in
+    (b.frames, reached_from f os b.frames now b.to b.follows b.open b.started yes, b.follows)
+
+pub leaves_all : (f : Frame) (old now : RecordedFrames) (left : ℕ) → Leaving f old now left → left ≡ length old.names.items →
+    (os : List Opened) → AreFollowed os old → IsOpen f os → AreStarted os → ⊥
+leaves_all f old now left before all os h in_it started =
+    let b = before os h in_it started in
+    let n = b.count in
+    let m = count_frames old os h in
+    none_left f b.frames b.open (omega (arith, n, m, all))
+  where
+    none_left : (f : Frame) (fs : List Opened) → IsOpen f fs → length fs ≡ 0 → ⊥
+    none_left f [] in_it e = none_open f in_it
+    none_left f (t ∷ ts) in_it e = absurd (omega (arith, e))
+
+-- ---- up to the outermost frame
+pub record LeavesDown (os : List Opened) (now : RecordedFrames) (left : ℕ) : Type 0 where
+  pub frames : List Opened
+  pub follows : AreFollowed frames now
+  pub started : AreStarted frames
+  pub count : length frames + left ≡ suc (length os)
+
+abbrev pub LeavingDown : RecordedFrames → RecordedFrames → ℕ → Type 0
+LeavingDown old now left = (os : List Opened) → AreFollowed os old → AreStarted os → LeavesDown os now left
+
+pub down_none : (o : RecordedFrames) → LeavingDown o o 1
+down_none o = λ os h started. record { frames = os; follows = h; started = started; count = omega arith }
+
+down_from : (os frames : List Opened) (now new : RecordedFrames) (left : ℕ) → AreFollowed frames now → AreStarted frames →
+    length frames + left ≡ suc (length os) → left < length os → Gives now new → LeavesDown os new (left + 1)
+down_from os [] now new left h started count more gives = absurd (omega (arith, count, more))
+down_from os (t ∷ []) now new left h started count more gives = absurd (omega (arith, count, more))
+down_from os (t ∷ u ∷ us) now new left h started count more gives =
+    let g = gives t u us h started.0 in
+    record {
+      frames = given g.0 u ∷ us;
+      follows = g.1;
+      started = started_given g.0 u us started.1;
+      count = omega (arith, count);
+    }
+
+pub down_one : (old now new : RecordedFrames) (left : ℕ) → LeavingDown old now left → left < length old.names.items → Gives now new →
+    LeavingDown old new (left + 1)
+down_one old now new left before more gives = λ os h started.
+    let b = before os h started in
+    let m = count_frames old os h in
+    down_from os b.frames now new left b.follows b.started b.count (omega (arith, m, more)) gives
+
+-- the last one is settled
+abbrev pub Settles : RecordedFrames → RecordedFrames → Type 0
+Settles now new = (t : Opened) (ts : List Opened) → AreFollowed (t ∷ ts) now → AreFollowed (settled t ∷ ts) new
+
+abbrev pub IsEmpty : RecordedFrames → Type 0
+IsEmpty o = (m : Opened) × (m.done ≡ []) × AreFollowed (m ∷ []) o
+
+down_last : (frames : List Opened) (now new : RecordedFrames) → length frames ≡ 1 → AreFollowed frames now → Settles now new → IsEmpty new
+down_last [] now new e h settles = absurd (omega (arith, e))
+down_last (t ∷ []) now new e h settles = (settled t, refl, settles t [] h)
+down_last (t ∷ u ∷ us) now new e h settles = absurd (omega (arith, e))
+
+pub down_all : (old now new : RecordedFrames) (left : ℕ) → LeavingDown old now left → length old.names.items ≤ left → left ≤ length old.names.items ⊎ (left ≡ 1) →
+    Settles now new → (t : Opened) (ts : List Opened) → AreFollowed (t ∷ ts) old → AreStarted (t ∷ ts) → IsEmpty new
+down_all old now new left before low high settles t ts h started =
+    let b = before (t ∷ ts) h started in
+    let n = b.count in
+    let m = count_frames old (t ∷ ts) h in
+    down_last b.frames now new (⊎_elim (λ l. omega (arith, n, m, low, l)) (λ l. omega (arith, n, m, low, l)) high) b.follows settles
+
+-- ---- recording begins
+pub begins_in : (m : Opened) (f : Frame) (turn : ℕ) (s : Scope) (new : RecordedFrames) → m.frame ≡ f → AreFollowed (fresh m.frame turn s ∷ []) new →
+    (bottom : List Opened) × IsBare bottom × AreFollowed (fresh f turn s ∷ bottom) new
+begins_in m f turn s new e h = ([], tt, subst (λ (z : Frame). AreFollowed (fresh z turn s ∷ []) new) e h)
+
+pub started_bare : (t : Opened) (bottom : List Opened) → IsBare bottom → AreStarted (t ∷ bottom)
+started_bare t [] h = tt
+started_bare t (m ∷ []) h = (λ e. refl, tt)
+started_bare t (m ∷ n ∷ ms) h = absurd h

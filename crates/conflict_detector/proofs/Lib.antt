@@ -1,0 +1,6 @@
+mod Stands
+mod Pairs
+mod Leaving
+mod Rules
+mod Known
+mod Parts
