@@ -215,3 +215,14 @@ pub started_bare : (t : Opened) (bottom : List Opened) → IsBare bottom → Are
 started_bare t [] h = tt
 started_bare t (m ∷ []) h = (λ e. refl, tt)
 started_bare t (m ∷ n ∷ ms) h = absurd h
+
+-- the frame on top may change
+pub started_top : (t u : Opened) (ts : List Opened) → AreStarted (t ∷ ts) → AreStarted (u ∷ ts)
+started_top t u [] h = tt
+started_top t u (w ∷ ws) h = h
+
+-- with a frame open, all are left but the outermost one
+pub empty_after : (f : Frame) (os : List Opened) → IsOpen f os → (a b : RecordedFrames) →
+    ((t : Opened) (ts : List Opened) → AreFollowed (t ∷ ts) a → AreStarted (t ∷ ts) → IsEmpty b) → AreFollowed os a → AreStarted os → IsEmpty b
+empty_after f [] in_it a b closes h started = absurd (none_open f in_it)
+empty_after f (t ∷ ts) in_it a b closes h started = closes t ts h started

@@ -3,4 +3,7 @@ mod Pairs
 mod Leaving
 mod Rules
 mod Known
+mod Moved
+mod Sees
+mod Telling
 mod Parts

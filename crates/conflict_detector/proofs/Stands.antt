@@ -13,9 +13,11 @@ use Rattle.seq_order.specs.declared.relations.Relation.TheVariants.{Sequenced, U
 use Rattle.seq_order.specs.Marked.{taken_in}
 use Rattle.seq_order.specs.Relations.{relation_in}
 use Rattle.evaluation_log.specs.declared.found.Found.{Found}
+use Rattle.evaluation_log.specs.FoundItems.{counts_before, first_found}
+use Rattle.ub_base.specs.Frames.{Row as FrameRow}
 use Rattle.run_state.specs.declared.watch.Begun.{Begun}
 use Rattle.run_evaluations.specs.Told.{Opened}
-use Rattle.conflict_detector.specs.Apart.{place_of, IsApart, AreApart, Suits}
+use Rattle.conflict_detector.specs.Apart.{place_of, IsApart, AreApart, FoundApart, Suits}
 use Rattle.conflict_detector.specs.Shown.{IsShown, IsDuePair}
 
 pub found_at : (roots : List (Bor Typed)) (n : ℕ) (root : Bor Typed) (taken : Taken) (race : Bool) (event against : Event) → n < length roots →
@@ -71,3 +73,17 @@ stands_at roots b t f n root taken same_n same_taken there s p =
     stands_in t f (place_of f.event) (place_of f.against) (taken_in taken) (tree_of root.now)
     (s.taken ∙ ap taken_in (sym same_taken)) (s.tree ∙ ap tree_of typed)
     (subst (λ (z : Typed). size (tree_of z) < 2 ^ 32) typed s.small) p (sym (ap place_of p.event)) (sym (ap place_of p.against))
+
+-- of two that stand as they ask the one that counts does
+pub first_apart : (trees : List Tree) (rows : List FrameRow) (a b r : Option Found) → r ≡ first_found rows a b → FoundApart trees a → FoundApart trees b →
+    FoundApart trees r
+first_apart trees rows a b r e h g = subst (λ (z : Option Found). FoundApart trees z) (sym e) (of_two a b h g)
+  where
+    either : (c : Bool) (f k : Found) → FoundApart trees (Some f) → FoundApart trees (Some k) → FoundApart trees (if c then Some k else Some f)
+    either true f k h g = g
+    either false f k h g = h
+
+    of_two : (a b : Option Found) → FoundApart trees a → FoundApart trees b → FoundApart trees (first_found rows a b)
+    of_two None b h g = g
+    of_two (Some f) None h g = h
+    of_two (Some f) (Some k) h g = either (counts_before rows k f) f k h g

@@ -7,20 +7,15 @@ use Rattle.ub_base.specs.declared.names.Item.{Item}
 use Rattle.ub_base.specs.Frames.{Row as FrameRow}
 use Rattle.ub_base.specs.declared.clause.Kind.{Kind}
 use Rattle.ub_base.specs.declared.clause.Kind.TheVariants.{Body, Eff}
-use Rattle.addr_map.specs.declared.map.Row.{Row}
 use Rattle.c_typed.specs.declared.tree.Typed.{Typed}
-use Rattle.c_typed.specs.Tree.{tree_of}
 use Rattle.c_typed.specs.Order.{place}
 use Rattle.seq_order.specs.Marked.{taken_in}
 use Rattle.run_state.specs.declared.watch.Begun.{Begun}
 use Rattle.evaluation_log.specs.declared.found.Found.{Found}
 use Rattle.evaluation_search.specs.First.{IsFirst}
 use Rattle.quiet_trees.specs.Items.{is_noted}
-use Rattle.evaluation_log.specs.Sides.{last_in}
-use Rattle.run_evaluations.specs.First.{AreOfNode, AreOfOperands, IsConflictIn}
 use Rattle.run_evaluations.specs.Scopes.{Scope}
-use Rattle.run_evaluations.specs.Shows.{NoneOfNode}
-use Rattle.run_evaluations.specs.Told.{Evaluation, Opened, Grows, chosen_by, entered, evaluation, told}
+use Rattle.run_evaluations.specs.Told.{Opened, Grows, chosen_by, entered, evaluation, told}
 use Rattle.conflict_detector.specs.declared.detector.Detector.{Detector}
 use Rattle.conflict_detector.specs.declared.detector.Recording.{Recording}
 use Rattle.conflict_detector.specs.declared.detector.Recording.TheVariants.{Closes, Items, Event as Logs, Begins}
@@ -28,7 +23,7 @@ use Rattle.conflict_detector.specs.declared.seen.Seen.{Seen}
 use Rattle.conflict_detector.specs.Examined.{AreRight, IsNumbered, IsQuietRoot}
 use Rattle.conflict_detector.specs.Followed.{AreFollowed, AreFollowedBut}
 use Rattle.conflict_detector.specs.Shown.{IsLast, IsShown}
-use Rattle.conflict_detector.specs.Telling.{AreStarted, IsBare, IsReached, TellsAt, TellsEvent, fresh}
+use Rattle.conflict_detector.specs.Telling.{AreStarted, IsBare, IsReached, TellsEvent, fresh}
 
 -- nothing is recorded
 pub record IsIdle (roots : List (Bor Typed)) (d : Detector) : Type 0 where
@@ -110,7 +105,7 @@ MayBegin roots b d = HasBegun roots b d ⊎ (IsIdle roots d × IsQuietRoot b.roo
 
 -- where nothing is recorded, a body or an event without noted items changes nothing, and recording begins with any other event
 abbrev pub IsFollowedIdle : List (Bor Typed) → Begun → Event → List Item → Frame → Detector → Type 0
-IsFollowedIdle roots b e items top d = (IsIdle roots d × ((e.kind ≡ Body) ⊎ NoneNoted items)) ⊎
+IsFollowedIdle roots b e items top d = (IsIdle roots d × (e.kind ≢ Body → NoneNoted items)) ⊎
     ((s : Scope) → ((bottom : List Opened) → IsBare bottom → MayTell roots b (fresh b.frame b.turn s ∷ bottom) e) →
     (bottom : List Opened) × IsBare bottom × HasTold roots b (fresh b.frame b.turn s ∷ bottom) e items top d)
 
@@ -130,17 +125,3 @@ IsDecided bs e items d Begins = d.recorded ≡ 0
 abbrev pub SeesFirst : List FrameRow → (Found → Type 0) → Type 0 → Option Seen → Type 0
 SeesFirst frames Q none None = none
 SeesFirst frames Q none (Some s) = IsFirst frames Q s.found
-
--- two evaluations of operands of the node above this one, where this is the last operand that has a value
-abbrev pub AreAbove : Opened → ℕ → Evaluation → Evaluation → Type 0
-AreAbove t n d e = (above : ℕ) × (last_in 0 t.scope.tree n ≡ Some above) × AreOfOperands t above d e
-
--- where there is such a node, it is the next one
-abbrev pub TellsAbove : Opened → ℕ → Type 0
-TellsAbove t n = (above : ℕ) → last_in 0 t.scope.tree n ≡ Some above → TellsAt t above × (t.parts above ≡ false)
-
--- the first conflict of the node is seen, or of the operands of the node above, or there is none of the node, and this holds
-abbrev pub SeesOfNode : List FrameRow → List Row → Opened → ℕ → Type 0 → Option Seen → Type 0
-SeesOfNode frames rows t n goes None = NoneOfNode rows t n × goes
-SeesOfNode frames rows t n goes (Some s) =
-    IsFirst frames (λ f. IsConflictIn frames rows t (AreOfNode t n) f ⊎ IsConflictIn frames rows t (AreAbove t n) f) s.found

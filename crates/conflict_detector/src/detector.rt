@@ -1,6 +1,6 @@
 // The open evaluations of a run, and its first conflict.
 ghost use Rattle.std.specs.Borrow.{Bor};
-ghost use Rattle.std.specs.Prelude.{◌≡◌, ◌⊎◌, ◌<◌, ◌≤◌, [], ◌∷◌, ℕ, List, IfOk, OnOk, length, slice_get, Contains, Some, true, false};
+ghost use Rattle.std.specs.Prelude.{◌≡◌, ◌≢◌, ◌⊎◌, ◌<◌, ◌≤◌, [], ◌∷◌, ℕ, List, IfOk, OnOk, length, slice_get, Contains, Some, true, false};
 ghost use Rattle.ub_base.specs.declared.names.Item.{Item};
 ghost use Rattle.ub_base.specs.declared.clause.Kind.{Kind};
 ghost use Rattle.ub_base.specs.declared.clause.Kind.TheVariants.{Body};
@@ -14,7 +14,7 @@ ghost use Rattle.run_evaluations.specs.Scopes.{Scope};
 ghost use Rattle.run_evaluations.specs.Shows.{NoneOfTwo};
 ghost use Rattle.run_evaluations.specs.Told.{Opened, begun, gathered, settled};
 ghost use Rattle.run_state.specs.declared.watch.Begun.{Begun};
-ghost use Rattle.conflict_detector.specs.Apart.{SeenApart};
+ghost use Rattle.conflict_detector.specs.Apart.{FoundApart, SeenApart};
 ghost use Rattle.conflict_detector.specs.Examined.{IsNumbered};
 ghost use Rattle.conflict_detector.specs.Recorded.{HasBegun, HasTold, IsDecided, IsFollowed, IsFollowedIdle, IsIdle, IsQuietTop, IsRecording, IsTelling};
 ghost use Rattle.conflict_detector.specs.Recorded.{MayBegin, MayTell, NoneNoted, SeesFirst, SeesOfNode, TellsAbove};
@@ -24,7 +24,7 @@ ghost use Rattle.conflict_detector.specs.Telling.{IsOpen, TellsAt};
 use crate::examined::Expressions;
 use crate::frames::RecordedFrames;
 use crate::seen::Seen;
-use crate::standing::{apart_in, seen_of};
+use crate::standing::{apart_in, last_of, seen_of};
 use c_typed::Typed;
 use evaluation_log::{Found, first_of, last_operand_of};
 use quiet_trees::some_noted;
@@ -97,11 +97,26 @@ impl Detector {
         let count = v.begun.len();
         let before = self.begun;
         self.begun = count;
-        if self.recorded == 0 && (count <= before || self.is_quiet(v)) {
+        if self.rests(v, before) {
             return Ok(());
         }
         self.recorded_step(v, items, before)?;
         Ok(())
+    }
+
+    // Whether a control step changes nothing: none is recorded, and none begins but one that is known to be quiet. So many were open before.
+    fn rests(&self, v: &View, before: usize) -> bool
+        ensures none { result ≡ true → self.now.recorded ≡ 0 }
+        ensures yes { result ≡ true → (length v.now.begun.now ≤ before) ⊎ IsQuietTop v.now.begun.now self.now }
+        ensures no { result ≡ false → self.now.recorded ≡ 0 → before < length v.now.begun.now }
+    {
+        if self.recorded != 0 {
+            return false;
+        }
+        if v.begun.len() <= before {
+            return true;
+        }
+        self.is_quiet(v)
     }
 
     // A control step where something is recorded, or begins to be. So many full expressions were open before it.
@@ -159,7 +174,7 @@ impl Detector {
             IsNumbered roots b.tree b.root.now → IsRecording roots (t ∷ ts) self.old → t.done ≡ [] →
             IsRecording roots (begun b.turn s t ∷ ts) self.new) }
     {
-        let Some(begun) = v.begun.last() else {
+        let Some(begun) = last_of(v) else {
             return Ok(());
         };
         let number = begun.tree;
@@ -189,7 +204,7 @@ impl Detector {
     fn is_quiet(&self, v: &View) -> bool
         ensures { result ≡ true → IsQuietTop v.now.begun.now self.now }
     {
-        match v.begun.last() {
+        match last_of(v) {
             Some(begun) => self.known.is_quiet(begun.tree),
             None => false,
         }
@@ -220,7 +235,7 @@ impl Detector {
 
     // Whether an event changes nothing: none is recorded, and this one has no items that are noted, or is a body.
     fn passes_over(&self, event: Event, items: &[Item]) -> bool
-        ensures noted { result ≡ true → (event.kind ≡ Body) ⊎ NoneNoted items.now }
+        ensures noted { result ≡ true → event.kind ≢ Body → NoneNoted items.now }
         ensures none { result ≡ true → self.now.recorded ≡ 0 }
     {
         self.recorded == 0 && (event.kind == Kind::Body || !some_noted(items))
@@ -243,7 +258,10 @@ impl Detector {
             IsIdle roots.now self.old → IsFollowedIdle roots.now b event items.now v.now.top self.new) }
     {
         let logs = self.log(v, event, items)?;
-        if logs && event.kind == Kind::Body && items.contains(&Item::Ending) {
+        if !logs {
+            return Ok(None);
+        }
+        if is_end(event, items) {
             return self.end(roots, v);
         }
         Ok(None)
@@ -285,7 +303,7 @@ impl Detector {
         ensures starts { OnOk result ((roots : List (Bor Typed)) (b : Begun) → IsLast v.now.begun.now b → IsIdle roots self.old →
             HasBegun roots b self.new) }
     {
-        let Some(begun) = v.begun.last() else {
+        let Some(begun) = last_of(v) else {
             return Ok(());
         };
         self.start(v.begun.len(), begun)?;
@@ -323,7 +341,7 @@ impl Detector {
     {
         self.logged = true;
         self.open.reach(event.frame)?;
-        let Some(begun) = v.begun.last() else {
+        let Some(begun) = last_of(v) else {
             return Ok(());
         };
         let (rule, chosen) = self.known.rule_of(self.alloc, begun, event.node)?;
@@ -337,15 +355,33 @@ impl Detector {
     {
         let mut best = None;
         for (i, begun) in v.begun.iter().enumerate().rev() {
-            if i >= self.recorded.saturating_sub(1) {
-                let found = self.ended(v, begun)?;
-                best = first_of(v.frames, best, apart_in(roots, begun, found));
-            }
+            best = self.ended_at(roots, v, i, begun, best)?;
             if i >= self.recorded {
                 self.open.leave()?;
             }
         }
         Ok(seen_of(v, best))
+    }
+
+    // The first conflict so far, with those in the full expression of this place, if it is recorded.
+    fn ended_at(
+        &mut self,
+        roots: &[&Typed],
+        v: &View,
+        i: usize,
+        begun: &Begun,
+        best: Option<Found>,
+    ) -> Result<Option<Found>, NoMemory>
+        requires { ItemsConflict best }
+        ensures conflict { IfOk result ItemsConflict }
+        ensures apart { FoundApart (trees_at roots.now) best → IfOk result (FoundApart (trees_at roots.now)) }
+    {
+        if i < self.recorded.saturating_sub(1) {
+            return Ok(best);
+        }
+        let found = self.ended(v, begun)?;
+        let stands = apart_in(roots, begun, found);
+        Ok(first_of(v.frames, best, stands))
     }
 
     // The first conflict of those in this full expression that have both sides where the run ends.
@@ -396,7 +432,7 @@ impl Detector {
             IsRecording roots.now (t ∷ ts) self.old → t.parts node ≡ false → IsBeginning t → IfOk result
             (SeesFirst v.now.frames.now (IsConflictIn v.now.frames.now v.now.map.now t (AreOfOperands t node)) (NoneOfTwo v.now.map.now t node)) }
     {
-        let Some(begun) = v.begun.last() else {
+        let Some(begun) = last_of(v) else {
             return Ok(None);
         };
         let (rule, chosen) = self.known.rule_of(self.alloc, begun, node)?;
@@ -440,9 +476,10 @@ impl Detector {
             IsTelling roots.now (t ∷ ts) node kind self.old → EndsWith t node → IsBeginning t → TellsAbove t node → IfOk result
             (SeesOfNode v.now.frames.now v.now.map.now t node (IsRecording roots.now (t ∷ ts) self.new)) }
     {
-        let Some(begun) = v.begun.last() else {
+        let Some(begun) = last_of(v) else {
             return Ok(None);
         };
+        self.known.examine(self.alloc, begun.tree, begun.root)?;
         let order = Order {
             root: begun.root,
             taken: &begun.taken,
@@ -467,4 +504,12 @@ impl Detector {
             .open
             .operands_done(v.frames, v.map, above, rule, chosen)
     }
+}
+
+// Whether the run ends in this event, or in the frame that it started.
+fn is_end(event: Event, items: &[Item]) -> bool
+    ensures body { result ≡ true → event.kind ≡ Body }
+    ensures ending { result ≡ true → Contains items.now Ending }
+{
+    event.kind == Kind::Body && items.contains(&Item::Ending)
 }

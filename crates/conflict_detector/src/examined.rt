@@ -114,7 +114,7 @@ impl Expressions {
     }
 
     fn put(&mut self, number: u32, examined: Examined)
-        ensures { self.new.list.items ≡ set self.old.list.items number examined.entry }
+        ensures { self.new.list.items ≡ set self.old.list.items number examined }
     {
         let at = number as usize;
         if at < self.list.len() {

@@ -8,7 +8,7 @@ ghost use Rattle.run_evaluations.specs.Told.{Opened};
 ghost use Rattle.seq_order.specs.Marked.{taken_in};
 ghost use Rattle.seq_order.specs.Relations.{relation_in};
 ghost use Rattle.conflict_detector.specs.Apart.{AreApart, FoundApart, IsApart, SeenApart, Suits, place_of};
-ghost use Rattle.conflict_detector.specs.Shown.{IsDuePair, IsShown};
+ghost use Rattle.conflict_detector.specs.Shown.{IsDuePair, IsLast, IsShown};
 
 use crate::seen::Seen;
 use c_typed::{Place, Typed};
@@ -16,6 +16,14 @@ use evaluation_log::{Found, line_of};
 use run_state::{Begun, View};
 use seq_order::{Relation, Taken, due, relation};
 use ub_base::Event;
+
+/// The full expression on top.
+pub(crate) fn last_of<'v, 'p>(v: &View<'v, 'p>) -> Option<&'v Begun<'p>>
+    ensures some { IfSome result (λ b. IsLast v.now.begun.now b.now) }
+    ensures none { result ≡ None → (b : Begun) → IsLast v.now.begun.now b → ⊥ }
+{
+    v.begun.last()
+}
 
 /// A conflict of this full expression, if its two evaluations stand to one another there as its kind asks.
 pub(crate) fn apart_in(roots: &[&Typed], begun: &Begun, found: Option<Found>) -> Option<Found>
