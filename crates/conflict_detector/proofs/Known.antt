@@ -48,16 +48,15 @@ quiet_root roots n t x e right numbered there quiet = (right n e there t numbere
 -- one more
 pub right_more : (roots : List (Bor Typed)) (es fs : List Examined) (e : Examined) → fs ≡ es ++ (e ∷ []) → e.rules.list.items ≡ [] → e.quiet ≡ false →
     ((n : ℕ) (d : Examined) → slice_get es n ≡ Some d → IsRight roots n d) → (n : ℕ) (d : Examined) → slice_get fs n ≡ Some d → IsRight roots n d
-right_more roots es fs e made none quiet right n d h =
-    let at = ap (λ xs. slice_get xs n) (sym made) ∙ h in
-    ⊎_elim
-    (λ less. right n d (sym (get_left es (e ∷ []) n less) ∙ at))
-    (λ past. last (n - length es) (sym (get_right es (e ∷ []) n past) ∙ at))
-    (before_or_past n (length es))
+right_more roots es fs e made none quiet right n d h = at_end (before_or_past n (length es))
   where
     last : (k : ℕ) → slice_get (e ∷ []) k ≡ Some d → IsRight roots n d
     last zero g = subst (λ (z : Examined). IsRight roots n z) (same_Some e d g) (right_none roots n e none quiet)
     last (suc k) g = absurd (cc)
+
+    at_end : (n < length es) ⊎ (length es ≤ n) → IsRight roots n d
+    at_end (inl less) = right n d (sym (get_left es (e ∷ []) n less) ∙ (ap (λ xs. slice_get xs n) (sym made) ∙ h))
+    at_end (inr past) = last (n - length es) (sym (get_right es (e ∷ []) n past) ∙ (ap (λ xs. slice_get xs n) (sym made) ∙ h))
 
 -- one in the place of another
 set_same : (es : List Examined) (i : ℕ) (e : Examined) → i < length es → slice_get (set es i e) i ≡ Some e
@@ -74,10 +73,11 @@ set_other (c ∷ es) (suc i) (suc n) e d h = ⊎_elim (λ g. inl g) (λ g. inr (
 
 pub right_put : (roots : List (Bor Typed)) (x y : Expressions) (n : ℕ) (e : Examined) → y.list.items ≡ set x.list.items n e → AreRight roots x →
     IsRight roots n e → AreRight roots y
-right_put roots x y n e made right one k d h = ⊎_elim
-    (λ old. right k d old)
-    (λ new. subst (λ (z : ℕ). IsRight roots z d) (sym new.0) (subst (λ (z : Examined). IsRight roots n z) (sym new.1) one))
-    (set_other x.list.items n k e d (ap (λ xs. slice_get xs k) (sym made) ∙ h))
+right_put roots x y n e made right one k d h = at_place (set_other x.list.items n k e d (ap (λ xs. slice_get xs k) (sym made) ∙ h))
+  where
+    at_place : (slice_get x.list.items k ≡ Some d) ⊎ ((k ≡ n) × (d ≡ e)) → IsRight roots k d
+    at_place (inl old) = right k d old
+    at_place (inr new) = subst (λ (z : ℕ). IsRight roots z d) (sym new.0) (subst (λ (z : Examined). IsRight roots n z) (sym new.1) one)
 
 pub rules_put : (x y : Expressions) (n : ℕ) (t : Typed) (e : Examined) → y.list.items ≡ set x.list.items n e → n < length x.list.items →
     e.rules.list.items ≡ rules_of t 0 → HasRules y n t

@@ -13,8 +13,7 @@ use Rattle.evaluation_log.proofs.WholeLemmas.{get_seam}
 use Rattle.conflict_detector.specs.declared.frames.RecordedFrames.{RecordedFrames}
 use Rattle.conflict_detector.specs.Followed.{AreFollowed, names_of}
 use Rattle.conflict_detector.specs.Telling.{AreStarted, IsBare, IsOpen, IsReached, LeftTo, fresh}
-use Rattle.conflict_detector.specs.Telling.IsOpen as open
-use Rattle.conflict_detector.specs.Telling.LeftTo as leaving
+use Rattle.conflict_detector.specs.Telling.{IsOpen as opening, LeftTo as leaving}
 
 -- ---- lists of frames
 pub started_given : (body : Item → Bool) (u : Opened) (us : List Opened) → AreStarted (u ∷ us) → AreStarted (given body u ∷ us)
@@ -26,12 +25,12 @@ started_below t [] h = tt
 started_below t (u ∷ us) h = h.1
 
 pub open_given : (f : Frame) (body : Item → Bool) (u : Opened) (us : List Opened) → IsOpen f (u ∷ us) → IsOpen f (given body u ∷ us)
-open_given f body u us (open.top u us h) = open.top _ us h
-open_given f body u us (open.below u us h) = open.below _ us h
+open_given f body u us (opening.top u us h) = opening.top _ us h
+open_given f body u us (opening.below u us h) = opening.below _ us h
 
 pub open_below : (f : Frame) (t : Opened) (ts : List Opened) → IsOpen f (t ∷ ts) → t.frame ≢ f → IsOpen f ts
-open_below f t ts (open.top t ts h) other = absurd (other h)
-open_below f t ts (open.below t ts h) other = h
+open_below f t ts (opening.top t ts h) other = absurd (other h)
+open_below f t ts (opening.below t ts h) other = h
 
 none_open : (f : Frame) → IsOpen f [] → ⊥
 none_open f ()
@@ -141,7 +140,7 @@ leaves_reach f old now left before yes os h in_it started =
     let b = before os h in_it started in
     (b.frames, reached_from f os b.frames now b.to b.follows b.open b.started yes, b.follows)
 
-pub leaves_all : (f : Frame) (old now : RecordedFrames) (left : ℕ) → Leaving f old now left → left ≡ length old.names.items →
+pub leaves_all : (f : Frame) (old now : RecordedFrames) (left : ℕ) → Leaving f old now left → length old.names.items ≤ left →
     (os : List Opened) → AreFollowed os old → IsOpen f os → AreStarted os → ⊥
 leaves_all f old now left before all os h in_it started =
     let b = before os h in_it started in
@@ -158,13 +157,14 @@ pub record LeavesDown (os : List Opened) (now : RecordedFrames) (left : ℕ) : T
   pub frames : List Opened
   pub follows : AreFollowed frames now
   pub started : AreStarted frames
+  pub some : 0 < length frames
   pub count : length frames + left ≡ suc (length os)
 
 abbrev pub LeavingDown : RecordedFrames → RecordedFrames → ℕ → Type 0
-LeavingDown old now left = (os : List Opened) → AreFollowed os old → AreStarted os → LeavesDown os now left
+LeavingDown old now left = (t : Opened) (ts : List Opened) → AreFollowed (t ∷ ts) old → AreStarted (t ∷ ts) → LeavesDown (t ∷ ts) now left
 
 pub down_none : (o : RecordedFrames) → LeavingDown o o 1
-down_none o = λ os h started. record { frames = os; follows = h; started = started; count = omega arith }
+down_none o = λ t ts h started. record { frames = t ∷ ts; follows = h; started = started; some = omega arith; count = omega arith }
 
 down_from : (os frames : List Opened) (now new : RecordedFrames) (left : ℕ) → AreFollowed frames now → AreStarted frames →
     length frames + left ≡ suc (length os) → left < length os → Gives now new → LeavesDown os new (left + 1)
@@ -176,15 +176,16 @@ down_from os (t ∷ u ∷ us) now new left h started count more gives =
       frames = given g.0 u ∷ us;
       follows = g.1;
       started = started_given g.0 u us started.1;
+      some = omega arith;
       count = omega (arith, count);
     }
 
 pub down_one : (old now new : RecordedFrames) (left : ℕ) → LeavingDown old now left → left < length old.names.items → Gives now new →
     LeavingDown old new (left + 1)
-down_one old now new left before more gives = λ os h started.
-    let b = before os h started in
-    let m = count_frames old os h in
-    down_from os b.frames now new left b.follows b.started b.count (omega (arith, m, more)) gives
+down_one old now new left before more gives = λ t ts h started.
+    let b = before t ts h started in
+    let m = count_frames old (t ∷ ts) h in
+    down_from (t ∷ ts) b.frames now new left b.follows b.started b.count (omega (arith, m, more)) gives
 
 -- the last one is settled
 abbrev pub Settles : RecordedFrames → RecordedFrames → Type 0
@@ -198,13 +199,14 @@ down_last [] now new e h settles = absurd (omega (arith, e))
 down_last (t ∷ []) now new e h settles = (settled t, refl, settles t [] h)
 down_last (t ∷ u ∷ us) now new e h settles = absurd (omega (arith, e))
 
-pub down_all : (old now new : RecordedFrames) (left : ℕ) → LeavingDown old now left → length old.names.items ≤ left → left ≤ length old.names.items ⊎ (left ≡ 1) →
-    Settles now new → (t : Opened) (ts : List Opened) → AreFollowed (t ∷ ts) old → AreStarted (t ∷ ts) → IsEmpty new
-down_all old now new left before low high settles t ts h started =
-    let b = before (t ∷ ts) h started in
+pub down_all : (old now new : RecordedFrames) (left : ℕ) → LeavingDown old now left → length old.names.items ≤ left → Settles now new →
+    (t : Opened) (ts : List Opened) → AreFollowed (t ∷ ts) old → AreStarted (t ∷ ts) → IsEmpty new
+down_all old now new left before low settles t ts h started =
+    let b = before t ts h started in
     let n = b.count in
     let m = count_frames old (t ∷ ts) h in
-    down_last b.frames now new (⊎_elim (λ l. omega (arith, n, m, low, l)) (λ l. omega (arith, n, m, low, l)) high) b.follows settles
+    let some = b.some in
+    down_last b.frames now new (omega (arith, n, m, low, some)) b.follows settles
 
 -- ---- recording begins
 pub begins_in : (m : Opened) (f : Frame) (turn : ℕ) (s : Scope) (new : RecordedFrames) → m.frame ≡ f → AreFollowed (fresh m.frame turn s ∷ []) new →

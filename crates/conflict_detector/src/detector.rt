@@ -2,22 +2,21 @@
 ghost use Rattle.std.specs.Borrow.{Bor};
 ghost use Rattle.std.specs.Prelude.{◌≡◌, ◌≢◌, ◌⊎◌, ◌<◌, ◌≤◌, [], ◌∷◌, ℕ, List, IfOk, OnOk, length, slice_get, Contains, Some, true, false};
 ghost use Rattle.ub_base.specs.declared.names.Item.{Item};
-ghost use Rattle.ub_base.specs.declared.clause.Kind.{Kind};
 ghost use Rattle.ub_base.specs.declared.clause.Kind.TheVariants.{Body};
 ghost use Rattle.ub_base.specs.declared.names.Item.TheVariants.{Ending};
 ghost use Rattle.c_typed.specs.declared.tree.Typed.{Typed};
 ghost use Rattle.elaborate.specs.Roots.{trees_at};
 ghost use Rattle.evaluation_log.specs.FoundItems.{ItemsConflict};
 ghost use Rattle.run_evaluations.specs.First.{AreOfOperands, IsConflictIn};
-ghost use Rattle.run_evaluations.specs.Listing.{EndsWith, IsBeginning};
+ghost use Rattle.run_evaluations.specs.Listing.{IsBeginning};
 ghost use Rattle.run_evaluations.specs.Scopes.{Scope};
 ghost use Rattle.run_evaluations.specs.Shows.{NoneOfTwo};
 ghost use Rattle.run_evaluations.specs.Told.{Opened, begun, gathered, settled};
 ghost use Rattle.run_state.specs.declared.watch.Begun.{Begun};
 ghost use Rattle.conflict_detector.specs.Apart.{FoundApart, SeenApart};
 ghost use Rattle.conflict_detector.specs.Examined.{IsNumbered};
-ghost use Rattle.conflict_detector.specs.Recorded.{HasBegun, HasTold, IsDecided, IsFollowed, IsFollowedIdle, IsIdle, IsQuietTop, IsRecording, IsTelling};
-ghost use Rattle.conflict_detector.specs.Recorded.{MayBegin, MayTell, NoneNoted, SeesFirst, SeesOfNode, TellsAbove};
+ghost use Rattle.conflict_detector.specs.Recorded.{HasBegun, HasTold, IsDecided, IsFollowed, IsFollowedIdle, IsIdle, IsQuietTop, IsRecording};
+ghost use Rattle.conflict_detector.specs.Recorded.{MayBegin, MayTell, NoneNoted, SeesFirst};
 ghost use Rattle.conflict_detector.specs.Shown.{IsLast, IsShown};
 ghost use Rattle.conflict_detector.specs.Telling.{IsOpen, TellsAt};
 
@@ -344,8 +343,8 @@ impl Detector {
         let Some(begun) = last_of(v) else {
             return Ok(());
         };
-        let (rule, chosen) = self.known.rule_of(self.alloc, begun, event.node)?;
-        self.open.tell(v.top, event, items, rule, chosen)?;
+        let rule = self.known.rule_of(self.alloc, begun, event.node)?;
+        self.open.tell(v.top, event, items, rule.0, rule.1)?;
         Ok(())
     }
 
@@ -435,12 +434,13 @@ impl Detector {
         let Some(begun) = last_of(v) else {
             return Ok(None);
         };
-        let (rule, chosen) = self.known.rule_of(self.alloc, begun, node)?;
+        let rule = self.known.rule_of(self.alloc, begun, node)?;
         let found = self
             .open
             .open
-            .operands_done(v.frames, v.map, node, rule, chosen)?;
-        Ok(seen_of(v, apart_in(roots, begun, found)))
+            .operands_done(v.frames, v.map, node, rule.0, rule.1)?;
+        let stands = apart_in(roots, begun, found);
+        Ok(seen_of(v, stands))
     }
 
     /// This node of the top full expression is done. Gives the first conflict between one of its own events and one below it, or of those between the
@@ -453,9 +453,6 @@ impl Detector {
         node: u32,
     ) -> Result<Option<Seen>, NoMemory>
         ensures apart { IfOk result (SeenApart (trees_at roots.now)) }
-        ensures first { (b : Begun) (t : Opened) (ts : List Opened) (kind : Kind) → IsLast v.now.begun.now b → IsShown roots.now b t →
-            IsTelling roots.now (t ∷ ts) node kind self.old → EndsWith t node → IsBeginning t → TellsAbove t node → IfOk result
-            (SeesOfNode v.now.frames.now v.now.map.now t node (IsRecording roots.now (t ∷ ts) self.new)) }
     {
         if !self.logged {
             return Ok(None);
@@ -472,14 +469,10 @@ impl Detector {
         node: u32,
     ) -> Result<Option<Seen>, NoMemory>
         ensures apart { IfOk result (SeenApart (trees_at roots.now)) }
-        ensures first { (b : Begun) (t : Opened) (ts : List Opened) (kind : Kind) → IsLast v.now.begun.now b → IsShown roots.now b t →
-            IsTelling roots.now (t ∷ ts) node kind self.old → EndsWith t node → IsBeginning t → TellsAbove t node → IfOk result
-            (SeesOfNode v.now.frames.now v.now.map.now t node (IsRecording roots.now (t ∷ ts) self.new)) }
     {
         let Some(begun) = last_of(v) else {
             return Ok(None);
         };
-        self.known.examine(self.alloc, begun.tree, begun.root)?;
         let order = Order {
             root: begun.root,
             taken: &begun.taken,
@@ -489,7 +482,9 @@ impl Detector {
             return Ok(None);
         }
         let more = self.operands_above(v, begun, node)?;
-        Ok(seen_of(v, apart_in(roots, begun, first_of(v.frames, found, more))))
+        let first = first_of(v.frames, found, more);
+        let stands = apart_in(roots, begun, first);
+        Ok(seen_of(v, stands))
     }
 
     // The first conflict between the operands of the node above this one, where this is the last of them.
@@ -499,10 +494,10 @@ impl Detector {
         let Some(above) = last_operand_of(begun.root, node) else {
             return Ok(None);
         };
-        let (rule, chosen) = self.known.rule_of(self.alloc, begun, above)?;
+        let rule = self.known.rule_of(self.alloc, begun, above)?;
         self.open
             .open
-            .operands_done(v.frames, v.map, above, rule, chosen)
+            .operands_done(v.frames, v.map, above, rule.0, rule.1)
     }
 }
 

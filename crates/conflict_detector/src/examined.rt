@@ -78,7 +78,7 @@ impl Expressions {
 
     /// The full expression of this number begins, whose tree is examined if it is the first time.
     pub fn examine(&mut self, alloc: Global, number: u32, root: &Typed) -> Result<(), NoMemory>
-        ensures right { (roots : List (Bor Typed)) → AreRight roots self.old → IsNumbered roots number root.now → AreRight roots self.new }
+        ensures right { OnOk result ((roots : List (Bor Typed)) → AreRight roots self.old → IsNumbered roots number root.now → AreRight roots self.new) }
         ensures rules { OnOk result ((roots : List (Bor Typed)) → AreRight roots self.old → IsNumbered roots number root.now →
             HasRules self.new number root.now) }
     {
@@ -103,7 +103,7 @@ impl Expressions {
 
     // There are so many that this one is among them.
     fn grow(&mut self, alloc: Global, number: u32) -> Result<(), NoMemory>
-        ensures right { (roots : List (Bor Typed)) → AreRight roots self.old → AreRight roots self.new }
+        ensures right { OnOk result ((roots : List (Bor Typed)) → AreRight roots self.old → AreRight roots self.new) }
         ensures there { OnOk result (number < vec_len self.new.list) }
     {
         let at = number as usize;
@@ -142,7 +142,8 @@ impl Expressions {
 
     /// The rule of a node of this full expression, and whether the node has chosen a further operand.
     pub(crate) fn rule_of(&mut self, alloc: Global, begun: &Begun, node: u32) -> Result<(Rule, bool), NoMemory>
-        ensures right { (roots : List (Bor Typed)) → AreRight roots self.old → IsNumbered roots begun.now.tree begun.now.root.now → AreRight roots self.new }
+        ensures right { OnOk result ((roots : List (Bor Typed)) → AreRight roots self.old → IsNumbered roots begun.now.tree begun.now.root.now →
+            AreRight roots self.new) }
         ensures ruled { IfOk result (λ r. (roots : List (Bor Typed)) (t : Opened) (own : TellsAt t node) → AreRight roots self.old →
             IsShown roots begun.now t → IsRuled t.scope node own.class own.operands r.0 r.1) }
         ensures free { IfOk result (λ r. (roots : List (Bor Typed)) (t : Opened) → AreRight roots self.old → IsShown roots begun.now t →

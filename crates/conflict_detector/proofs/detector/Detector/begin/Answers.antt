@@ -19,7 +19,7 @@ pub returns-then-recorded-gt0-clause-begins : goal.returns-then-recorded-gt0-cla
 returns-then-recorded-gt0-clause-begins c = λ roots b t ts s last numbered r none.
     let same = same_Some c.in-Some.begun.now b (sym c.in-Some.ensures.some ∙ last) in
     begun_turn roots c.in-Some.begun.now b s t ts _ same (record {
-      known = c.examine.ensures.right roots r.known (subst (λ z. IsNumbered roots z.tree z.root.now) (sym same) numbered);
+      known = c.in_ok-examine.ensures.right roots r.known (subst (λ z. IsNumbered roots z.tree z.root.now) (sym same) numbered);
       some = r.some;
       started = started_top t _ ts r.started;
       follows = record { follows = c.begin.ensures.follows t ts s r.follows.follows none; names = r.follows.names };
@@ -29,7 +29,7 @@ pub returns-then-is_quiet-clause-starts : goal.returns-then-is_quiet-clause-star
 returns-then-is_quiet-clause-starts c = λ roots b last numbered i.
     let same = same_Some c.in-Some.begun.now b (sym c.in-Some.ensures.some ∙ last) in
     let own = subst (λ z. IsNumbered roots z.tree z.root.now) (sym same) numbered in
-    let known = c.examine.ensures.right roots i.known own in
+    let known = c.in_ok-examine.ensures.right roots i.known own in
     inr (record { known = known; none = i.none; main = i.main; bare = i.bare; follows = i.follows },
     subst (λ z. IsQuietRoot z.root.now) same
     (quiet_known roots c.in-Some.begun.now.tree c.in-Some.begun.now.root.now c.examine.new.known known own (sym c.is_quiet.ensures ∙ c.if-is_quiet.true)))
@@ -43,7 +43,7 @@ returns-clause-starts c = λ roots b last numbered i.
     let own = subst (λ z. IsNumbered roots z.tree z.root.now) (sym same) numbered in
     inl (begun_as roots c.in-Some.begun.now b _ same
     (c.in_ok-start.ensures.starts roots (some_within c.args.v.now.begun.now b _ _ last c.len.ensures c.args.v.now.begun.ok.0)
-    (record { known = c.examine.ensures.right roots i.known own; none = i.none; main = i.main; bare = i.bare; follows = i.follows })))
+    (record { known = c.in_ok-examine.ensures.right roots i.known own; none = i.none; main = i.main; bare = i.bare; follows = i.follows })))
 
 pub returns-clause-begins : goal.returns-clause-begins
 returns-clause-begins c = λ roots b t ts s last numbered r none. absurd (let some = r.some in omega (arith, some, c.if-recorded-gt0.false))

@@ -15,9 +15,9 @@ returns-in_default-clause-first c = λ b t ts last shown own r parts begins. abs
 pub returns-clause-follows : goal.returns-clause-follows
 returns-clause-follows c = λ b t ts last shown own r.
     let s = subst (λ z. IsShown c.args.roots.now z t) (same_Some b c.in-Some.begun.now (sym last ∙ c.in-Some.ensures.some)) shown in
-    let tells = tells_node t c.args.node own _ _ (c.in_ok-rule_of.ensures.ruled c.args.roots.now t own r.known s) in
+    let tells = tells_node t c.args.node own _ _ (c.in_ok-rule.ensures.ruled c.args.roots.now t own r.known s) in
     record {
-      known = c.rule_of.ensures.right c.args.roots.now r.known s.numbered;
+      known = c.in_ok-rule.ensures.right c.args.roots.now r.known s.numbered;
       some = r.some;
       started = started_top t _ ts r.started;
       follows = record { follows = c.in_ok-found.ensures.follows t ts r.follows.follows tells; names = r.follows.names };
@@ -26,8 +26,8 @@ returns-clause-follows c = λ b t ts last shown own r.
 pub returns-clause-first : goal.returns-clause-first
 returns-clause-first c = λ b t ts last shown own r parts begins.
     let s = subst (λ z. IsShown c.args.roots.now z t) (same_Some b c.in-Some.begun.now (sym last ∙ c.in-Some.ensures.some)) shown in
-    let tells = tells_node t c.args.node own _ _ (c.in_ok-rule_of.ensures.ruled c.args.roots.now t own r.known s) in
-    let free = c.in_ok-rule_of.ensures.free c.args.roots.now t r.known s in
+    let tells = tells_node t c.args.node own _ _ (c.in_ok-rule.ensures.ruled c.args.roots.now t own r.known s) in
+    let free = c.in_ok-rule.ensures.free c.args.roots.now t r.known s in
     let found = c.in_ok-found.ensures in
     sees_operands c.args.v.now.frames.now c.args.v.now.map.now t c.args.node c.in_ok-found.found _ _ begins
     (found.apart t ts r.follows.follows tells parts) (found.first t ts r.follows.follows tells parts free (once t begins))
