@@ -13,7 +13,7 @@ use Rattle.evaluation_log.proofs.WholeLemmas.{get_seam}
 use Rattle.conflict_detector.specs.declared.frames.RecordedFrames.{RecordedFrames}
 use Rattle.conflict_detector.specs.Followed.{AreFollowed, names_of}
 use Rattle.conflict_detector.specs.Telling.{AreStarted, IsBare, IsOpen, IsReached, LeftTo, fresh}
-use Rattle.conflict_detector.specs.Telling.{IsOpen as opening, LeftTo as leaving}
+use Rattle.conflict_detector.specs.Telling as leaving
 
 -- ---- lists of frames
 pub started_given : (body : Item → Bool) (u : Opened) (us : List Opened) → AreStarted (u ∷ us) → AreStarted (given body u ∷ us)
@@ -24,21 +24,14 @@ pub started_below : (t : Opened) (ts : List Opened) → AreStarted (t ∷ ts) �
 started_below t [] h = tt
 started_below t (u ∷ us) h = h.1
 
-pub open_given : (f : Frame) (body : Item → Bool) (u : Opened) (us : List Opened) → IsOpen f (u ∷ us) → IsOpen f (given body u ∷ us)
-open_given f body u us (opening.top u us h) = opening.top _ us h
-open_given f body u us (opening.below u us h) = opening.below _ us h
-
 pub open_below : (f : Frame) (t : Opened) (ts : List Opened) → IsOpen f (t ∷ ts) → t.frame ≢ f → IsOpen f ts
-open_below f t ts (opening.top t ts h) other = absurd (other h)
-open_below f t ts (opening.below t ts h) other = h
-
-none_open : (f : Frame) → IsOpen f [] → ⊥
-none_open f ()
+open_below f t ts (inl h) other = absurd (other h)
+open_below f t ts (inr h) other = h
 
 pub left_more : (f : Frame) (t u : Opened) (us os : List Opened) (body : Item → Bool) → LeftTo f (t ∷ u ∷ us) os → t.frame ≢ f →
     LeftTo f (given body u ∷ us) os
-left_more f t u us os body leaving.stays other = leaving.left t u us body other leaving.stays
-left_more f t u us os body (leaving.left a b bs given_body ne h) other = leaving.left a b bs given_body ne (left_more f t u us _ body h other)
+left_more f t u us _ body leaving.stays other = leaving.left t u us body other leaving.stays
+left_more f t u us _ body (leaving.left a b bs given_body ne h) other = leaving.left a b bs given_body ne (left_more f t u us _ body h other)
 
 -- ---- names
 pub count_names : (os : List Opened) → length (names_of os) ≡ length os
@@ -102,8 +95,8 @@ Gives now new = (t u : Opened) (us : List Opened) → AreFollowed (t ∷ u ∷ u
 
 leaves_from : (f : Frame) (os frames : List Opened) (now new : RecordedFrames) (left : ℕ) → LeftTo f frames os → AreFollowed frames now → IsOpen f frames →
     AreStarted frames → length frames + left ≡ length os → IfSome (top_of now) (λ z. z ≢ f) → Gives now new → Leaves f os new (left + 1)
-leaves_from f os [] now new left to h in_it started count no gives = absurd (none_open f in_it)
-leaves_from f os (t ∷ []) now new left to h in_it started count no gives = absurd (none_open f (open_below f t [] in_it (is_other now t [] f h no)))
+leaves_from f os [] now new left to h in_it started count no gives = absurd in_it
+leaves_from f os (t ∷ []) now new left to h in_it started count no gives = absurd (open_below f t [] in_it (is_other now t [] f h no))
 leaves_from f os (t ∷ u ∷ us) now new left to h in_it started count no gives =
     let other = is_other now t (u ∷ us) f h no in
     let g = gives t u us h started.0 in
@@ -111,7 +104,7 @@ leaves_from f os (t ∷ u ∷ us) now new left to h in_it started count no gives
       frames = given g.0 u ∷ us;
       to = left_more f t u us os g.0 to other;
       follows = g.1;
-      open = open_given f g.0 u us (open_below f t (u ∷ us) in_it other);
+      open = open_below f t (u ∷ us) in_it other;
       started = started_given g.0 u us started.1;
       count = omega (arith, count);
     }
@@ -124,7 +117,7 @@ leaves_one f old now new left before no gives = λ os h in_it started.
 
 reached_from : (f : Frame) (os frames : List Opened) (now : RecordedFrames) → LeftTo f frames os → AreFollowed frames now → IsOpen f frames →
     AreStarted frames → IfSome (top_of now) (λ z. z ≡ f) → IsReached f os frames
-reached_from f os [] now to h in_it started yes = absurd (none_open f in_it)
+reached_from f os [] now to h in_it started yes = absurd in_it
 reached_from f os (t ∷ ts) now to h in_it started yes = record {
   top = t;
   below = ts;
@@ -149,7 +142,7 @@ leaves_all f old now left before all os h in_it started =
     none_left f b.frames b.open (omega (arith, n, m, all))
   where
     none_left : (f : Frame) (fs : List Opened) → IsOpen f fs → length fs ≡ 0 → ⊥
-    none_left f [] in_it e = none_open f in_it
+    none_left f [] in_it e = in_it
     none_left f (t ∷ ts) in_it e = absurd (omega (arith, e))
 
 -- ---- up to the outermost frame
@@ -226,5 +219,5 @@ started_top t u (w ∷ ws) h = h
 -- with a frame open, all are left but the outermost one
 pub empty_after : (f : Frame) (os : List Opened) → IsOpen f os → (a b : RecordedFrames) →
     ((t : Opened) (ts : List Opened) → AreFollowed (t ∷ ts) a → AreStarted (t ∷ ts) → IsEmpty b) → AreFollowed os a → AreStarted os → IsEmpty b
-empty_after f [] in_it a b closes h started = absurd (none_open f in_it)
+empty_after f [] in_it a b closes h started = absurd in_it
 empty_after f (t ∷ ts) in_it a b closes h started = closes t ts h started

@@ -14,7 +14,7 @@ use Rattle.c_typed.specs.Tree.{Tree, Trees, node, none, more, size, kinds_of}
 use Rattle.c_typed.specs.Order.{Taken, goes, is_body, same_place}
 use Rattle.c_typed.specs.Decide.{due_among, due_in, has_kind}
 use Rattle.quiet_trees.specs.Acts.{Act, act_among, act_by, act_in, may_clash}
-use Rattle.quiet_trees.specs.Acts.{Act as act}
+use Rattle.quiet_trees.specs.Acts as act
 use Rattle.quiet_trees.specs.Items.{QuietItems, is_noted, suits}
 use Rattle.quiet_trees.specs.Loads.{Loads, LoadsList, below, first, is_load, rest}
 use Rattle.quiet_trees.specs.Quiet.{IsQuiet}

@@ -1,5 +1,5 @@
 -- What may be told of the full expression on top, and which frames are left before it is (own).
-use Rattle.std.specs.Prelude.{◌≡◌, ◌≢◌, ◌<◌, ◌+◌, ◌^◌, ℕ, Bool, true, List, [], ◌∷◌, Some}
+use Rattle.std.specs.Prelude.{◌≡◌, ◌≢◌, ◌⊎◌, ◌<◌, ◌+◌, ◌^◌, ℕ, Bool, true, List, [], ◌∷◌, Some}
 use Rattle.ub_base.specs.declared.names.Frame.{Frame}
 use Rattle.ub_base.specs.declared.names.Item.{Item}
 use Rattle.c_typed.specs.declared.tree.Place.{Place}
@@ -31,9 +31,9 @@ AreStarted (t ∷ []) = Unit {0}
 AreStarted (t ∷ u ∷ us) = HasStarted u us × AreStarted (u ∷ us)
 
 -- the frame is open
-pub data IsOpen (f : Frame) : List Opened → Type 0 where
-  top : (t : Opened) (ts : List Opened) → t.frame ≡ f → IsOpen f (t ∷ ts)
-  below : (t : Opened) (ts : List Opened) → IsOpen f ts → IsOpen f (t ∷ ts)
+abbrev pub IsOpen : Frame → List Opened → Type 0
+IsOpen f [] = ⊥
+IsOpen f (t ∷ ts) = (t.frame ≡ f) ⊎ IsOpen f ts
 
 -- The frames above this one are left, each of which gives what it touched to the evaluation that started it.
 pub data LeftTo (f : Frame) (fs : List Opened) : List Opened → Type 0 where

@@ -1,6 +1,5 @@
-use Rattle.std.proofs.Common.{refl, inr, arith}
-use Rattle.conflict_detector.specs.Recorded.{IsFollowed as follow}
-use Rattle.conflict_detector.specs.Telling.{IsOpen as opening}
+use Rattle.std.proofs.Common.{refl, inl, inr, arith}
+use Rattle.conflict_detector.specs.Recorded as follow
 use Rattle.conflict_detector.proofs.Leaving.{empty_after}
 use Rattle.conflict_detector.proofs.detector.Detector.log.Goals as goal
 
@@ -44,7 +43,7 @@ returns-in-Begins-clause-follows c = λ roots b os last numbered r in_it may. ab
 pub returns-in-Begins-clause-idle : goal.returns-in-Begins-clause-idle
 returns-in-Begins-clause-idle c = λ roots b last same i. inr (λ s may.
     let g = c.in_ok-restart.ensures.starts roots b last i s in
-    (g.0, g.1, c.in_ok-log_event.ensures.follows roots b _ last g.2 (opening.top _ g.0 same) (may g.0 g.1)))
+    (g.0, g.1, c.in_ok-log_event.ensures.follows roots b _ last g.2 (inl same) (may g.0 g.1)))
 
 pub returns-in-Event-clause-follows : goal.returns-in-Event-clause-follows
 returns-in-Event-clause-follows c = λ roots b os last numbered r in_it may.
