@@ -80,7 +80,7 @@ pub record Leaves (f : Frame) (os : List Opened) (now : RecordedFrames) (left : 
   pub frames : List Opened
   pub to : LeftTo f frames os
   pub follows : AreFollowed frames now
-  pub open : IsOpen f frames
+  pub in_it : IsOpen f frames
   pub started : AreStarted frames
   pub count : length frames + left ≡ length os
 
@@ -88,7 +88,7 @@ abbrev pub Leaving : Frame → RecordedFrames → RecordedFrames → ℕ → Typ
 Leaving f old now left = (os : List Opened) → AreFollowed os old → IsOpen f os → AreStarted os → Leaves f os now left
 
 pub leaves_none : (f : Frame) (o : RecordedFrames) → Leaving f o o 0
-leaves_none f o = λ os h in_it started. record { frames = os; to = leaving.stays; follows = h; open = in_it; started = started; count = omega arith }
+leaves_none f o = λ os h in_it started. record { frames = os; to = leaving.stays; follows = h; in_it = in_it; started = started; count = omega arith }
 
 abbrev Gives : RecordedFrames → RecordedFrames → Type 0
 Gives now new = (t u : Opened) (us : List Opened) → AreFollowed (t ∷ u ∷ us) now → HasStarted u us → (body : Item → Bool) × AreFollowed (given body u ∷ us) new
@@ -104,7 +104,7 @@ leaves_from f os (t ∷ u ∷ us) now new left to h in_it started count no gives
       frames = given g.0 u ∷ us;
       to = left_more f t u us os g.0 to other;
       follows = g.1;
-      open = open_below f t (u ∷ us) in_it other;
+      in_it = open_below f t (u ∷ us) in_it other;
       started = started_given g.0 u us started.1;
       count = omega (arith, count);
     }
@@ -113,7 +113,7 @@ pub leaves_one : (f : Frame) (old now new : RecordedFrames) (left : ℕ) → Lea
     Leaving f old new (left + 1)
 leaves_one f old now new left before no gives = λ os h in_it started.
     let b = before os h in_it started in
-    leaves_from f os b.frames now new left b.to b.follows b.open b.started b.count no gives
+    leaves_from f os b.frames now new left b.to b.follows b.in_it b.started b.count no gives
 
 reached_from : (f : Frame) (os frames : List Opened) (now : RecordedFrames) → LeftTo f frames os → AreFollowed frames now → IsOpen f frames →
     AreStarted frames → IfSome (top_of now) (λ z. z ≡ f) → IsReached f os frames
@@ -131,7 +131,7 @@ pub leaves_reach : (f : Frame) (old now : RecordedFrames) (left : ℕ) → Leavi
     (os : List Opened) → AreFollowed os old → IsOpen f os → AreStarted os → (fs : List Opened) × IsReached f os fs × AreFollowed fs now
 leaves_reach f old now left before yes os h in_it started =
     let b = before os h in_it started in
-    (b.frames, reached_from f os b.frames now b.to b.follows b.open b.started yes, b.follows)
+    (b.frames, reached_from f os b.frames now b.to b.follows b.in_it b.started yes, b.follows)
 
 pub leaves_all : (f : Frame) (old now : RecordedFrames) (left : ℕ) → Leaving f old now left → length old.names.items ≤ left →
     (os : List Opened) → AreFollowed os old → IsOpen f os → AreStarted os → ⊥
@@ -139,7 +139,7 @@ leaves_all f old now left before all os h in_it started =
     let b = before os h in_it started in
     let n = b.count in
     let m = count_frames old os h in
-    none_left f b.frames b.open (omega (arith, n, m, all))
+    none_left f b.frames b.in_it (omega (arith, n, m, all))
   where
     none_left : (f : Frame) (fs : List Opened) → IsOpen f fs → length fs ≡ 0 → ⊥
     none_left f [] in_it e = in_it

@@ -11,21 +11,21 @@ use Rattle.conflict_detector.specs.Followed.{AreFollowed}
 use Rattle.conflict_detector.specs.Recorded.{HasBegun, IsIdle, IsRecording}
 
 pub idle_moved : (roots : List (Bor Typed)) (d e : Detector) → d.known ≡ e.known → d.recorded ≡ e.recorded → d.open ≡ e.open → IsIdle roots d → IsIdle roots e
-idle_moved roots d e known recorded open i = record {
+idle_moved roots d e known recorded opened i = record {
   known = subst (λ z. AreRight roots z) known i.known;
   none = sym recorded ∙ i.none;
   main = i.main;
   bare = i.bare;
-  follows = subst (λ z. AreFollowed (i.main ∷ []) z) open i.follows;
+  follows = subst (λ z. AreFollowed (i.main ∷ []) z) opened i.follows;
 }
 
 pub recording_moved : (roots : List (Bor Typed)) (os : List Opened) (d e : Detector) → d.known ≡ e.known → d.recorded ≡ e.recorded → d.open ≡ e.open →
     IsRecording roots os d → IsRecording roots os e
-recording_moved roots os d e known recorded open i = record {
+recording_moved roots os d e known recorded opened i = record {
   known = subst (λ z. AreRight roots z) known i.known;
   some = subst (λ n. 0 < n) recorded i.some;
   started = i.started;
-  follows = subst (λ z. AreFollowed os z) open i.follows;
+  follows = subst (λ z. AreFollowed os z) opened i.follows;
 }
 
 -- a full expression that is on top stands at a place
