@@ -46,7 +46,7 @@ pub done_due : (t : Opened) → IsBeginning t → (e : Evaluation) → IsAmong t
 done_due t begins e among =
     let before : Opened = record t { done = first among.0 t.done } in
     let tells = listings_tell before (λ j d h. begins j d (first_get among.0 j t.done d h)) in
-    tells.1.0 e.place (ap (slice_get (events t.scope.taken 0 t.scope.tree)) (first_length among.0 t.done e among.1) ∙ begins among.0 e among.1)
+    tells.1 e.place (ap (slice_get (events t.scope.taken 0 t.scope.tree)) (first_length among.0 t.done e among.1) ∙ begins among.0 e among.1)
 
 pub once : (t : Opened) → IsBeginning t → IsOnce t
 once t begins = (listings_tell t begins).0

@@ -3,6 +3,7 @@ use Rattle.std.proofs.Common.{◌≡◌, ◌⊎◌, ◌<◌, ◌≤◌, ◌+◌,
 use Rattle.std.proofs.Common.{Option, Some, None, if◌then◌else◌}
 use Rattle.ub_base.proofs.Tests.{if_true, if_false, number_other, and_right}
 use Rattle.ub_base.specs.declared.names.Item.{Item}
+use Rattle.ub_base.specs.Names.{same_kind}
 use Rattle.ub_base.specs.declared.clause.Kind.{Kind}
 use Rattle.ub_base.specs.declared.clause.Kind.TheVariants.{Val, Eff, Body}
 use Rattle.addr_map.specs.Conflict.{items_conflict, stands_at}
@@ -102,16 +103,18 @@ leaves_none law t f rows d e quiet of_d of_e other apart out i j clash =
 
 -- ---- the part and the whole
 node_other : (u v : Place) → (u.node ≡ v.node → ⊥) → same_place u v ≡ false
-node_other u v h = left_false (u.node == v.node) _ (number_other u.node v.node h)
+node_other u v h = left_false (u.node == v.node) (same_kind u.kind v.kind) (number_other u.node v.node h)
 
 apart_nodes : (rows : List Row) (k t : Opened) (f : Loads) → QuietItems → IsQuiet t.scope.tree f → IsPart k t → AllSuit t f → (d e : Evaluation) →
     IsAmong t d → IsAmong t e → (d.place.node ≡ e.place.node → ⊥) → AreApart t.scope d.place e.place →
     (IsAmong k d → IsAmong k e → NoClash Any rows (has d) (has e)) → NoClash Any rows (has d) (has e)
-apart_nodes rows k t f law quiet part suit d e in_d in_e other apart both_kept =
-    let none = leaves_none law t f rows d e quiet (suit d in_d) (suit e in_e) (node_other d.place e.place other) apart in
-    ⊎_elim
-    (λ kept_d. ⊎_elim (λ kept_e. both_kept kept_d kept_e) (λ out. none (inr out)) (part.rest e in_e))
-    (λ out. none (inl out)) (part.rest d in_d)
+apart_nodes rows k t f law quiet part suit d e in_d in_e other apart both_kept = decide (part.rest d in_d) (part.rest e in_e)
+  where
+    decide : (IsAmong k d ⊎ IsLeftOut d) → (IsAmong k e ⊎ IsLeftOut e) → NoClash Any rows (has d) (has e)
+    decide (inl kept_d) (inl kept_e) = both_kept kept_d kept_e
+    decide (inl kept_d) (inr out) =
+        leaves_none law t f rows d e quiet (suit d in_d) (suit e in_e) (node_other d.place e.place other) apart (inr out)
+    decide (inr out) kept = leaves_none law t f rows d e quiet (suit d in_d) (suit e in_e) (node_other d.place e.place other) apart (inl out)
 
 -- nodes of two operands are two
 two_nodes : (s : Scope) (n x y : ℕ) → AreOfTwo s n x y → x ≡ y → ⊥

@@ -55,7 +55,7 @@ sees_operands frames rows t n found r seen begins none first passes some empty g
 
 -- what node_done asks
 pub own_last : (t : Opened) (n : ℕ) → IsBeginning t → EndsWith t n → OwnAreLast t n
-own_last t n begins ends = (listings_tell t begins).1.1 n ends
+own_last t n begins ends = (listings_tell t begins).2 n ends
 
 pub ordered : (roots : List (Bor Typed)) (b : Begun) (t : Opened) → IsShown roots b t → IsOrdered t (taken_in b.taken) (tree_of b.root.now)
 ordered roots b t shown = record { tree = shown.tree; chosen = shown.taken; small = shown.small }
