@@ -229,7 +229,8 @@ impl Detector {
         if self.passes_over(event, items) {
             return Ok(None);
         }
-        self.recorded_event(roots, v, event, items)
+        let seen = self.recorded_event(roots, v, event, items)?;
+        Ok(seen)
     }
 
     // Whether an event changes nothing: none is recorded, and this one has no items that are noted, or is a body.
@@ -413,7 +414,8 @@ impl Detector {
         if self.recorded == 0 {
             return Ok(None);
         }
-        self.recorded_operands(roots, v, node)
+        let seen = self.recorded_operands(roots, v, node)?;
+        Ok(seen)
     }
 
     // The same in a full expression that is recorded.
