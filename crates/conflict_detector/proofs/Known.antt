@@ -56,7 +56,8 @@ right_more roots es fs e made none quiet right n d h = at_end (before_or_past n 
 
     at_end : (n < length es) ⊎ (length es ≤ n) → IsRight roots n d
     at_end (inl less) = right n d (sym (get_left es (e ∷ []) n less) ∙ (ap (λ xs. slice_get xs n) (sym made) ∙ h))
-    at_end (inr past) = last (n - length es) (sym (get_right es (e ∷ []) n past) ∙ (ap (λ xs. slice_get xs n) (sym made) ∙ h))
+    at_end (inr past) = last (n - length es)
+        (sym (get_right es (e ∷ []) (n - length es)) ∙ (ap (slice_get (es ++ (e ∷ []))) (omega (arith, past)) ∙ (ap (λ xs. slice_get xs n) (sym made) ∙ h)))
 
 -- one in the place of another
 set_same : (es : List Examined) (i : ℕ) (e : Examined) → i < length es → slice_get (set es i e) i ≡ Some e

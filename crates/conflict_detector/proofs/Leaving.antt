@@ -52,12 +52,12 @@ pop_names n fs new t ts len names popped =
     popped ∙ (ap (λ (k : ℕ). take (k - 1) fs) len ∙ (ap (λ (gs : List Frame). take (length gs - 1) gs) names ∙ pop_name t ts))
 
 top_yes : (o : Option Frame) (g f : Frame) → o ≡ Some g → IfSome o (λ z. z ≡ f) → g ≡ f
-top_yes None g f h yes = absurd (cc)
-top_yes (Some z) g f h yes = sym (same_Some z g h) ∙ yes
+top_yes None g f h is_it = absurd (cc)
+top_yes (Some z) g f h is_it = sym (same_Some z g h) ∙ is_it
 
 top_no : (o : Option Frame) (g f : Frame) → o ≡ Some g → IfSome o (λ z. z ≢ f) → g ≢ f
-top_no None g f h no = absurd (cc)
-top_no (Some z) g f h no = λ e. no (same_Some z g h ∙ e)
+top_no None g f h isnt = absurd (cc)
+top_no (Some z) g f h isnt = λ e. isnt (same_Some z g h ∙ e)
 
 abbrev top_of : RecordedFrames → Option Frame
 top_of r = slice_get r.names.items (length r.names.items - 1)
@@ -66,10 +66,10 @@ top_is : (r : RecordedFrames) (t : Opened) (ts : List Opened) → AreFollowed (t
 top_is r t ts h = ap (λ (fs : List Frame). slice_get fs (length fs - 1)) h.names ∙ top_name t ts
 
 pub is_named : (r : RecordedFrames) (t : Opened) (ts : List Opened) (f : Frame) → AreFollowed (t ∷ ts) r → IfSome (top_of r) (λ z. z ≡ f) → t.frame ≡ f
-is_named r t ts f h yes = top_yes (top_of r) t.frame f (top_is r t ts h) yes
+is_named r t ts f h is_it = top_yes (top_of r) t.frame f (top_is r t ts h) is_it
 
 pub is_other : (r : RecordedFrames) (t : Opened) (ts : List Opened) (f : Frame) → AreFollowed (t ∷ ts) r → IfSome (top_of r) (λ z. z ≢ f) → t.frame ≢ f
-is_other r t ts f h no = top_no (top_of r) t.frame f (top_is r t ts h) no
+is_other r t ts f h isnt = top_no (top_of r) t.frame f (top_is r t ts h) isnt
 
 pub count_frames : (r : RecordedFrames) (os : List Opened) → AreFollowed os r → length r.names.items ≡ length os
 count_frames r os h = ap length h.names ∙ count_names os
@@ -95,10 +95,10 @@ Gives now new = (t u : Opened) (us : List Opened) → AreFollowed (t ∷ u ∷ u
 
 leaves_from : (f : Frame) (os frames : List Opened) (now new : RecordedFrames) (left : ℕ) → LeftTo f frames os → AreFollowed frames now → IsOpen f frames →
     AreStarted frames → length frames + left ≡ length os → IfSome (top_of now) (λ z. z ≢ f) → Gives now new → Leaves f os new (left + 1)
-leaves_from f os [] now new left to h in_it started count no gives = absurd in_it
-leaves_from f os (t ∷ []) now new left to h in_it started count no gives = absurd (open_below f t [] in_it (is_other now t [] f h no))
-leaves_from f os (t ∷ u ∷ us) now new left to h in_it started count no gives =
-    let other = is_other now t (u ∷ us) f h no in
+leaves_from f os [] now new left to h in_it started count isnt gives = absurd in_it
+leaves_from f os (t ∷ []) now new left to h in_it started count isnt gives = absurd (open_below f t [] in_it (is_other now t [] f h isnt))
+leaves_from f os (t ∷ u ∷ us) now new left to h in_it started count isnt gives =
+    let other = is_other now t (u ∷ us) f h isnt in
     let g = gives t u us h started.0 in
     record {
       frames = given g.0 u ∷ us;
@@ -111,27 +111,27 @@ leaves_from f os (t ∷ u ∷ us) now new left to h in_it started count no gives
 
 pub leaves_one : (f : Frame) (old now new : RecordedFrames) (left : ℕ) → Leaving f old now left → IfSome (top_of now) (λ z. z ≢ f) → Gives now new →
     Leaving f old new (left + 1)
-leaves_one f old now new left before no gives = λ os h in_it started.
+leaves_one f old now new left before isnt gives = λ os h in_it started.
     let b = before os h in_it started in
-    leaves_from f os b.frames now new left b.to b.follows b.in_it b.started b.count no gives
+    leaves_from f os b.frames now new left b.to b.follows b.in_it b.started b.count isnt gives
 
 reached_from : (f : Frame) (os frames : List Opened) (now : RecordedFrames) → LeftTo f frames os → AreFollowed frames now → IsOpen f frames →
     AreStarted frames → IfSome (top_of now) (λ z. z ≡ f) → IsReached f os frames
-reached_from f os [] now to h in_it started yes = absurd in_it
-reached_from f os (t ∷ ts) now to h in_it started yes = record {
+reached_from f os [] now to h in_it started is_it = absurd in_it
+reached_from f os (t ∷ ts) now to h in_it started is_it = record {
   top = t;
   below = ts;
   is = refl;
-  name = is_named now t ts f h yes;
+  name = is_named now t ts f h is_it;
   left = to;
   started = started;
 }
 
 pub leaves_reach : (f : Frame) (old now : RecordedFrames) (left : ℕ) → Leaving f old now left → IfSome (top_of now) (λ z. z ≡ f) →
     (os : List Opened) → AreFollowed os old → IsOpen f os → AreStarted os → (fs : List Opened) × IsReached f os fs × AreFollowed fs now
-leaves_reach f old now left before yes os h in_it started =
+leaves_reach f old now left before is_it os h in_it started =
     let b = before os h in_it started in
-    (b.frames, reached_from f os b.frames now b.to b.follows b.in_it b.started yes, b.follows)
+    (b.frames, reached_from f os b.frames now b.to b.follows b.in_it b.started is_it, b.follows)
 
 pub leaves_all : (f : Frame) (old now : RecordedFrames) (left : ℕ) → Leaving f old now left → length old.names.items ≤ left →
     (os : List Opened) → AreFollowed os old → IsOpen f os → AreStarted os → ⊥

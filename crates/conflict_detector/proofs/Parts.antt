@@ -28,8 +28,8 @@ use Rattle.run_evaluations.proofs.ShowLemmas.{same_operand}
 use Rattle.conflict_detector.specs.Parts.{AllSuit, IsLeftOut, IsPart, LeavesNone, PartsShow, SuitsKind}
 
 by_test : {A : Type 0} (b : Bool) → (b ≡ true → A) → (b ≡ false → A) → A
-by_test true yes no = yes refl
-by_test false yes no = no refl
+by_test true one other = one refl
+by_test false one other = other refl
 
 -- ---- a body may clash with everything
 body_class : (class : Class) (l : Bool) → has_kind (kinds_of class) Body ≡ true → act_by class l Body ≡ act.All

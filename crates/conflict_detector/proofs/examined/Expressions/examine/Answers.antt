@@ -9,10 +9,10 @@ returns-then-is_known-clause-rules c = λ roots right numbered.
 pub returns-clause-right : goal.returns-clause-right
 returns-clause-right c = λ roots right numbered.
     let e = c.in_ok-examined.ensures in
-    right_put roots c.grow.new.self c.put.new.self c.args.number _ c.put.ensures (c.in_ok-grow.ensures.right roots right)
-    (right_of roots c.args.number c.args.root.now _ numbered e.rules e.quiet e.told)
+    right_put roots c.grow.new.self c.put.new.self c.args.number c.in_ok-examined.examined c.put.ensures (c.in_ok-grow.ensures.right roots right)
+    (right_of roots c.args.number c.args.root.now c.in_ok-examined.examined numbered e.rules e.quiet e.told)
 
 pub returns-clause-rules : goal.returns-clause-rules
 returns-clause-rules c = λ roots right numbered.
     let there = c.in_ok-grow.ensures.there in
-    rules_put c.grow.new.self c.put.new.self c.args.number c.args.root.now _ c.put.ensures (omega (arith, there, c.grow.new.self.list.ok.0)) c.in_ok-examined.ensures.rules
+    rules_put c.grow.new.self c.put.new.self c.args.number c.args.root.now c.in_ok-examined.examined c.put.ensures (omega (arith, there, c.grow.new.self.list.ok.0)) c.in_ok-examined.ensures.rules

@@ -4,7 +4,9 @@ use Rattle.conflict_detector.proofs.Leaving.{pop_names}
 use Rattle.conflict_detector.proofs.frames.RecordedFrames.leave.Goals as goal
 
 pub returns : goal.returns
-returns c = λ t u us f started.
-    let old = c.args.self.now in
-    let g = c.in_ok-leave.ensures.follows u us (below_all old.open t (u ∷ us) f.follows) started in
-    (g.0, record { follows = g.1; names = pop_names _ old.names.items _ t (u ∷ us) (omega (arith, old.names.ok.0)) f.names c.pop.ensures.rest })
+returns c = record {
+  follows = λ t u us f started.
+      let old = c.args.self.now in
+      let g = c.in_ok-leave.ensures.follows u us (below_all old.open t (u ∷ us) f.follows) started in
+      (g.0, record { follows = g.1; names = pop_names _ old.names.items _ t (u ∷ us) (omega (arith, old.names.ok.0)) f.names c.pop.ensures.rest });
+}

@@ -11,10 +11,13 @@ loop-preserved c =
     c.in_ok-leave.ensures.follows
 
 pub returns-then-is_top : goal.returns-then-is_top
-returns-then-is_top c =
-    leaves_reach c.args.frame c.args.self.now c.loop.self c.loop.counter c.loop.invariant (c.is_top.ensures.yes c.if-is_top.true)
+returns-then-is_top c = record {
+  follows = leaves_reach c.args.frame c.args.self.now c.loop.self c.loop.counter c.loop.invariant (c.is_top.ensures.yes c.if-is_top.true);
+}
 
 pub returns : goal.returns
-returns c = λ os f in_it started. absurd (
-    leaves_all c.args.frame c.args.self.now c.loop.self c.loop.counter c.loop.invariant
-    (omega (arith, c.loop-test.false, c.len-counter.ensures, c.args.self.now.names.ok.0)) os f in_it started)
+returns c = record {
+  follows = λ os f in_it started. absurd (
+      leaves_all c.args.frame c.args.self.now c.loop.self c.loop.counter c.loop.invariant
+      (omega (arith, c.loop-test.false, c.len-end.ensures, c.args.self.now.names.ok.0)) os f in_it started);
+}
