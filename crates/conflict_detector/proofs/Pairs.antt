@@ -25,7 +25,7 @@ use Rattle.run_evaluations.proofs.ListingLemmas.{listings_tell}
 use Rattle.conflict_detector.specs.Shown.{IsDuePair}
 
 -- so many of the first ones
-first : ℕ → List Evaluation → List Evaluation
+abbrev first : ℕ → List Evaluation → List Evaluation
 first zero es = []
 first (suc n) [] = []
 first (suc n) (e ∷ es) = e ∷ first n es
@@ -81,8 +81,8 @@ any_clash Races rows f g i j c = (c.0, c.1, access_conflict (stands_at rows) (λ
 -- a conflict of the definition clashes
 pub conflict_clashes : (frames : List FrameRow) (rows : List Row) (t : Opened) (Pairs : Evaluation → Evaluation → Type 0) (f : Found)
     (x : IsConflictIn frames rows t Pairs f) → NoClash Any rows (has x.one) (has x.other) → ⊥
-conflict_clashes frames rows t Pairs f x no =
-    no f.items.0 f.items.1 (any_clash (sought_of f.race) rows (has x.one) (has x.other) f.items.0 f.items.1 x.of.least.0)
+conflict_clashes frames rows t Pairs f x never =
+    never f.items.0 f.items.1 (any_clash (sought_of f.race) rows (has x.one) (has x.other) f.items.0 f.items.1 x.of.least.0)
 
 pub none_of_two : (frames : List FrameRow) (rows : List Row) (t : Opened) (n : ℕ) → NoneOfTwo rows t n →
     (f : Found) → IsConflictIn frames rows t (AreOfOperands t n) f → ⊥

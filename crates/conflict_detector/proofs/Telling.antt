@@ -46,6 +46,7 @@ has_told roots b c os e items top d mid rule chosen same fs reached follows may 
     let can = may fs reached in
     let t = chosen_by (taken_in b.taken) reached.top in
     let ts = reached.below in
+    let u : Opened = told (evaluation e.node e.kind items) t in
     let shown : IsShown roots c t = subst (λ (z : Begun). IsShown roots z t) same can.shown in
     let own = can.tells.own in
     let tells : Tells t (place e.node e.kind) rule chosen =
@@ -60,13 +61,13 @@ has_told roots b c os e items top d mid rule chosen same fs reached follows may 
         known = right;
         some = some;
         logged = logged;
-        started = started_top reached.top _ ts started;
+        started = started_top reached.top u ts started;
         follows = stays t ts f tells same_frame;
       };
       enters = λ other kind. record {
         known = right;
         some = some;
-        started = (λ none. absurd (snoc_some reached.top.done (evaluation e.node e.kind items) none), started_top reached.top _ ts started);
+        started = (λ none. absurd (snoc_some reached.top.done (evaluation e.node e.kind items) none), started_top reached.top u ts started);
         follows = enters t ts f tells other kind;
       };
     }

@@ -7,6 +7,7 @@ mod frames;
 mod laws;
 mod seen;
 mod standing;
+mod steps;
 
 pub use detector::Detector;
 pub use examined::{Examined, Expressions};

@@ -5,4 +5,4 @@ use Rattle.conflict_detector.specs.Apart.{FoundApart}
 use Rattle.conflict_detector.proofs.detector.Detector.end.Given as goal
 
 abbrev pub invariant-loop-i : goal.invariant-loop-i
-invariant-loop-i l = record { items : ItemsConflict l.best; apart : FoundApart (trees_at l.fn.roots.now) l.best }
+invariant-loop-i l = record { items : ItemsConflict l.best; apart : FoundApart (trees_at l.fn.roots) l.best }

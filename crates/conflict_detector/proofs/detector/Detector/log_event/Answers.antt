@@ -4,7 +4,7 @@ use Rattle.conflict_detector.proofs.Telling.{has_told}
 use Rattle.conflict_detector.proofs.detector.Detector.log_event.Goals as goal
 
 pub returns-in_default : goal.returns-in_default
-returns-in_default c = record { follows = λ roots b os last r in_it may. absurd (c.in_default.ensures.none b last) }
+returns-in_default c = record { follows = λ roots b os last r in_it may. absurd (c.in_default.ensures.none refl b last) }
 
 pub returns : goal.returns
 returns c = record {

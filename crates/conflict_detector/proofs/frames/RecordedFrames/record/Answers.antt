@@ -13,5 +13,5 @@ pub returns : goal.returns
 returns c = record {
   follows = λ m s f bare.
       let e = c.in_ok-enter.ensures.follows (m ∷ []) f in
-      (m ∷ [], bare, record { follows = c.begin.ensures.follows _ (m ∷ []) s e.follows refl; names = e.names });
+      (m ∷ [], bare, record { follows = c.begin-2.ensures.follows _ (m ∷ []) s e.follows refl; names = e.names });
 }
