@@ -37,9 +37,13 @@ right_none roots n e none quiet u there = (inl none, λ h. absurd (let q : true 
 -- the rules are those of the full expression, if there are some
 pub has_rules : (roots : List (Bor Typed)) (n : ℕ) (t : Typed) (x : Expressions) (e : Examined) → AreRight roots x → IsNumbered roots n t →
     slice_get x.list.items n ≡ Some e → (length e.rules.list.items == 0) ≡ false → HasRules x n t
-has_rules roots n t x e right numbered there some = (e, there, ⊎_elim
-    (λ none. absurd (let q : true ≡ false = sym (ap (λ xs. length xs == 0) none) ∙ some in cc))
-    (λ rules. rules) (right n e there t numbered).0)
+has_rules roots n t x e right numbered there some = (
+  e,
+  there,
+  ⊎_elim
+      (λ none. absurd (let q : true ≡ false = sym (ap (λ xs. length xs == 0) none) ∙ some in cc))
+      (λ rules. rules) (right n e there t numbered).0,
+)
 
 pub quiet_root : (roots : List (Bor Typed)) (n : ℕ) (t : Typed) (x : Expressions) (e : Examined) → AreRight roots x → IsNumbered roots n t →
     slice_get x.list.items n ≡ Some e → e.quiet ≡ true → IsQuietRoot t

@@ -90,14 +90,14 @@ leaves_none law t f rows d e quiet of_d of_e other apart out i j clash =
     let b = act_in 0 t.scope.tree f e.place in
     let c : may_clash a b ≡ false = quiet t.scope.taken d.place e.place of_d.due of_e.due other apart.before apart.behind in
     let plain_d : is_body d.place.kind ≡ false = by_test (is_body d.place.kind)
-        (λ h. absurd (all_clash a b (body_acts t.scope.taken d.place h 0 t.scope.tree f of_d.due) c)) (λ h. h) in
+    (λ h. absurd (all_clash a b (body_acts t.scope.taken d.place h 0 t.scope.tree f of_d.due) c)) (λ h. h) in
     let plain_e : is_body e.place.kind ≡ false = by_test (is_body e.place.kind)
-        (λ h. absurd (clash_all a b (body_acts t.scope.taken e.place h 0 t.scope.tree f of_e.due) c)) (λ h. h) in
+    (λ h. absurd (clash_all a b (body_acts t.scope.taken e.place h 0 t.scope.tree f of_e.due) c)) (λ h. h) in
     let own_i = own_of d i (of_d.bodiless plain_d i) clash.0 in
     let own_j = own_of e j (of_e.bodiless plain_e j) clash.1 in
     let noted : (is_noted i && is_noted j) ≡ false = ⊎_elim
-        (λ l. left_false (is_noted i) (is_noted j) (l.plain i own_i))
-        (λ l. right_false (is_noted i) (is_noted j) (l.plain j own_j)) out in
+    (λ l. left_false (is_noted i) (is_noted j) (l.plain i own_i))
+    (λ l. right_false (is_noted i) (is_noted j) (l.plain j own_j)) out in
     let no = law (stands_at rows) a b i j c (of_d.suits i own_i) (of_e.suits j own_j) noted in
     absurd (let q : true ≡ false = sym clash.2 ∙ no in cc)
 

@@ -50,7 +50,7 @@ has_told roots b c os e items top d mid rule chosen same fs reached follows may 
     let shown : IsShown roots c t = subst (λ (z : Begun). IsShown roots z t) same can.shown in
     let own = can.tells.own in
     let tells : Tells t (place e.node e.kind) rule chosen =
-        record { own = tells_node t e.node own rule chosen (ruled t own shown); due = can.tells.due } in
+    record { own = tells_node t e.node own rule chosen (ruled t own shown); due = can.tells.due } in
     let f = grown mid fs reached.top ts b reached.is follows can.grows in
     let started : AreStarted (reached.top ∷ ts) = subst (λ (z : List Opened). AreStarted z) reached.is reached.started in
     let right = known shown.numbered in

@@ -365,7 +365,12 @@ impl Detector {
     }
 
     // The first conflict between the operands of the node above this one, where this is the last of them.
-    fn operands_above(&mut self, v: &View, begun: &Begun, node: u32) -> Result<Option<Found>, NoMemory>
+    fn operands_above(
+        &mut self,
+        v: &View,
+        begun: &Begun,
+        node: u32,
+    ) -> Result<Option<Found>, NoMemory>
         ensures conflict { IfOk result ItemsConflict }
     {
         let Some(above) = last_operand_of(begun.root, node) else {

@@ -141,7 +141,12 @@ impl Expressions {
     }
 
     /// The rule of a node of this full expression, and whether the node has chosen a further operand.
-    pub(crate) fn rule_of(&mut self, alloc: Global, begun: &Begun, node: u32) -> Result<(Rule, bool), NoMemory>
+    pub(crate) fn rule_of(
+        &mut self,
+        alloc: Global,
+        begun: &Begun,
+        node: u32,
+    ) -> Result<(Rule, bool), NoMemory>
         ensures right { OnOk result ((roots : List (Bor Typed)) → AreRight roots self.old → IsNumbered roots begun.now.tree begun.now.root.now →
             AreRight roots self.new) }
         ensures ruled { IfOk result (λ r. (roots : List (Bor Typed)) (t : Opened) (own : TellsAt t node) → AreRight roots self.old →

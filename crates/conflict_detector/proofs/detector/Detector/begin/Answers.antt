@@ -31,9 +31,11 @@ returns-then-is_quiet-clause-starts c = λ roots b last numbered i.
     let same = same_Some c.in-Some.begun.now b (sym c.in-Some.ensures.some ∙ last) in
     let own = subst (λ z. IsNumbered roots z.tree z.root.now) (sym same) numbered in
     let known = c.in_ok-examine.ensures.right roots i.known own in
-    inr (record { known = known; none = i.none; main = i.main; bare = i.bare; follows = i.follows },
-    subst (λ z. IsQuietRoot z.root.now) same
-    (quiet_known roots c.in-Some.begun.now.tree c.in-Some.begun.now.root.now c.examine.new.known known own (sym c.is_quiet.ensures ∙ c.if-is_quiet.true)))
+    inr (
+      record { known = known; none = i.none; main = i.main; bare = i.bare; follows = i.follows },
+      subst (λ z. IsQuietRoot z.root.now) same
+          (quiet_known roots c.in-Some.begun.now.tree c.in-Some.begun.now.root.now c.examine.new.self known own (sym c.is_quiet.ensures ∙ c.if-is_quiet.true)),
+    )
 
 pub returns-then-is_quiet-clause-begins : goal.returns-then-is_quiet-clause-begins
 returns-then-is_quiet-clause-begins c = λ roots b t ts s last numbered r none. absurd (let some = r.some in omega (arith, some, c.if-self-gt0.false))

@@ -4,8 +4,10 @@ use Rattle.conflict_detector.proofs.detector.Detector.step.Goals as goal
 
 pub returns-then-rests-clause-starts : goal.returns-then-rests-clause-starts
 returns-then-rests-clause-starts c = λ roots b less last numbered i.
-    inr (idle_moved roots c.args.self.now _ refl refl refl i,
-    ⊎_elim (λ le. absurd (omega (arith, le, less))) (λ q. q roots b i.known last numbered) (c.rests.ensures.yes c.if-rests.true))
+    inr (
+      idle_moved roots c.args.self.now _ refl refl refl i,
+      ⊎_elim (λ le. absurd (omega (arith, le, less))) (λ q. q roots b i.known last numbered) (c.rests.ensures.yes c.if-rests.true),
+    )
 
 pub returns-then-rests-clause-idle : goal.returns-then-rests-clause-idle
 returns-then-rests-clause-idle c = λ roots le i. idle_moved roots c.args.self.now _ refl refl refl i
