@@ -1,7 +1,7 @@
 -- What is known of full expressions stays right.
-use Rattle.std.proofs.Common.{◌≡◌, ◌≢◌, ◌<◌, ◌≤◌, ◌⊎◌, inl, inr, ⊎_elim, ℕ, zero, suc, ◌-◌, Bor, Bool, true, false, not, ◌==◌, List, [], ◌∷◌, ◌++◌, length, refl, ap, sym, subst, ◌∙◌, arith, Option, Some, None, set}
+use Rattle.std.proofs.Common.{◌≡◌, ◌<◌, ◌≤◌, ◌⊎◌, inl, inr, ⊎_elim, ℕ, zero, suc, ◌-◌, Bor, Bool, true, false, not, ◌==◌, List, [], ◌∷◌, ◌++◌, length, refl, ap, sym, subst, ◌∙◌, arith, Option, Some, None, set}
 use Rattle.std.specs.Prelude.{slice_get}
-use Rattle.std.proofs.lemmas.Option.{same_Some, slice_get_within}
+use Rattle.std.proofs.lemmas.Option.{same_Some}
 use Rattle.c_typed.specs.declared.tree.Typed.{Typed}
 use Rattle.c_typed.specs.Tree.{tree_of}
 use Rattle.quiet_trees.specs.Loads.{loads_of}
@@ -9,7 +9,7 @@ use Rattle.quiet_trees.specs.Quiet.{IsQuiet}
 use Rattle.quiet_trees.specs.Summaries.{summary_of}
 use Rattle.evaluation_log.specs.Ruled.{rules_of}
 use Rattle.evaluation_log.proofs.KeptLemmas.{before_or_past}
-use Rattle.evaluation_log.proofs.WholeLemmas.{get_left, get_right, get_seam}
+use Rattle.evaluation_log.proofs.WholeLemmas.{get_left, get_right}
 use Rattle.conflict_detector.specs.declared.examined.Examined.{Examined}
 use Rattle.conflict_detector.specs.declared.examined.Expressions.{Expressions}
 use Rattle.conflict_detector.specs.Examined.{AreRight, HasRules, IsNumbered, IsQuietRoot, IsRight, is_known, is_said_quiet}

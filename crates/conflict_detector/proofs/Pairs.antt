@@ -1,7 +1,6 @@
 -- A conflict of the definition is of two evaluations that are due.
-use Rattle.std.proofs.Common.{◌≡◌, ◌<◌, ◌⊎◌, inl, inr, ⊎_elim, ℕ, zero, suc, Bool, true, false, List, [], ◌∷◌, length, refl, ap, sym, subst, ◌∙◌, arith, Option, Some, None}
+use Rattle.std.proofs.Common.{◌≡◌, ◌⊎◌, ℕ, zero, suc, Bool, true, List, [], ◌∷◌, length, refl, ap, subst, ◌∙◌, Option, Some, None}
 use Rattle.std.specs.Prelude.{slice_get, IfNone, IfSome}
-use Rattle.std.proofs.lemmas.Option.{same_Some}
 use Rattle.ub_base.specs.Frames.{Row as FrameRow}
 use Rattle.addr_map.specs.declared.map.Row.{Row}
 use Rattle.c_typed.specs.Decide.{due_in}
@@ -18,7 +17,7 @@ use Rattle.evaluation_log.specs.Clashes.{Clash, NoClash}
 use Rattle.evaluation_log.specs.FoundItems.{first_found}
 use Rattle.evaluation_search.specs.First.{IsFirst, IsFirstOf, sought_of}
 use Rattle.run_evaluations.specs.First.{AreOfOperands, IsConflictIn, IsOnce}
-use Rattle.run_evaluations.specs.Listing.{IsBeginning, IsListedNext}
+use Rattle.run_evaluations.specs.Listing.{IsBeginning}
 use Rattle.run_evaluations.specs.Shows.{IsAmong, NoneOfTwo}
 use Rattle.run_evaluations.specs.Told.{Evaluation, Opened, has}
 use Rattle.run_evaluations.proofs.ListingLemmas.{listings_tell}

@@ -1,12 +1,12 @@
 -- What is left out of a quiet full expression clashes with nothing that it stands apart from.
-use Rattle.std.proofs.Common.{◌≡◌, ◌⊎◌, ◌<◌, ◌≤◌, ◌+◌, inl, inr, ⊎_elim, ℕ, zero, suc, Bool, true, false, not, ◌&&◌, ◌||◌, ◌==◌, nat_lt, List, [], ◌∷◌, refl, sym, ap, ◌∙◌, subst, arith}
-use Rattle.std.proofs.Common.{Option, Some, None, if◌then◌else◌}
+use Rattle.std.proofs.Common.{◌≡◌, ◌⊎◌, ◌+◌, inl, inr, ⊎_elim, ℕ, suc, Bool, true, false, ◌&&◌, ◌||◌, ◌==◌, nat_lt, List, refl, sym, ap, ◌∙◌, subst, arith}
+use Rattle.std.proofs.Common.{Option}
 use Rattle.ub_base.proofs.Tests.{if_true, if_false, number_other, and_right}
 use Rattle.ub_base.specs.declared.names.Item.{Item}
 use Rattle.ub_base.specs.Names.{same_kind}
 use Rattle.ub_base.specs.declared.clause.Kind.{Kind}
 use Rattle.ub_base.specs.declared.clause.Kind.TheVariants.{Val, Eff, Body}
-use Rattle.addr_map.specs.Conflict.{items_conflict, stands_at}
+use Rattle.addr_map.specs.Conflict.{stands_at}
 use Rattle.addr_map.specs.declared.map.Row.{Row}
 use Rattle.c_typed.specs.declared.tree.Place.{Place}
 use Rattle.c_typed.specs.declared.class.Class.{Class}
@@ -16,16 +16,16 @@ use Rattle.c_typed.specs.Order.{Taken, goes, is_body, same_place}
 use Rattle.c_typed.specs.Decide.{due_among, due_in, has_kind}
 use Rattle.quiet_trees.specs.Acts.{Act, act_among, act_by, act_in, may_clash}
 use Rattle.quiet_trees.specs.Acts as act
-use Rattle.quiet_trees.specs.Items.{QuietItems, is_noted, suits}
+use Rattle.quiet_trees.specs.Items.{QuietItems, is_noted}
 use Rattle.quiet_trees.specs.Loads.{Loads, LoadsList, below, first, is_load, rest}
 use Rattle.quiet_trees.specs.Quiet.{IsQuiet}
 use Rattle.evaluation_log.specs.declared.sought.Sought.TheVariants.{Any}
 use Rattle.evaluation_log.specs.Clashes.{NoClash}
 use Rattle.run_evaluations.specs.Scopes.{Scope}
-use Rattle.run_evaluations.specs.Shows.{AreApart, AreOfTwo, IsAmong, IsIn, NoneOfNode, NoneOfTwo}
+use Rattle.run_evaluations.specs.Shows.{AreApart, AreOfTwo, IsAmong, IsIn}
 use Rattle.run_evaluations.specs.Told.{Evaluation, IsUnder, Opened, has}
 use Rattle.run_evaluations.proofs.ShowLemmas.{same_operand}
-use Rattle.conflict_detector.specs.Parts.{AllSuit, IsLeftOut, IsPart, LeavesNone, PartsShow, SuitsKind}
+use Rattle.conflict_detector.specs.Parts.{AllSuit, IsLeftOut, IsPart, LeavesNone, PartsShow}
 
 by_test : {A : Type 0} (b : Bool) → (b ≡ true → A) → (b ≡ false → A) → A
 by_test true one other = one refl

@@ -1,7 +1,6 @@
 -- The rule of a node that is examined is its own.
-use Rattle.std.proofs.Common.{◌≡◌, ◌<◌, ◌^◌, ◌⊎◌, inl, inr, ⊎_elim, ℕ, Bor, Bool, true, false, ◌==◌, List, [], ◌∷◌, length, refl, ap, sym, subst, ◌∙◌, arith, Option, Some, None}
-use Rattle.std.specs.Prelude.{slice_get, is_some}
-use Rattle.std.proofs.lemmas.Option.{same_Some}
+use Rattle.std.proofs.Common.{◌≡◌, ◌<◌, ◌^◌, ℕ, Bor, Bool, true, List, ap, sym, subst, ◌∙◌}
+use Rattle.std.specs.Prelude.{is_some}
 use Rattle.c_typed.specs.declared.tree.Typed.{Typed}
 use Rattle.c_typed.specs.declared.class.Class.{Class}
 use Rattle.c_typed.specs.Tree.{Tree, Trees, tree_of, size}
@@ -18,9 +17,8 @@ use Rattle.run_evaluations.specs.Shows.{FitsRules}
 use Rattle.run_evaluations.specs.Told.{Opened}
 use Rattle.run_evaluations.proofs.FitLemmas.{rules_fit}
 use Rattle.run_state.specs.declared.watch.Begun.{Begun}
-use Rattle.conflict_detector.specs.declared.examined.Examined.{Examined}
 use Rattle.conflict_detector.specs.declared.examined.Expressions.{Expressions}
-use Rattle.conflict_detector.specs.Examined.{AreRight, HasRules, IsNumbered}
+use Rattle.conflict_detector.specs.Examined.{HasRules}
 use Rattle.conflict_detector.specs.Shown.{IsShown}
 use Rattle.conflict_detector.specs.Telling.{TellsAt}
 

@@ -1,19 +1,18 @@
 -- What a call gives is the first conflict, or there is none.
-use Rattle.std.proofs.Common.{◌≡◌, ◌<◌, ◌⊎◌, inl, inr, ⊎_elim, ℕ, Bor, Bool, true, false, List, [], ◌∷◌, length, refl, ap, sym, subst, ◌∙◌, arith, Option, Some, None}
-use Rattle.std.specs.Prelude.{slice_get, IfNone, IfSome}
+use Rattle.std.proofs.Common.{◌≡◌, ℕ, Bor, Bool, List, refl, sym, subst, ◌∙◌, Option, Some, None}
+use Rattle.std.specs.Prelude.{IfNone, IfSome}
 use Rattle.std.proofs.lemmas.Option.{same_Some}
 use Rattle.ub_base.specs.Frames.{Row as FrameRow}
 use Rattle.addr_map.specs.declared.map.Row.{Row}
 use Rattle.c_typed.specs.declared.tree.Typed.{Typed}
-use Rattle.c_typed.specs.Tree.{Tree, tree_of}
+use Rattle.c_typed.specs.Tree.{tree_of}
 use Rattle.seq_order.specs.Marked.{taken_in}
 use Rattle.evaluation_log.specs.declared.found.Found.{Found}
-use Rattle.evaluation_log.specs.FoundItems.{first_found}
-use Rattle.evaluation_search.specs.First.{IsFirst, IsFirstOf}
+use Rattle.evaluation_search.specs.First.{IsFirst}
 use Rattle.run_state.specs.declared.watch.Begun.{Begun}
-use Rattle.run_evaluations.specs.First.{AreOfNode, AreOfOperands, IsConflictIn, IsOrdered}
+use Rattle.run_evaluations.specs.First.{AreOfOperands, IsConflictIn, IsOrdered}
 use Rattle.run_evaluations.specs.Listing.{EndsWith, IsBeginning}
-use Rattle.run_evaluations.specs.Shows.{NoneOfNode, NoneOfTwo, OwnAreLast}
+use Rattle.run_evaluations.specs.Shows.{NoneOfTwo, OwnAreLast}
 use Rattle.run_evaluations.specs.Scopes.{IsRuled}
 use Rattle.run_evaluations.specs.Told.{Opened, TellsNode}
 use Rattle.evaluation_log.specs.declared.rules.Rule.{Rule}

@@ -1,5 +1,5 @@
 -- An event is told of the full expression on top, as its nodes have chosen by now.
-use Rattle.std.proofs.Common.{◌≡◌, ◌≢◌, ◌<◌, ℕ, Bor, Bool, true, List, [], ◌∷◌, ◌++◌, Some, refl, sym, subst, ap, ◌∙◌}
+use Rattle.std.proofs.Common.{◌≡◌, ◌≢◌, ◌<◌, ℕ, Bor, Bool, true, List, [], ◌∷◌, ◌++◌, Some, subst}
 use Rattle.ub_base.specs.declared.clause.Kind.TheVariants.{Eff}
 use Rattle.ub_base.specs.declared.names.Event.{Event}
 use Rattle.ub_base.specs.declared.names.Frame.{Frame}
@@ -9,7 +9,6 @@ use Rattle.c_typed.specs.Order.{place}
 use Rattle.seq_order.specs.Marked.{taken_in}
 use Rattle.run_state.specs.declared.watch.Begun.{Begun}
 use Rattle.evaluation_log.specs.declared.rules.Rule.{Rule}
-use Rattle.run_evaluations.specs.Follows.{Follows}
 use Rattle.run_evaluations.specs.Scopes.{IsRuled}
 use Rattle.run_evaluations.specs.Told.{Evaluation, Opened, Tells, chosen_by, entered, evaluation, told}
 use Rattle.run_evaluations.proofs.FollowLemmas.{choices_grow}

@@ -1,7 +1,6 @@
 -- What a view shows of open full expressions, and which of their conflicts stand as they ask (own).
 use Rattle.std.specs.Borrow.{Bor}
-use Rattle.std.specs.Prelude.{◌≡◌, ◌<◌, ◌^◌, ◌-◌, ◌||◌, ℕ, true, false, List, Some, slice_get, length}
-use Rattle.ub_base.specs.declared.names.Event.{Event}
+use Rattle.std.specs.Prelude.{◌≡◌, ◌<◌, ◌^◌, ◌-◌, ◌||◌, true, false, List, Some, slice_get, length}
 use Rattle.c_typed.specs.declared.tree.Place.{Place}
 use Rattle.c_typed.specs.declared.tree.Typed.{Typed}
 use Rattle.c_typed.specs.Tree.{tree_of, size}

@@ -4,7 +4,7 @@ use Rattle.ub_base.specs.declared.names.Frame.{Frame}
 use Rattle.ub_base.specs.declared.names.Item.{Item}
 use Rattle.c_typed.specs.declared.tree.Place.{Place}
 use Rattle.c_typed.specs.declared.class.Class.{Class}
-use Rattle.c_typed.specs.Tree.{Tree, Trees, node}
+use Rattle.c_typed.specs.Tree.{Trees, node}
 use Rattle.c_typed.specs.Decide.{due_in}
 use Rattle.run_evaluations.specs.Follows.{HasStarted}
 use Rattle.run_evaluations.specs.Scopes.{Scope, part_of}

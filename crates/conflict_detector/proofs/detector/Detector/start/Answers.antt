@@ -1,4 +1,3 @@
-use Rattle.std.proofs.Common.{◌∷◌}
 use Rattle.conflict_detector.specs.Telling.{fresh}
 use Rattle.conflict_detector.proofs.Leaving.{started_bare}
 use Rattle.conflict_detector.proofs.detector.Detector.start.Goals as goal

@@ -1,4 +1,4 @@
-use Rattle.std.proofs.Common.{◌∙◌, ap, sym, Some}
+use Rattle.std.proofs.Common.{◌∙◌, ap}
 use Rattle.std.specs.Prelude.{is_some}
 use Rattle.conflict_detector.specs.Examined.{rule_by}
 use Rattle.conflict_detector.proofs.Rules.{free_shown, ruled_shown}

@@ -1,4 +1,3 @@
-use Rattle.std.proofs.Common.{◌∷◌}
 use Rattle.conflict_detector.proofs.frames.RecordedFrames.tell.Goals as goal
 
 pub returns-clause-enters : goal.returns-clause-enters
