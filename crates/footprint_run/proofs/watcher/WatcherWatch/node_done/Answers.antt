@@ -4,8 +4,8 @@ use Rattle.elaborate.specs.Roots.{trees_at}
 use Rattle.footprint_run.proofs.Stand.{seen_after}
 use Rattle.footprint_run.proofs.watcher.WatcherWatch.node_done.Goals as goal
 
-pub invariant_of-self : goal.invariant_of-self
-invariant_of-self c =
+pub invariant_of-self-2 : goal.invariant_of-self-2
+invariant_of-self-2 c =
     let w = c.args.self.now in
     let after = seen_after (HasStopped (Some w.calls)) (trees_at w.roots.now) w.seen c.note.new.last c.note.result
     (c.note.ensures (trees_at w.roots.now) c.in_ok-node_done.ensures.apart) w.stopped w.apart in
