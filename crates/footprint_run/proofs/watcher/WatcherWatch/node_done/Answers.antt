@@ -4,6 +4,10 @@ use Rattle.elaborate.specs.Roots.{trees_at}
 use Rattle.footprint_run.proofs.Stand.{seen_after}
 use Rattle.footprint_run.proofs.watcher.WatcherWatch.node_done.Goals as goal
 
+-- where the call of the detector gives an error, nothing is noted
+pub invariant_of-self : goal.invariant_of-self
+invariant_of-self c = record { stopped = c.args.self.now.stopped; apart = c.args.self.now.apart }
+
 pub invariant_of-self-2 : goal.invariant_of-self-2
 invariant_of-self-2 c =
     let w = c.args.self.now in
