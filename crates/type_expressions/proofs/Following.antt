@@ -17,6 +17,7 @@ use Rattle.type_scope.specs.Tagged.{has_constant}
 use Rattle.type_scope.specs.declared.fault.TypeFault.{TypeFault}
 use Rattle.type_scope.specs.declared.state.State.{State}
 use Rattle.type_declarators.specs.Finds.{Finds}
+use Rattle.type_declarators.proofs.ConstantsKept.{told}
 use Rattle.type_expressions.specs.Forms.{member_by}
 use Rattle.type_expressions.specs.Seen.{Namings, operand_seen}
 use Rattle.type_expressions.specs.Standing.{layouts_in}
@@ -109,7 +110,7 @@ modifying_read t s at line make result e f = λ n off before env h.
     let P : Option Expression → Type 0 = λ o. Finds (operand_seen n) o result in
     found_follows (operand_seen n) (Tells n t off before s) env (make n (layouts_of env.tags) (constants env.tags) (line_of env at)) result h
     (subst P (ap (λ (l : ℕ). make n (layouts_in s) (has_constant s) l) (line_told n t off before s env at line h e)
-    ∙ ap (λ (c : ℕ → Bool). make n (layouts_in s) c (line_of env at)) (fun_ext h.constants)
+    ∙ ap (λ (c : ℕ → Bool). make n (layouts_in s) c (line_of env at)) (fun_ext (told s (h.tags).1))
     ∙ ap (λ tags. make n (layouts_of tags) (constants tags) (line_of env at)) (sym (tags_told n t off before s env h))) (f n))
 
 -- a member, by the spelling of its name (6.5.2.3)
