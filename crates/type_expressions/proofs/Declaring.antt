@@ -276,7 +276,8 @@ unfolding declared
 declared_step q d env = refl
 
 -- from its parts
-pub declared_read : {A : Type 0} (view : A → Qualified) (t : TokenText) (old s : State) (d : Declarator) (parts : List held.Derivation) (name : Option ℕ) (q : Qualified)
+pub declared_read : {A : Type 0} (view : A → Qualified) (t : TokenText)
+    (old s : State) (d : Declarator) (parts : List held.Derivation) (name : Option ℕ) (q : Qualified)
     (r : Result A TypeFault)
     → ((n : Namings) (off : Bool) (before : List Use) (env : Env) → Tells n t off before old env
     → FollowsSo (AreParts [] parts) (Tells n t off before s) (derivations d env) (Ok name))
@@ -293,7 +294,8 @@ declared_read {A} view t old s d parts name q r first f = λ n off before env h.
     (subst Q (ap (λ (ds : List Derivation). derived (map tag_seen s.tags) ds q) (g.1.1.1.0.0 ∙ append-nil g.0)
     ∙ ap (λ (tags : List SeenTag). derived tags g.0 q) (sym (tags_told n t off before s g.1.0 tells))) (f (g.1.1.1.0.1 tt))))
 
-pub declared_none : {A : Type 0} (view : A → Qualified) (t : TokenText) (old mid s : State) (d : Declarator) (parts : List held.Derivation) (q : Qualified) (e : TypeFault)
+pub declared_none : {A : Type 0} (view : A → Qualified) (t : TokenText)
+    (old mid s : State) (d : Declarator) (parts : List held.Derivation) (q : Qualified) (e : TypeFault)
     → ((n : Namings) (off : Bool) (before : List Use) (env : Env) → Tells n t off before old env
     → FollowsSo (AreParts [] parts) (Tells n t off before mid) (derivations d env) (Err e))
     → ReadsAs (λ _. view) t old s (λ _. declared q d) (Err e)

@@ -96,7 +96,8 @@ some_given at x env = regroup (expression at x env)
 
 pub value_is_plain : (e : Enumerator) (x : Expr) → written e ≡ Some x → IsPlainEnumerator e → IsPlain x.node
 value_is_plain (Enumerator' at Enumerator-value-None') x is h = absurd (none-some x is)
-value_is_plain (Enumerator' at (Enumerator-value-Some' m node)) x is h = let P : Expr → Type 0 = λ y. IsPlain y.node in subst P (same_Some (record { at = m; node = node }) x is) h
+value_is_plain (Enumerator' at (Enumerator-value-Some' m node)) x is h = let P : Expr → Type 0 = λ y. IsPlain y.node in subst P
+    (same_Some (record { at = m; node = node }) x is) h
 
 pub no_value : (t : TokenText) (s : State) (e : Enumerator) → written e ≡ None → ReadsAs (λ _ (v : Option ℤ). v) t s s (λ _. value_in e) (Ok None)
 no_value t s (Enumerator' at Enumerator-value-None') is = λ n off before env h. (env, none_given env, h)

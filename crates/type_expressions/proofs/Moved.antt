@@ -75,7 +75,8 @@ completed_tell n t off before old new env e h =
 
 -- what a call reads of what is known by the state
 pub known_read : {A B : Type 0} (view : A → B) (t : TokenText) (old new : State) (p : Typing B) (r : Result A TypeFault)
-    → OnOk r ((n : Namings) (off : Bool) (before : List Use) (env : Env) → Tells n t off before old env → Tells n t off before new (known_by n.objects t new env))
+    → OnOk r ((n : Namings) (off : Bool) (before : List Use) (env : Env) → Tells n t off before old env
+    → Tells n t off before new (known_by n.objects t new env))
     → ((k : Naming) (env : Env) → Reads view (p (known_by k t old env)) r (known_by k t new env)) → ReadsAs (λ _. view) t old new (λ _. p) r
 known_read {A} {B} view t old new p (Ok a) tells f = λ n off before env h.
     let now = known_by n.objects t new env in
@@ -131,13 +132,15 @@ prototype_none view t old inside mid new own p e enters read = λ n off before e
 pub tag_kept : {A : Type 0} (t : TokenText) (old new : State) (r : Result A TypeFault)
     → new ≡ record old { names = new.names; tags = new.tags; tag_rows = new.tag_rows }
     → OnOk r ((u : TokenText) → HasSymbols u old → HasSymbols u new) → OnOk r (HasConstants old → HasConstants new)
-    → OnOk r ((n : Namings) (off : Bool) (before : List Use) (env : Env) → Tells n t off before old env → Tells n t off before new (known_by n.objects t new env))
+    → OnOk r ((n : Namings) (off : Bool) (before : List Use) (env : Env) → Tells n t off before old env
+    → Tells n t off before new (known_by n.objects t new env))
 tag_kept t old new (Ok a) e symbols constants = λ n off before env h.
     tags_tell n t off before old new env e (symbols t (h.tags).0, constants (h.tags).1) h
 tag_kept t old new (Err x) e symbols constants = tt
 
 pub names_kept : {A : Type 0} (t : TokenText) (old new : State) (r : Result A TypeFault) → new ≡ record old { names = new.names }
-    → OnOk r ((n : Namings) (off : Bool) (before : List Use) (env : Env) → Tells n t off before old env → Tells n t off before new (known_by n.objects t new env))
+    → OnOk r ((n : Namings) (off : Bool) (before : List Use) (env : Env) → Tells n t off before old env
+    → Tells n t off before new (known_by n.objects t new env))
 names_kept t old new (Ok a) e = λ n off before env h. names_tell n t off before old new env e h
 names_kept t old new (Err x) e = tt
 
@@ -148,7 +151,8 @@ state_kept t s (Err x) = tt
 
 pub enumerations_kept : {A : Type 0} (t : TokenText) (old new : State) (r : Result A TypeFault)
     → new ≡ record old { names = new.names; enumerations = new.enumerations }
-    → OnOk r ((n : Namings) (off : Bool) (before : List Use) (env : Env) → Tells n t off before old env → Tells n t off before new (known_by n.objects t new env))
+    → OnOk r ((n : Namings) (off : Bool) (before : List Use) (env : Env) → Tells n t off before old env
+    → Tells n t off before new (known_by n.objects t new env))
 enumerations_kept t old new (Ok a) e = λ n off before env h. enumerations_tell n t off before old new env e h
 enumerations_kept t old new (Err x) e = tt
 

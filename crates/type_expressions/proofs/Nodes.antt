@@ -19,7 +19,8 @@ use Rattle.type_conversions.specs.Casts.{cast}
 use Rattle.type_calls.specs.Calls.{called}
 use Rattle.type_calls.specs.Choices.{chosen, sequenced}
 use Rattle.typing_env.specs.Env.{Typing, ◌>>=◌, known, spelling, unevaluated}
-use Rattle.typing_spec.specs.Expressions.{expression, operand, operands, expr, made, made_modifying, unary, postfix, binary, assigned, measured, measured_operand, type_name}
+use Rattle.typing_spec.specs.Expressions.{expression, operand, operands, expr, made, made_modifying, unary, postfix, binary, assigned, measured}
+use Rattle.typing_spec.specs.Expressions.{measured_operand, type_name}
 use Rattle.type_scope.specs.declared.fault.TypeFault.{TypeFault}
 use Rattle.type_scope.specs.declared.state.State.{State}
 use Rattle.type_expressions.specs.Forms.{member_by}
@@ -67,7 +68,8 @@ unfolding expression operand hidden-the_row-Expr-3 hidden
 dot_by t old new at name a r f plain = f plain.0
 
 pub dot_form : (t : TokenText) (old new : State) (at : ℕ) (nd : ExprNode) (name : ℕ) (a b : Expr) (r : Result Operand TypeFault)
-    → nd ≡ node.Dot a name → b ≡ a → (IsPlain b.node → ReadsAs operand_seen t old new (λ _. expr b >>= λ y. known >>= λ k. made at (λ tags. member_by false tags y (spelling k name))) r)
+    → nd ≡ node.Dot a name → b ≡ a → (IsPlain b.node
+    → ReadsAs operand_seen t old new (λ _. expr b >>= λ y. known >>= λ k. made at (λ tags. member_by false tags y (spelling k name))) r)
     → IsPlain nd → ReadsAs operand_seen t old new (λ _. expression at nd) r
 dot_form t old new at nd name a b r is same f =
     at_node t old new at nd (node.Dot b name) r (is ∙ ap (λ x. node.Dot x name) (sym same)) (dot_by t old new at name b r f)
@@ -79,7 +81,8 @@ unfolding expression operand hidden-the_row-Expr-3 hidden
 arrow_by t old new at name a r f plain = f plain.0
 
 pub arrow_form : (t : TokenText) (old new : State) (at : ℕ) (nd : ExprNode) (name : ℕ) (a b : Expr) (r : Result Operand TypeFault)
-    → nd ≡ node.Arrow a name → b ≡ a → (IsPlain b.node → ReadsAs operand_seen t old new (λ _. expr b >>= λ y. known >>= λ k. made at (λ tags. member_by true tags y (spelling k name))) r)
+    → nd ≡ node.Arrow a name → b ≡ a → (IsPlain b.node
+    → ReadsAs operand_seen t old new (λ _. expr b >>= λ y. known >>= λ k. made at (λ tags. member_by true tags y (spelling k name))) r)
     → IsPlain nd → ReadsAs operand_seen t old new (λ _. expression at nd) r
 arrow_form t old new at nd name a b r is same f =
     at_node t old new at nd (node.Arrow b name) r (is ∙ ap (λ x. node.Arrow x name) (sym same)) (arrow_by t old new at name b r f)

@@ -1,5 +1,6 @@
 -- Lists of parameters, as the definition reads them: each in scope behind itself (6.7.6.3).
-use Rattle.std.proofs.Common.{◌≡◌, ◌∙◌, refl, sym, ap, subst, ℕ, suc, ◌+◌, ◌<◌, ◌≤◌, ◌^◌, Bool, true, false, List, [], ◌∷◌, ◌++◌, map, length, get_or, drop, arith}
+use Rattle.std.proofs.Common.{◌≡◌, ◌∙◌, refl, sym, ap, subst, ℕ, suc, ◌+◌, ◌<◌, ◌≤◌, ◌^◌, Bool, true, false, List, [], ◌∷◌, ◌++◌, map, length, get_or, drop}
+use Rattle.std.proofs.Common.{arith}
 use Rattle.std.specs.Prelude.{◌≢◌, zero, not, ◌&&◌, ◌==◌, if◌then◌else◌, Option, Some, None, Result, Ok, Err}
 use Rattle.std.proofs.Math.ListN.{drop_of_length-le}
 use Rattle.std.proofs.Math.Path.{fun_ext}
@@ -279,7 +280,8 @@ next_stands t variadic old mid later new all i m qs extended p h found lone void
             d.0,
             (
               g.1.0
-                  ∙ kept_is variadic all i m (map qualified_of qs) p h found lone void k.0 g.0 k.1.0 below at e named voids kept (index ∙ s.count) k.1.1.0 k.1.1.1.0
+                  ∙ kept_is variadic all i m (map qualified_of qs) p h found lone void k.0 g.0 k.1.0 below at e named voids kept (index ∙ s.count) k.1.1.0
+                  k.1.1.1.0
                   ∙ ap (λ (o : Option (Qualified × Env)). behind (map qualified_of qs) (and_then o (λ x. rest >>= λ ps. pure (more x.constant x.ty ps)))) d.1
                   ∙ behind_more (map qualified_of qs) (qualified_of q) (rest d.0)
                   ∙ ap (λ xs. behind xs (rest d.0)) (sym (map-append qualified_of qs (q ∷ []))),
@@ -290,7 +292,8 @@ next_stands t variadic old mid later new all i m qs extended p h found lone void
 
 -- 5. One that isn't read, or isn't declared.
 
-pub next_none : {A : Type 0} (view : A → Params) (t : TokenText) (variadic : Bool) (old mid later new : State) (all : List Param) (i : ℕ) (qs : List Qual) (p : Param)
+pub next_none : {A : Type 0} (view : A → Params) (t : TokenText)
+    (variadic : Bool) (old mid later new : State) (all : List Param) (i : ℕ) (qs : List Qual) (p : Param)
     (x : TypeFault)
     → i < length all → p ≡ get_or all i p → StandsAt t variadic old mid all i qs
     → ((n : Namings) (off : Bool) (before : List Use) (env : Env) → Tells n t off before mid env → x ≢ NoMemory → parameter_in p env ≡ None)
@@ -302,7 +305,8 @@ next_none view t variadic old mid later new all i qs p x below at s read = λ n 
     ∙ ap (λ (o : Option (Specified × Env)). behind (map qualified_of qs) (and_then o (with_parameter variadic i (none_left (drop (i + 1) all)) p
     (parameters_of variadic (i + 1) (drop (i + 1) all))))) (read n off before g.0 g.1.1 other)
 
-pub undeclared_none : {A : Type 0} (view : A → Params) (t : TokenText) (variadic : Bool) (old mid later after new : State) (all : List Param) (i m : ℕ) (qs : List Qual)
+pub undeclared_none : {A : Type 0} (view : A → Params) (t : TokenText)
+    (variadic : Bool) (old mid later after new : State) (all : List Param) (i m : ℕ) (qs : List Qual)
     (p : Param) (h : held_words.Words) (found : held_declared.Declared) (lone void : Bool) (x : TypeFault)
     → i < length all → p ≡ get_or all i p → lone ≡ ((length all == 1) && not variadic) → StandsAt t variadic old mid all i qs → Read t mid later p h found
     → found.name ≡ name_of p.declarator → ((ws : Words) → IsSaid h ws → void ≡ (lone && is_lone_void ws found.name (qualified_of found.qual)))

@@ -36,7 +36,8 @@ use Rattle.type_declarators.specs.declared.words.Words as held_words
 use Rattle.type_expressions.specs.Plain.{IsPlain, IsPlainDeclarator, AllPlainParams, AllPlainEnumerators}
 use Rattle.type_expressions.specs.Seen.{Namings}
 use Rattle.type_expressions.specs.Tells.{Tells, ReadsAs}
-use Rattle.type_expressions.specs.TypeNames.{specifying, parameter_in, enumeration_with, AllPlainOption, FollowsSo, IsSpecified, IsParameter, AreParts, named_by, parameters_of}
+use Rattle.type_expressions.specs.TypeNames.{specifying, parameter_in, enumeration_with, AllPlainOption, FollowsSo, IsSpecified, IsParameter, AreParts}
+use Rattle.type_expressions.specs.TypeNames.{named_by, parameters_of}
 use Rattle.type_expressions.proofs.Declaring.{Small, declared_read, inner_pointer, inner_array, inner_size, inner_function}
 use Rattle.type_expressions.proofs.Moved.{known_read, tag_kept, names_kept}
 use Rattle.type_expressions.proofs.Specifying.{specified_by, so_specified}

@@ -68,9 +68,11 @@ binary-returns-in_err-b t c at e plain =
 pub binary-returns : goal.binary-returns
 binary-returns t c at e plain =
     let mid = c.expression-b.new.state in
-    read_behind operand_seen operand_seen c.args.source.now c.args.state.now mid mid (λ _. expr c.args.b.now) (λ n y. made at (binary c.args.op (operand_seen n c.args.a) y))
+    read_behind operand_seen operand_seen c.args.source.now c.args.state.now mid mid (λ _. expr c.args.b.now)
+    (λ n y. made at (binary c.args.op (operand_seen n c.args.a) y))
     c.in_ok-b.b c.binary.result (c.in_ok-b.ensures plain)
-    (made_read c.args.source.now mid at c.args.line (λ n. binary c.args.op (operand_seen n c.args.a) (operand_seen n c.in_ok-b.b)) c.binary.result e c.binary.ensures)
+    (made_read c.args.source.now mid at c.args.line (λ n. binary c.args.op (operand_seen n c.args.a) (operand_seen n c.in_ok-b.b)) c.binary.result e
+    c.binary.ensures)
 
 pub assignment-returns-in_err-b : goal.assignment-returns-in_err-b
 assignment-returns-in_err-b t c at e plain =
@@ -80,9 +82,11 @@ assignment-returns-in_err-b t c at e plain =
 pub assignment-returns : goal.assignment-returns
 assignment-returns t c at e plain =
     let mid = c.expression-b.new.state in
-    read_behind operand_seen operand_seen c.args.source.now c.args.state.now mid mid (λ _. expr c.args.b.now) (λ n y. made_modifying at (assigned c.args.op (operand_seen n c.args.a) y))
+    read_behind operand_seen operand_seen c.args.source.now c.args.state.now mid mid (λ _. expr c.args.b.now)
+    (λ n y. made_modifying at (assigned c.args.op (operand_seen n c.args.a) y))
     c.in_ok-b.b c.assignment.result (c.in_ok-b.ensures plain)
-    (modifying_read c.args.source.now mid at c.args.line (λ n. assigned c.args.op (operand_seen n c.args.a) (operand_seen n c.in_ok-b.b)) c.assignment.result e c.assignment.ensures)
+    (modifying_read c.args.source.now mid at c.args.line (λ n. assigned c.args.op (operand_seen n c.args.a) (operand_seen n c.in_ok-b.b)) c.assignment.result e
+    c.assignment.ensures)
 
 pub conditional-returns-in_err-c : goal.conditional-returns-in_err-c
 conditional-returns-in_err-c t c at e plain =
@@ -92,9 +96,11 @@ conditional-returns-in_err-c t c at e plain =
 pub conditional-returns : goal.conditional-returns
 conditional-returns t c at e plain =
     let mid = c.expression-c.new.state in
-    read_behind operand_seen operand_seen c.args.source.now c.args.state.now mid mid (λ _. expr c.args.c.now) (λ n y. made at (λ tags. chosen tags (operand_seen n c.args.a) (operand_seen n c.args.b) y))
+    read_behind operand_seen operand_seen c.args.source.now c.args.state.now mid mid (λ _. expr c.args.c.now)
+    (λ n y. made at (λ tags. chosen tags (operand_seen n c.args.a) (operand_seen n c.args.b) y))
     c.in_ok-c.c c.conditional.result (c.in_ok-c.ensures plain)
-    (made_read c.args.source.now mid at c.args.line (λ n. λ tags. chosen tags (operand_seen n c.args.a) (operand_seen n c.args.b) (operand_seen n c.in_ok-c.c)) c.conditional.result e c.conditional.ensures)
+    (made_read c.args.source.now mid at c.args.line (λ n. λ tags. chosen tags (operand_seen n c.args.a) (operand_seen n c.args.b) (operand_seen n c.in_ok-c.c))
+    c.conditional.result e c.conditional.ensures)
 
 pub subscript-returns-in_err-b : goal.subscript-returns-in_err-b
 subscript-returns-in_err-b t c at e plain =
@@ -104,9 +110,11 @@ subscript-returns-in_err-b t c at e plain =
 pub subscript-returns : goal.subscript-returns
 subscript-returns t c at e plain =
     let mid = c.expression-b.new.state in
-    read_behind operand_seen operand_seen c.args.source.now c.args.state.now mid mid (λ _. expr c.args.b.now) (λ n y. made at (λ tags. indexed tags (operand_seen n c.args.a) y))
+    read_behind operand_seen operand_seen c.args.source.now c.args.state.now mid mid (λ _. expr c.args.b.now)
+    (λ n y. made at (λ tags. indexed tags (operand_seen n c.args.a) y))
     c.in_ok-b.b c.subscript.result (c.in_ok-b.ensures plain)
-    (made_read c.args.source.now mid at c.args.line (λ n. λ tags. indexed tags (operand_seen n c.args.a) (operand_seen n c.in_ok-b.b)) c.subscript.result e c.subscript.ensures)
+    (made_read c.args.source.now mid at c.args.line (λ n. λ tags. indexed tags (operand_seen n c.args.a) (operand_seen n c.in_ok-b.b)) c.subscript.result e
+    c.subscript.ensures)
 
 pub member-returns-in_err-a : goal.member-returns-in_err-a
 member-returns-in_err-a t c at e plain =
@@ -187,7 +195,8 @@ expression-returns-in-Binary t c =
     binary_form c.args.source.now c.args.state.now c.binary.new.state (c.args.e.now).at (c.args.e.now).node c.in-Binary.op c.in-Binary.a c.in-Binary.b
     c.get-in-Binary.result.now c.get-in-Binary-2.result.now c.binary.result c.in-Binary.is c.get-in-Binary.ensures c.get-in-Binary-2.ensures
     (λ p q. read_behind operand_seen operand_seen c.args.source.now c.args.state.now c.expression-a.new.state c.binary.new.state
-    (λ _. expr c.get-in-Binary.result.now) (λ n y. expr c.get-in-Binary-2.result.now >>= λ w. made (c.args.e.now).at (binary c.in-Binary.op y w)) c.in_ok-a.a c.binary.result
+    (λ _. expr c.get-in-Binary.result.now) (λ n y. expr c.get-in-Binary-2.result.now >>= λ w. made (c.args.e.now).at (binary c.in-Binary.op y w)) c.in_ok-a.a
+    c.binary.result
     (c.in_ok-a.ensures p) (c.binary.ensures (c.args.e.now).at c.line-line.ensures q))
 
 pub expression-returns-in-Assign : goal.expression-returns-in-Assign
@@ -195,7 +204,8 @@ expression-returns-in-Assign t c =
     assign_form c.args.source.now c.args.state.now c.assignment.new.state (c.args.e.now).at (c.args.e.now).node c.in-Assign.op c.in-Assign.a c.in-Assign.b
     c.get-in-Assign.result.now c.get-in-Assign-2.result.now c.assignment.result c.in-Assign.is c.get-in-Assign.ensures c.get-in-Assign-2.ensures
     (λ p q. read_behind operand_seen operand_seen c.args.source.now c.args.state.now c.expression-a-in-Assign.new.state c.assignment.new.state
-    (λ _. expr c.get-in-Assign.result.now) (λ n y. expr c.get-in-Assign-2.result.now >>= λ w. made_modifying (c.args.e.now).at (assigned c.in-Assign.op y w)) c.in_ok-a-in-Assign.a
+    (λ _. expr c.get-in-Assign.result.now) (λ n y. expr c.get-in-Assign-2.result.now >>= λ w. made_modifying (c.args.e.now).at (assigned c.in-Assign.op y w))
+    c.in_ok-a-in-Assign.a
     c.assignment.result (c.in_ok-a-in-Assign.ensures p) (c.assignment.ensures (c.args.e.now).at c.line-line.ensures q))
 
 pub expression-returns-in-Index : goal.expression-returns-in-Index
@@ -203,16 +213,19 @@ expression-returns-in-Index t c =
     index_form c.args.source.now c.args.state.now c.subscript.new.state (c.args.e.now).at (c.args.e.now).node c.in-Index.a c.in-Index.b
     c.get-in-Index.result.now c.get-in-Index-2.result.now c.subscript.result c.in-Index.is c.get-in-Index.ensures c.get-in-Index-2.ensures
     (λ p q. read_behind operand_seen operand_seen c.args.source.now c.args.state.now c.expression-a-in-Index.new.state c.subscript.new.state
-    (λ _. expr c.get-in-Index.result.now) (λ n y. expr c.get-in-Index-2.result.now >>= λ w. made (c.args.e.now).at (λ tags. indexed tags y w)) c.in_ok-a-in-Index.a c.subscript.result
+    (λ _. expr c.get-in-Index.result.now) (λ n y. expr c.get-in-Index-2.result.now >>= λ w. made (c.args.e.now).at (λ tags. indexed tags y w))
+    c.in_ok-a-in-Index.a c.subscript.result
     (c.in_ok-a-in-Index.ensures p) (c.subscript.ensures (c.args.e.now).at c.line-line.ensures q))
 
 pub expression-returns-in-Cond : goal.expression-returns-in-Cond
 expression-returns-in-Cond t c =
     cond_form c.args.source.now c.args.state.now c.conditional.new.state (c.args.e.now).at (c.args.e.now).node c.in-Cond.a c.in-Cond.b c.in-Cond.c
-    c.get-in-Cond.result.now c.get-in-Cond-2.result.now c.get-in-Cond-3.result.now c.conditional.result c.in-Cond.is c.get-in-Cond.ensures c.get-in-Cond-2.ensures c.get-in-Cond-3.ensures
+    c.get-in-Cond.result.now c.get-in-Cond-2.result.now c.get-in-Cond-3.result.now c.conditional.result c.in-Cond.is c.get-in-Cond.ensures
+    c.get-in-Cond-2.ensures c.get-in-Cond-3.ensures
     (λ p q r. read_behind operand_seen operand_seen c.args.source.now c.args.state.now c.expression-a-in-Cond.new.state c.conditional.new.state
     (λ _. expr c.get-in-Cond.result.now)
-    (λ n y. expr c.get-in-Cond-2.result.now >>= λ w. expr c.get-in-Cond-3.result.now >>= λ z. made (c.args.e.now).at (λ tags. chosen tags y w z)) c.in_ok-a-in-Cond.a
+    (λ n y. expr c.get-in-Cond-2.result.now >>= λ w. expr c.get-in-Cond-3.result.now >>= λ z. made (c.args.e.now).at (λ tags. chosen tags y w z))
+    c.in_ok-a-in-Cond.a
     c.conditional.result (c.in_ok-a-in-Cond.ensures p)
     (read_behind operand_seen operand_seen c.args.source.now c.expression-a-in-Cond.new.state c.expression-b.new.state c.conditional.new.state
     (λ _. expr c.get-in-Cond-2.result.now)
@@ -242,12 +255,14 @@ expression-returns-in-Call t c =
     (λ _. operands_of c.as_slice-in-Call.result.now) (λ n es. made (c.args.e.now).at (λ tags. called tags (operand_seen n c.in_ok-f.f) es))
     c.in_ok-arguments.arguments c.call.result (c.in_ok-arguments.ensures q)
     (made_read c.args.source.now c.expressions-arguments.new.state (c.args.e.now).at c.line-line.result
-    (λ n tags. called tags (operand_seen n c.in_ok-f.f) (map (operand_seen n) c.in_ok-arguments.arguments.items)) c.call.result c.line-line.ensures c.call.ensures)))
+    (λ n tags. called tags (operand_seen n c.in_ok-f.f) (map (operand_seen n) c.in_ok-arguments.arguments.items)) c.call.result c.line-line.ensures
+    c.call.ensures)))
 
 pub expression-returns-in_err-a-in-Assign : goal.expression-returns-in_err-a-in-Assign
 expression-returns-in_err-a-in-Assign t c =
     let new = c.expression-a-in-Assign.new.state in
-    assign_form c.args.source.now c.args.state.now new (c.args.e.now).at (c.args.e.now).node c.in-Assign.op c.in-Assign.a c.in-Assign.b c.get-in-Assign.result.now c.in-Assign.b _ c.in-Assign.is
+    assign_form c.args.source.now c.args.state.now new (c.args.e.now).at (c.args.e.now).node c.in-Assign.op c.in-Assign.a c.in-Assign.b
+    c.get-in-Assign.result.now c.in-Assign.b _ c.in-Assign.is
     c.get-in-Assign.ensures refl
     (λ p q. none_behind operand_seen operand_seen c.args.source.now c.args.state.now new new (λ _. expr c.get-in-Assign.result.now)
     (λ n y. expr c.in-Assign.b >>= λ w. made_modifying (c.args.e.now).at (assigned c.in-Assign.op y w)) _ (c.in_err-a-in-Assign.ensures p))
@@ -255,14 +270,16 @@ expression-returns-in_err-a-in-Assign t c =
 pub expression-returns-in_err-a-in-Index : goal.expression-returns-in_err-a-in-Index
 expression-returns-in_err-a-in-Index t c =
     let new = c.expression-a-in-Index.new.state in
-    index_form c.args.source.now c.args.state.now new (c.args.e.now).at (c.args.e.now).node c.in-Index.a c.in-Index.b c.get-in-Index.result.now c.in-Index.b _ c.in-Index.is c.get-in-Index.ensures refl
+    index_form c.args.source.now c.args.state.now new (c.args.e.now).at (c.args.e.now).node c.in-Index.a c.in-Index.b c.get-in-Index.result.now c.in-Index.b _
+    c.in-Index.is c.get-in-Index.ensures refl
     (λ p q. none_behind operand_seen operand_seen c.args.source.now c.args.state.now new new (λ _. expr c.get-in-Index.result.now)
     (λ n y. expr c.in-Index.b >>= λ w. made (c.args.e.now).at (λ tags. indexed tags y w)) _ (c.in_err-a-in-Index.ensures p))
 
 pub expression-returns-in_err-a-in-Cond : goal.expression-returns-in_err-a-in-Cond
 expression-returns-in_err-a-in-Cond t c =
     let new = c.expression-a-in-Cond.new.state in
-    cond_form c.args.source.now c.args.state.now new (c.args.e.now).at (c.args.e.now).node c.in-Cond.a c.in-Cond.b c.in-Cond.c c.get-in-Cond.result.now c.in-Cond.b c.in-Cond.c _ c.in-Cond.is
+    cond_form c.args.source.now c.args.state.now new (c.args.e.now).at (c.args.e.now).node c.in-Cond.a c.in-Cond.b c.in-Cond.c c.get-in-Cond.result.now
+    c.in-Cond.b c.in-Cond.c _ c.in-Cond.is
     c.get-in-Cond.ensures refl refl
     (λ p q r. none_behind operand_seen operand_seen c.args.source.now c.args.state.now new new (λ _. expr c.get-in-Cond.result.now)
     (λ n y. expr c.in-Cond.b >>= λ w. expr c.in-Cond.c >>= λ z. made (c.args.e.now).at (λ tags. chosen tags y w z)) _ (c.in_err-a-in-Cond.ensures p))
@@ -271,7 +288,8 @@ pub expression-returns-in_err-b : goal.expression-returns-in_err-b
 expression-returns-in_err-b t c =
     let mid = c.expression-a-in-Cond.new.state in
     let new = c.expression-b.new.state in
-    cond_form c.args.source.now c.args.state.now new (c.args.e.now).at (c.args.e.now).node c.in-Cond.a c.in-Cond.b c.in-Cond.c c.get-in-Cond.result.now c.get-in-Cond-2.result.now c.in-Cond.c _ c.in-Cond.is
+    cond_form c.args.source.now c.args.state.now new (c.args.e.now).at (c.args.e.now).node c.in-Cond.a c.in-Cond.b c.in-Cond.c c.get-in-Cond.result.now
+    c.get-in-Cond-2.result.now c.in-Cond.c _ c.in-Cond.is
     c.get-in-Cond.ensures c.get-in-Cond-2.ensures refl
     (λ p q r. read_behind operand_seen operand_seen c.args.source.now c.args.state.now mid new (λ _. expr c.get-in-Cond.result.now)
     (λ n y. expr c.get-in-Cond-2.result.now >>= λ w. expr c.in-Cond.c >>= λ z. made (c.args.e.now).at (λ tags. chosen tags y w z)) c.in_ok-a-in-Cond.a _
@@ -282,14 +300,16 @@ expression-returns-in_err-b t c =
 pub expression-returns-in_err-operands : goal.expression-returns-in_err-operands
 expression-returns-in_err-operands t c =
     let new = c.expressions-operands.new.state in
-    comma_form c.args.source.now c.args.state.now new (c.args.e.now).at (c.args.e.now).node c.in-Comma.operands c.as_slice.result.now _ c.in-Comma.is c.as_slice.ensures
+    comma_form c.args.source.now c.args.state.now new (c.args.e.now).at (c.args.e.now).node c.in-Comma.operands c.as_slice.result.now _ c.in-Comma.is
+    c.as_slice.ensures
     (λ p. none_behind (λ n v. map (operand_seen n) v.items) operand_seen c.args.source.now c.args.state.now new new (λ _. operands_of c.as_slice.result.now)
     (λ n es. made (c.args.e.now).at (λ tags. sequenced tags es)) _ (c.in_err-operands.ensures p))
 
 pub expression-returns-in_err-f : goal.expression-returns-in_err-f
 expression-returns-in_err-f t c =
     let new = c.expression-f.new.state in
-    call_form c.args.source.now c.args.state.now new (c.args.e.now).at (c.args.e.now).node c.in-Call.f c.get-in-Call.result.now c.in-Call.arguments c.in-Call.arguments _ c.in-Call.is c.get-in-Call.ensures refl
+    call_form c.args.source.now c.args.state.now new (c.args.e.now).at (c.args.e.now).node c.in-Call.f c.get-in-Call.result.now c.in-Call.arguments
+    c.in-Call.arguments _ c.in-Call.is c.get-in-Call.ensures refl
     (λ p q. none_behind operand_seen operand_seen c.args.source.now c.args.state.now new new (λ _. expr c.get-in-Call.result.now)
     (λ n y. operands_of c.in-Call.arguments >>= λ es. made (c.args.e.now).at (λ tags. called tags y es)) _ (c.in_err-f.ensures p))
 
@@ -297,7 +317,8 @@ pub expression-returns-in_err-arguments : goal.expression-returns-in_err-argumen
 expression-returns-in_err-arguments t c =
     let mid = c.expression-f.new.state in
     let new = c.expressions-arguments.new.state in
-    call_form c.args.source.now c.args.state.now new (c.args.e.now).at (c.args.e.now).node c.in-Call.f c.get-in-Call.result.now c.in-Call.arguments c.as_slice-in-Call.result.now _ c.in-Call.is
+    call_form c.args.source.now c.args.state.now new (c.args.e.now).at (c.args.e.now).node c.in-Call.f c.get-in-Call.result.now c.in-Call.arguments
+    c.as_slice-in-Call.result.now _ c.in-Call.is
     c.get-in-Call.ensures c.as_slice-in-Call.ensures
     (λ p q. read_behind operand_seen operand_seen c.args.source.now c.args.state.now mid new (λ _. expr c.get-in-Call.result.now)
     (λ n y. operands_of c.as_slice-in-Call.result.now >>= λ es. made (c.args.e.now).at (λ tags. called tags y es)) c.in_ok-f.f _ (c.in_ok-f.ensures p)
@@ -307,7 +328,8 @@ expression-returns-in_err-arguments t c =
 pub expression-returns-in_err-to : goal.expression-returns-in_err-to
 expression-returns-in_err-to t c =
     let new = c.type_name-to.new.state in
-    cast_form c.args.source.now c.args.state.now new (c.args.e.now).at (c.args.e.now).node c.in-Cast.to c.get-in-Cast.result.now c.in-Cast.a c.in-Cast.a _ c.in-Cast.is c.get-in-Cast.ensures refl
+    cast_form c.args.source.now c.args.state.now new (c.args.e.now).at (c.args.e.now).node c.in-Cast.to c.get-in-Cast.result.now c.in-Cast.a c.in-Cast.a _
+    c.in-Cast.is c.get-in-Cast.ensures refl
     (λ p q. none_behind (λ _. qualified_of) operand_seen c.args.source.now c.args.state.now new new (λ _. type_by c.get-in-Cast.result.now)
     (λ n x. expr c.in-Cast.a >>= λ y. made (c.args.e.now).at (λ tags. casts.cast tags x.ty y)) _ (c.in_err-to.ensures p))
 
@@ -386,20 +408,24 @@ cast-returns t c at e plain =
 -- 2. Lists of operands.
 
 pub expressions-loop-e-init : goal.expressions-loop-e-init
-expressions-loop-e-init t c plain = first_stands c.args.source.now c.args.state.now c.args.all.now c.new-operands.result.items c.new-operands.ensures.items plain
+expressions-loop-e-init t c plain = first_stands c.args.source.now c.args.state.now c.args.all.now c.new-operands.result.items c.new-operands.ensures.items
+    plain
 
 pub expressions-loop-e-preserved : goal.expressions-loop-e-preserved
 expressions-loop-e-preserved t c plain =
     next_stands c.args.source.now c.args.state.now c.loop-e.state c.expression-operand.new.state c.args.all.now c.loop-e.e-index c.loop-e.operands.items
     c.push.new.self.items c.e-item.result c.in_ok-operand.operand c.loop-e-test.true c.e-item.is (c.loop-e.invariant plain)
-    (c.in_ok-operand.ensures (next_is_plain c.args.source.now c.args.state.now c.loop-e.state c.args.all.now c.loop-e.e-index c.loop-e.operands.items c.e-item.result
+    (c.in_ok-operand.ensures (next_is_plain c.args.source.now c.args.state.now c.loop-e.state c.args.all.now c.loop-e.e-index c.loop-e.operands.items
+    c.e-item.result
     c.loop-e-test.true c.e-item.is (c.loop-e.invariant plain))) c.in_ok-push.ensures.items
 
 pub expressions-returns-in_err-operand : goal.expressions-returns-in_err-operand
 expressions-returns-in_err-operand t c plain =
     next_none (λ n v. map (operand_seen n) v.items) c.args.source.now c.args.state.now c.loop-e.state c.expression-operand.new.state
-    c.expression-operand.new.state c.args.all.now c.loop-e.e-index c.loop-e.operands.items c.e-item.result _ c.loop-e-test.true c.e-item.is (c.loop-e.invariant plain)
-    (c.in_err-operand.ensures (next_is_plain c.args.source.now c.args.state.now c.loop-e.state c.args.all.now c.loop-e.e-index c.loop-e.operands.items c.e-item.result
+    c.expression-operand.new.state c.args.all.now c.loop-e.e-index c.loop-e.operands.items c.e-item.result _ c.loop-e-test.true c.e-item.is
+    (c.loop-e.invariant plain)
+    (c.in_err-operand.ensures (next_is_plain c.args.source.now c.args.state.now c.loop-e.state c.args.all.now c.loop-e.e-index c.loop-e.operands.items
+    c.e-item.result
     c.loop-e-test.true c.e-item.is (c.loop-e.invariant plain)))
 
 pub expressions-returns : goal.expressions-returns
@@ -502,7 +528,8 @@ type_before-returns-in-Typedef t c simple ws said_so =
 pub type_before-returns-in_err-ty : goal.type_before-returns-in_err-ty
 type_before-returns-in_err-ty t c simple ws said_so =
     let none = tag_is_plain (c.args.specs.now).base c.in-Tagged.union c.in-Tagged.tag c.in-Tagged.members c.in-Tagged.is simple in
-    tagged_read qualified_of c.args.source.now c.args.state.now c.tagged-ty.new.state c.args.alone ws (c.args.specs.now).base c.in-Tagged.union c.in-Tagged.tag _
+    tagged_read qualified_of c.args.source.now c.args.state.now c.tagged-ty.new.state c.args.alone ws (c.args.specs.now).base c.in-Tagged.union c.in-Tagged.tag
+    _
     (c.in-Tagged.is ∙ ap (λ ms. base_form.Tagged c.in-Tagged.union c.in-Tagged.tag ms) none) (c.in_err-ty.ensures none)
 
 pub type_before-returns-in-Tagged : goal.type_before-returns-in-Tagged
@@ -562,7 +589,8 @@ enumerated-loop-e-preserved t c simple =
     c.args.list.now c.loop-e.e-index c.loop-e.before c.e-item.result c.in_ok-value.value c.in_ok-number.number c.loop-e-test.true c.e-item.is s
     (c.in_ok-value.ensures (enumerators.next_is_plain c.args.source.now c.args.state.now c.loop-e.state c.args.list.now c.loop-e.e-index c.loop-e.before
     c.e-item.result c.loop-e-test.true c.e-item.is s))
-    (declared_as c.args.source.now c.enumerator_value-value.new.state c.enumeration_constant-number.new.state _ c.e-item.result c.in_ok-value.value c.loop-e.before
+    (declared_as c.args.source.now c.enumerator_value-value.new.state c.enumeration_constant-number.new.state _ c.e-item.result c.in_ok-value.value
+    c.loop-e.before
     (Ok c.in_ok-number.number) (enumerators.name_is c.e-item.result) c.enumeration_constant-number.ensures.rest c.in_ok-number.ensures.reads)
 
 pub enumerated-returns-in_err-value : goal.enumerated-returns-in_err-value
@@ -581,7 +609,8 @@ enumerated-returns-in_err-number t c simple =
     c.loop-e.before c.e-item.result c.in_ok-value.value _ c.loop-e-test.true c.e-item.is s
     (c.in_ok-value.ensures (enumerators.next_is_plain c.args.source.now c.args.state.now c.loop-e.state c.args.list.now c.loop-e.e-index c.loop-e.before
     c.e-item.result c.loop-e-test.true c.e-item.is s))
-    (declared_as c.args.source.now c.enumerator_value-value.new.state new _ c.e-item.result c.in_ok-value.value c.loop-e.before _ (enumerators.name_is c.e-item.result)
+    (declared_as c.args.source.now c.enumerator_value-value.new.state new _ c.e-item.result c.in_ok-value.value c.loop-e.before _
+    (enumerators.name_is c.e-item.result)
     c.enumeration_constant-number.ensures.rest c.in_err-number.ensures.reads)
 
 pub enumerated-returns : goal.enumerated-returns
@@ -666,21 +695,25 @@ derivations-returns-in_err-name-in-Array-None-clause-reads t c simple n off befo
     (c.in_err-name-in-Array-None.ensures.reads (array_inside c.args.d.now c.get-in-Array-None.result.now is simple) n off before env tells other)
 
 pub derivations-returns-in-Array-None-clause-name : goal.derivations-returns-in-Array-None-clause-name
-derivations-returns-in-Array-None-clause-name t c = c.in_ok-name-in-Array-None.ensures.name ∙ ap name_of c.get-in-Array-None.ensures ∙ sym (name_array _ _ _ c.in-Array-None.is)
+derivations-returns-in-Array-None-clause-name t c = c.in_ok-name-in-Array-None.ensures.name ∙ ap name_of c.get-in-Array-None.ensures ∙ sym
+    (name_array _ _ _ c.in-Array-None.is)
 
 pub derivations-returns-in-Array-None-clause-reads : goal.derivations-returns-in-Array-None-clause-reads
 derivations-returns-in-Array-None-clause-reads t c simple n off before env tells =
     let is = array_is c.args.d.now c.in-Array-None.d c.get-in-Array-None.result.now c.in-Array-None.is c.get-in-Array-None.ensures in
     array_read c.args.source.now c.derivations-name-in-Array-None.new.state c.args.d.now c.get-in-Array-None.result.now c.args.parts.now.items
-    c.derivations-name-in-Array-None.new.parts.items c.push-in-Array-None.new.self.items c.in_ok-name-in-Array-None.name is c.in_ok-push-in-Array-None.ensures.items n off before env
+    c.derivations-name-in-Array-None.new.parts.items c.push-in-Array-None.new.self.items c.in_ok-name-in-Array-None.name is
+    c.in_ok-push-in-Array-None.ensures.items n off before env
     (c.in_ok-name-in-Array-None.ensures.reads (array_inside c.args.d.now c.get-in-Array-None.result.now is simple) n off before env tells)
 
 -- an array with a size
 pub derivations-returns-in_err-name-in-Array-Some-clause-reads : goal.derivations-returns-in_err-name-in-Array-Some-clause-reads
 derivations-returns-in_err-name-in-Array-Some-clause-reads t c simple n off before env tells other =
-    let is = size_is c.args.d.now c.in-Array-Some.d c.get-in-Array-Some.result.now c.in-Array-Some.count c.in-Array-Some.count c.in-Array-Some.is c.get-in-Array-Some.ensures refl in
+    let is = size_is c.args.d.now c.in-Array-Some.d c.get-in-Array-Some.result.now c.in-Array-Some.count c.in-Array-Some.count c.in-Array-Some.is
+    c.get-in-Array-Some.ensures refl in
     let inside = size_inside c.args.d.now c.get-in-Array-Some.result.now c.in-Array-Some.count is simple in
-    size_none c.args.d.now c.get-in-Array-Some.result.now c.in-Array-Some.count env is (c.in_err-name-in-Array-Some.ensures.reads inside.0 n off before env tells other)
+    size_none c.args.d.now c.get-in-Array-Some.result.now c.in-Array-Some.count env is (c.in_err-name-in-Array-Some.ensures.reads inside.0 n off before env
+    tells other)
 
 pub derivations-returns-in_err-number-clause-reads : goal.derivations-returns-in_err-number-clause-reads
 derivations-returns-in_err-number-clause-reads t c simple n off before env tells other =
@@ -688,7 +721,8 @@ derivations-returns-in_err-number-clause-reads t c simple n off before env tells
     c.get-in-Array-Some.ensures c.get-in-Array-Some-2.ensures in
     let inside = size_inside c.args.d.now c.get-in-Array-Some.result.now c.get-in-Array-Some-2.result.now is simple in
     count_none c.args.source.now c.derivations-name-in-Array-Some.new.state c.constant-number.new.state c.args.d.now c.get-in-Array-Some.result.now
-    c.get-in-Array-Some-2.result.now c.args.parts.now.items c.derivations-name-in-Array-Some.new.parts.items c.in_ok-name-in-Array-Some.name _ is (c.in_err-number.ensures inside.1.0) other
+    c.get-in-Array-Some-2.result.now c.args.parts.now.items c.derivations-name-in-Array-Some.new.parts.items c.in_ok-name-in-Array-Some.name _ is
+    (c.in_err-number.ensures inside.1.0) other
     n off before env (c.in_ok-name-in-Array-Some.ensures.reads inside.0 n off before env tells)
 
 pub derivations-returns-in-Array-Some-clause-name : goal.derivations-returns-in-Array-Some-clause-name
@@ -701,8 +735,10 @@ derivations-returns-in-Array-Some-clause-reads t c simple n off before env tells
     c.get-in-Array-Some.ensures c.get-in-Array-Some-2.ensures in
     let inside = size_inside c.args.d.now c.get-in-Array-Some.result.now c.get-in-Array-Some-2.result.now is simple in
     size_read c.args.source.now c.derivations-name-in-Array-Some.new.state c.constant-number.new.state c.args.d.now c.get-in-Array-Some.result.now
-    c.get-in-Array-Some-2.result.now c.args.parts.now.items c.derivations-name-in-Array-Some.new.parts.items c.push-in-Array-Some.new.self.items c.in_ok-number.number c.in_ok-name-in-Array-Some.name
-    is inside.1.1 c.in_ok-push-in-Array-Some.ensures.items (c.in_ok-number.ensures inside.1.0) n off before env (c.in_ok-name-in-Array-Some.ensures.reads inside.0 n off before env tells)
+    c.get-in-Array-Some-2.result.now c.args.parts.now.items c.derivations-name-in-Array-Some.new.parts.items c.push-in-Array-Some.new.self.items
+    c.in_ok-number.number c.in_ok-name-in-Array-Some.name
+    is inside.1.1 c.in_ok-push-in-Array-Some.ensures.items (c.in_ok-number.ensures inside.1.0) n off before env
+    (c.in_ok-name-in-Array-Some.ensures.reads inside.0 n off before env tells)
 
 -- a function
 pub derivations-returns-in_err-name-in-Function-clause-reads : goal.derivations-returns-in_err-name-in-Function-clause-reads
@@ -719,8 +755,10 @@ derivations-returns-in_err-params-clause-reads t c simple n off before env tells
     c.in-Function.variadic c.in-Function.is c.get-in-Function.ensures c.as_slice-in-Function.ensures in
     let inside = function_inside c.args.d.now c.get-in-Function.result.now c.as_slice-in-Function.result.now c.in-Function.variadic is simple in
     prototype_left c.args.source.now c.derivations-name-in-Function.new.state c.prototype-params.new.state c.args.d.now c.get-in-Function.result.now
-    c.as_slice-in-Function.result.now c.in-Function.variadic c.args.parts.now.items c.derivations-name-in-Function.new.parts.items c.in_ok-name-in-Function.name _ is
-    (own_read c.args.source.now c.derivations-name-in-Function.new.state c.prototype-params.new.state c.get-in-Function-2.result.now c.get-in-Function.result.now
+    c.as_slice-in-Function.result.now c.in-Function.variadic c.args.parts.now.items c.derivations-name-in-Function.new.parts.items c.in_ok-name-in-Function.name
+    _ is
+    (own_read c.args.source.now c.derivations-name-in-Function.new.state c.prototype-params.new.state c.get-in-Function-2.result.now
+    c.get-in-Function.result.now
     c.is_name-own.result c.as_slice-in-Function.result.now c.in-Function.variadic _ c.is_name-own.ensures
     (c.get-in-Function-2.ensures ∙ sym c.get-in-Function.ensures) (c.in_err-params.ensures inside.1.0 inside.1.1)) other n off before env
     (c.in_ok-name-in-Function.ensures.reads inside.0 n off before env tells)
@@ -735,9 +773,11 @@ derivations-returns-in-Function-clause-reads t c simple n off before env tells =
     c.in-Function.variadic c.in-Function.is c.get-in-Function.ensures c.as_slice-in-Function.ensures in
     let inside = function_inside c.args.d.now c.get-in-Function.result.now c.as_slice-in-Function.result.now c.in-Function.variadic is simple in
     function_read c.args.source.now c.derivations-name-in-Function.new.state c.prototype-params.new.state c.args.d.now c.get-in-Function.result.now
-    c.as_slice-in-Function.result.now c.in-Function.variadic c.args.parts.now.items c.derivations-name-in-Function.new.parts.items c.push-in-Function.new.self.items
+    c.as_slice-in-Function.result.now c.in-Function.variadic c.args.parts.now.items c.derivations-name-in-Function.new.parts.items
+    c.push-in-Function.new.self.items
     c.in_ok-params.params c.in_ok-name-in-Function.name is c.in_ok-push-in-Function.ensures.items
-    (own_read c.args.source.now c.derivations-name-in-Function.new.state c.prototype-params.new.state c.get-in-Function-2.result.now c.get-in-Function.result.now
+    (own_read c.args.source.now c.derivations-name-in-Function.new.state c.prototype-params.new.state c.get-in-Function-2.result.now
+    c.get-in-Function.result.now
     c.is_name-own.result c.as_slice-in-Function.result.now c.in-Function.variadic (Ok c.in_ok-params.params) c.is_name-own.ensures
     (c.get-in-Function-2.ensures ∙ sym c.get-in-Function.ensures) (c.in_ok-params.ensures inside.1.0 inside.1.1)) n off before env
     (c.in_ok-name-in-Function.ensures.reads inside.0 n off before env tells)
@@ -767,7 +807,8 @@ parameters-loop-p-init t c variadic lone simple few =
 pub parameters-loop-p-preserved : goal.parameters-loop-p-preserved
 parameters-loop-p-preserved t c variadic lone simple few =
     let s = c.loop-p.invariant variadic lone simple few in
-    let plain = params.next_is_plain c.args.source.now variadic c.args.state.now c.loop-p.state c.args.params.now c.loop-p.p-index c.loop-p.quals c.p-item.result
+    let plain = params.next_is_plain c.args.source.now variadic c.args.state.now c.loop-p.state c.args.params.now c.loop-p.p-index c.loop-p.quals
+    c.p-item.result
     c.loop-p-test.true c.p-item.is s in
     params.next_stands c.args.source.now variadic c.args.state.now c.loop-p.state c.parameter.new.state c.parameter-qual.new.state c.args.params.now
     c.loop-p.p-index c.len.result c.loop-p.quals c.push.new.self c.p-item.result c.in_ok-parameter.words c.in_ok-parameter.param c.args.lone
@@ -782,7 +823,8 @@ parameters-loop-p-preserved t c variadic lone simple few =
 pub parameters-returns-in_err-parameter : goal.parameters-returns-in_err-parameter
 parameters-returns-in_err-parameter t c variadic lone simple few =
     let s = c.loop-p.invariant variadic lone simple few in
-    let plain = params.next_is_plain c.args.source.now variadic c.args.state.now c.loop-p.state c.args.params.now c.loop-p.p-index c.loop-p.quals c.p-item.result
+    let plain = params.next_is_plain c.args.source.now variadic c.args.state.now c.loop-p.state c.args.params.now c.loop-p.p-index c.loop-p.quals
+    c.p-item.result
     c.loop-p-test.true c.p-item.is s in
     params.next_none (λ (xs : List Qual). params_of (map qualified_of xs)) c.args.source.now variadic c.args.state.now c.loop-p.state c.parameter.new.state
     c.parameter.new.state c.args.params.now c.loop-p.p-index c.loop-p.quals c.p-item.result _ c.loop-p-test.true c.p-item.is s
@@ -791,7 +833,8 @@ parameters-returns-in_err-parameter t c variadic lone simple few =
 pub parameters-returns-then-stands_for_none : goal.parameters-returns-then-stands_for_none
 parameters-returns-then-stands_for_none t c variadic lone simple few =
     let s = c.loop-p.invariant variadic lone simple few in
-    let plain = params.next_is_plain c.args.source.now variadic c.args.state.now c.loop-p.state c.args.params.now c.loop-p.p-index c.loop-p.quals c.p-item.result
+    let plain = params.next_is_plain c.args.source.now variadic c.args.state.now c.loop-p.state c.args.params.now c.loop-p.p-index c.loop-p.quals
+    c.p-item.result
     c.loop-p-test.true c.p-item.is s in
     params.lone_stands c.args.source.now variadic c.args.state.now c.loop-p.state c.parameter.new.state c.args.params.now c.loop-p.p-index c.loop-p.quals
     c.p-item.result c.in_ok-parameter.words c.in_ok-parameter.param c.args.lone c.stands_for_none.result c.loop-p-test.true c.p-item.is lone s
@@ -800,7 +843,8 @@ parameters-returns-then-stands_for_none t c variadic lone simple few =
 pub parameters-returns-in_err-qual : goal.parameters-returns-in_err-qual
 parameters-returns-in_err-qual t c variadic lone simple few =
     let s = c.loop-p.invariant variadic lone simple few in
-    let plain = params.next_is_plain c.args.source.now variadic c.args.state.now c.loop-p.state c.args.params.now c.loop-p.p-index c.loop-p.quals c.p-item.result
+    let plain = params.next_is_plain c.args.source.now variadic c.args.state.now c.loop-p.state c.args.params.now c.loop-p.p-index c.loop-p.quals
+    c.p-item.result
     c.loop-p-test.true c.p-item.is s in
     params.undeclared_none (λ (xs : List Qual). params_of (map qualified_of xs)) c.args.source.now variadic c.args.state.now c.loop-p.state
     c.parameter.new.state c.parameter-qual.new.state c.parameter-qual.new.state c.args.params.now c.loop-p.p-index c.len.result c.loop-p.quals c.p-item.result
