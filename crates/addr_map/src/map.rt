@@ -1,6 +1,8 @@
 // The address map: rows in an ordered map by base, and their bases in a hash map by name.
-ghost use Rattle.std.specs.Prelude.{◌≡◌, ◌+◌, ◌-◌, ◌*◌, ◌/◌, ◌≤◌, ◌<◌, ◌^◌, ◌↔◌, [], None, Ok, true, false, not, is_some, nat_le, nat_lt, IsTrue, IfOk, OnOk, OnErr, IfSome, ◌%◌};
-ghost use Rattle.addr_map.specs.Rows.{row_of, first_row, covers, past, overlaps, IsRoomFor, is_power, is_lawful, base_of, round_up, insert_row, breaks, free_of, row_at};
+ghost use Rattle.std.specs.Prelude.{◌≡◌, ◌+◌, ◌-◌, ◌*◌, ◌/◌, ◌≤◌, ◌<◌, ◌^◌, ◌↔◌, [], None, Ok, true, false, not, is_some, nat_le, nat_lt, IsTrue, IfOk, OnOk};
+ghost use Rattle.std.specs.Prelude.{OnErr, IfSome, ◌%◌};
+ghost use Rattle.addr_map.specs.Rows.{row_of, first_row, covers, past, overlaps, IsRoomFor, is_power, is_lawful, base_of, round_up, insert_row, breaks};
+ghost use Rattle.addr_map.specs.Rows.{free_of, row_at};
 ghost use Rattle.addr_map.specs.Sound.{last_row, Apart, AllSized, AreApart, IsMap};
 
 use std::alloc::Global;

@@ -53,7 +53,8 @@ pub trait Auditor {
     ) -> Result<Verdict, NoMemory>
         requires { limits.steps ≤ 100000000 }
         ensures said { IfOk result (λ verdict. says self.now limits
-            (moment (F.held files.old) (F.read_faults files.old) (F.write_faults files.old)) (moment (F.held files.new) (F.read_faults files.new) (F.write_faults files.new))
+            (moment (F.held files.old) (F.read_faults files.old) (F.write_faults files.old))
+            (moment (F.held files.new) (F.read_faults files.new) (F.write_faults files.new))
             program.now (option_copied input.entry) verdict.status verdict.line) }
         ensures held { F.held files.new ≡ F.held files.old };
 }
@@ -73,7 +74,8 @@ fn put_line<O: Sink>(
     out: &mut O,
 ) -> Result<(), BatchFault>
     ensures put { OnOk result (Gains (O.told out.old) (O.told out.new) (run_line run.now.program.now (option_copied run.now.input) said.now)) }
-    ensures part { OnErr result ((O.told out.new ≡ O.told out.old) ⊎ GainsPart (O.told out.old) (O.told out.new) (run_line run.now.program.now (option_copied run.now.input) said.now)) }
+    ensures part { OnErr result ((O.told out.new ≡ O.told out.old)
+        ⊎ GainsPart (O.told out.old) (O.told out.new) (run_line run.now.program.now (option_copied run.now.input) said.now)) }
     ensures failed { IsErrOf result BatchFault.Failed → Rose (O.faults out.old) (O.faults out.new) }
     ensures later { O.faults out.old ≤ O.faults out.new }
 {
@@ -98,10 +100,12 @@ fn audit_one<A: Auditor, F: Files, O: Sink>(
 ) -> Result<u8, BatchFault>
     requires { limits.steps ≤ 100000000 }
     ensures said { IfOk result (IsSaid (A.says auditor.now limits)
-        (moment (F.held files.old) (F.read_faults files.old) (F.write_faults files.old)) (moment (F.held files.new) (F.read_faults files.new) (F.write_faults files.new))
+        (moment (F.held files.old) (F.read_faults files.old) (F.write_faults files.old))
+        (moment (F.held files.new) (F.read_faults files.new) (F.write_faults files.new))
         (names_of run.now) (O.told out.old) (O.told out.new)) }
     ensures cut { OnErr result (IsCut (A.says auditor.now limits)
-        (moment (F.held files.old) (F.read_faults files.old) (F.write_faults files.old)) (moment (F.held files.new) (F.read_faults files.new) (F.write_faults files.new))
+        (moment (F.held files.old) (F.read_faults files.old) (F.write_faults files.old))
+        (moment (F.held files.new) (F.read_faults files.new) (F.write_faults files.new))
         (names_of run.now) (O.told out.old) (O.told out.new)) }
     ensures held { F.held files.new ≡ F.held files.old }
     ensures failed { IsErrOf result BatchFault.Failed → Rose (O.faults out.old) (O.faults out.new) }

@@ -28,7 +28,8 @@ pub fn named<'a>(
     program: Option<&'a str>,
     names: &'a [String],
 ) -> Result<(), AllocError>
-    ensures { OnOk result (map names_of runs.new.items ≡ map names_of runs.old.items ++ map (run_for (option_copied program.entry)) (map string_bytes names.now)) }
+    ensures { OnOk result (map names_of runs.new.items ≡ map names_of runs.old.items ++ map (run_for (option_copied program.entry))
+        (map string_bytes names.now)) }
 {
     for name in names {
         runs.push(run_of(program, name.as_str()))?;
@@ -49,7 +50,8 @@ fn named_lines<'a>(
     program: Option<&'a str>,
     lines: &[&'a str],
 ) -> Result<(), AllocError>
-    ensures { OnOk result (map names_of runs.new.items ≡ map names_of runs.old.items ++ map (run_for (option_copied program.entry)) (filter is_name (map (λ line. line.now) lines.now))) }
+    ensures { OnOk result (map names_of runs.new.items ≡ map names_of runs.old.items ++ map (run_for (option_copied program.entry))
+        (filter is_name (map (λ line. line.now) lines.now))) }
 {
     for line in lines {
         if !line.is_empty() {

@@ -1,6 +1,7 @@
 // The text of a generated program.
 ghost use Rattle.std.specs.Prelude.{◌≡◌, ◌≤◌, ◌<◌, ◌+◌, ◌^◌, ◌++◌, IfOk, OnOk, length, decimal};
-ghost use Rattle.audit_generator.specs.Text.{drawn, element, with_constant, exclusive_or, greater, difference, statement, drawn_line, line_after, draw_before, text};
+ghost use Rattle.audit_generator.specs.Text.{drawn, element, with_constant, exclusive_or, greater, difference, statement, drawn_line, line_after, draw_before};
+ghost use Rattle.audit_generator.specs.Text.{text};
 
 use itoa::Buffer;
 use std::alloc::Global;

@@ -73,7 +73,8 @@ pub fn fetch_sources<F: Files>(
     ensures source { IfOk result (λ found. IsWhole (F.held files.old) (Role.Source, source.now) found.text) }
     ensures within { IfOk result (λ found. length found.text ≤ most Role.Source) }
     ensures input { IfOk result (λ found. HasInput (F.held files.old) (option_copied input.entry) found.input) }
-    ensures fault { IfErr result (Stops (F.held files.old) (F.read_faults files.old) (F.read_faults files.new) (wanted source.now (option_copied input.entry))) }
+    ensures fault { IfErr result (Stops (F.held files.old) (F.read_faults files.old) (F.read_faults files.new)
+        (wanted source.now (option_copied input.entry))) }
     ensures held { F.held files.new ≡ F.held files.old }
     ensures writes { F.write_faults files.new ≡ F.write_faults files.old }
 {
@@ -101,7 +102,8 @@ fn fetch_certificate<F: Files>(
 ) -> Result<(Bytes, Bytes), FetchFault>
     ensures certificate { IfOk result (λ found. IsWhole (F.held files.old) (Role.Certificate, certificate.now) found.0) }
     ensures input { IfOk result (λ found. HasInput (F.held files.old) (option_copied input.entry) found.1) }
-    ensures fault { IfErr result (Stops (F.held files.old) (F.read_faults files.old) (F.read_faults files.new) (certificate_wanted certificate.now (option_copied input.entry))) }
+    ensures fault { IfErr result (Stops (F.held files.old) (F.read_faults files.old) (F.read_faults files.new)
+        (certificate_wanted certificate.now (option_copied input.entry))) }
     ensures held { F.held files.new ≡ F.held files.old }
     ensures writes { F.write_faults files.new ≡ F.write_faults files.old }
 {
@@ -125,7 +127,8 @@ pub fn fetch_check_sources<F: Files>(
     ensures within { IfOk result (λ found. length found.text ≤ most Role.Source) }
     ensures certificate { IfOk result (λ found. IsWhole (F.held files.old) (Role.Certificate, certificate.now) found.certificate) }
     ensures input { IfOk result (λ found. HasInput (F.held files.old) (option_copied input.entry) found.input) }
-    ensures fault { IfErr result (Stops (F.held files.old) (F.read_faults files.old) (F.read_faults files.new) (check_wanted source.now certificate.now (option_copied input.entry))) }
+    ensures fault { IfErr result (Stops (F.held files.old) (F.read_faults files.old) (F.read_faults files.new)
+        (check_wanted source.now certificate.now (option_copied input.entry))) }
     ensures held { F.held files.new ≡ F.held files.old }
     ensures writes { F.write_faults files.new ≡ F.write_faults files.old }
 {

@@ -180,7 +180,8 @@ fn read(nesting: &mut Nesting, tokens: &Tokens<'_>, at: u32) -> Result<(), NoMem
     requires there { at < length tokens.now.list }
     requires few { at < 2 ^ 20 }
     ensures grows { OnOk result (spec.total_of nesting.new ≤ spec.total_of nesting.old + 4) }
-    ensures same { OnOk result (spec.greatest nesting.old (drop at tokens.now.list) ≡ max (spec.total_of nesting.old) (spec.greatest nesting.new (drop (at + 1) tokens.now.list))) }
+    ensures same { OnOk result (spec.greatest nesting.old (drop at tokens.now.list) ≡ max (spec.total_of nesting.old)
+        (spec.greatest nesting.new (drop (at + 1) tokens.now.list))) }
 {
     match tokens.kind(at) {
         Some(kind) => {

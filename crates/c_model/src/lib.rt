@@ -5,7 +5,8 @@
 
 ghost use Rattle.std.specs.Prelude.{◌≡◌, [], ◌∷◌, Some};
 ghost use Rattle.ub_base.specs.declared.clause.Kind.TheVariants.{Val, Eff, Body};
-ghost use Rattle.ub_base.specs.declared.clause.Clause.TheVariants.{Conversion, DeadObject, DivideByZero, Exceptional, Free, Indeterminate, LeftShift, MissingValue, StoreToConst, Unsequenced};
+ghost use Rattle.ub_base.specs.declared.clause.Clause.TheVariants.{Conversion, DeadObject, DivideByZero, Exceptional, Free, Indeterminate, LeftShift};
+ghost use Rattle.ub_base.specs.declared.clause.Clause.TheVariants.{MissingValue, StoreToConst, Unsequenced};
 ghost use Rattle.ub_base.specs.declared.clause.Cause.TheVariants.{Created};
 ghost use Rattle.ub_base.specs.declared.names.ObjName.TheVariants.{Static};
 ghost use Rattle.ub_base.specs.declared.names.Item.TheVariants.{Read, Write, Input, Output, Ending, Any};
@@ -26,8 +27,15 @@ ghost use Rattle.c_model.specs.EventLaws.{SameAct, SameMove, SameFrame};
 ghost use Rattle.c_model.specs.MachineLaws.{OrdersEndAlike};
 ghost use Rattle.c_model.specs.ModelMachine.{FramesKeepLaws, FramesEndAlike};
 ghost use Rattle.c_model.specs.OpenBlocks.{ReadyCloses, MovesClose, GotoCloses, FindsNoEnters, ReadyEnters};
-ghost use Rattle.c_model.specs.ControlExamples.{return_before_block, loop_in_loop, into_blocks, out_of_blocks, case_in_block, no_case, continue_in_do, continue_in_switch, nested_break};
-ghost use Rattle.c_model.specs.Examples.{world_of, canonical_run, audit, audit_on, pair_of, picks_of, NeedsRows, HoldsRace, HoldsQuarrel, HoldsEndQuarrel, enter, leave, jump, begin, settle, event, main_local, local_rows, global_rows, both_rows, list_rows, return_zero, add_one, self_increment, divide_by_zero, print_both, list_both, pass_both, increment_and_call, comma_between, and_beside, loop_forever, quit_beside, past_the_greatest, shift_too_far, divide, unwritten_load, store_to_const, missing_value, value_unused, read_both, read_in_turn, quit_alone, jump_about, jump_in, inner_rows, large_block, large_static, print_low, text_row, print_as_int, number, long_number, allocate_once, release_twice, release_local, heap_rows, allocate_beside, wide_rows};
+ghost use Rattle.c_model.specs.ControlExamples.{return_before_block, loop_in_loop, into_blocks, out_of_blocks, case_in_block, no_case, continue_in_do};
+ghost use Rattle.c_model.specs.ControlExamples.{continue_in_switch, nested_break};
+ghost use Rattle.c_model.specs.Examples.{world_of, canonical_run, audit, audit_on, pair_of, picks_of, NeedsRows, HoldsRace, HoldsQuarrel, HoldsEndQuarrel};
+ghost use Rattle.c_model.specs.Examples.{enter, leave, jump, begin, settle, event, main_local, local_rows, global_rows, both_rows, list_rows, return_zero};
+ghost use Rattle.c_model.specs.Examples.{add_one, self_increment, divide_by_zero, print_both, list_both, pass_both, increment_and_call, comma_between};
+ghost use Rattle.c_model.specs.Examples.{and_beside, loop_forever, quit_beside, past_the_greatest, shift_too_far, divide, unwritten_load, store_to_const};
+ghost use Rattle.c_model.specs.Examples.{missing_value, value_unused, read_both, read_in_turn, quit_alone, jump_about, jump_in, inner_rows, large_block};
+ghost use Rattle.c_model.specs.Examples.{large_static, print_low, text_row, print_as_int, number, long_number, allocate_once, release_twice, release_local};
+ghost use Rattle.c_model.specs.Examples.{heap_rows, allocate_beside, wide_rows};
 
 mod order;
 
@@ -43,12 +51,15 @@ pub fn law_example_findings()
     ensures return_zero { audit return_zero [] 4 ≡ Clean 0 silent 4 }
     ensures short_budget { audit return_zero [] 3 ≡ Out_of_steps 3 }
     ensures add_one { audit add_one local_rows 20 ≡ Clean 2 silent 15 }
-    ensures self_increment { audit self_increment local_rows 20 ≡ Raced (pair_of 3 (place 0 Eff) (place 2 Eff) (Write main_local 0 1) (Write main_local 0 1)) 10 }
+    ensures self_increment { audit self_increment local_rows 20 ≡ Raced
+        (pair_of 3 (place 0 Eff) (place 2 Eff) (Write main_local 0 1) (Write main_local 0 1)) 10 }
     ensures divide_by_zero { audit divide_by_zero [] 20 ≡ Undefined DivideByZero [] 2 (Some (place 0 Val)) 1 3 }
     ensures print_both { audit print_both [] 20 ≡ Order_dependent (pair_of 2 (place 1 Body) (place 4 Body) Output Output) 6 }
-    ensures list_both { audit list_both list_rows 30 ≡ Order_dependent (pair_of 3 (place 1 Body) (place 2 Body) (Write main_local 0 1) (Read main_local 0 1)) 21 }
+    ensures list_both { audit list_both list_rows 30 ≡ Order_dependent
+        (pair_of 3 (place 1 Body) (place 2 Body) (Write main_local 0 1) (Read main_local 0 1)) 21 }
     ensures pass_both { audit pass_both global_rows 20 ≡ Raced (pair_of 2 (place 2 Eff) (place 4 Val) (Write (Static 0) 0 1) (Read (Static 0) 0 1)) 5 }
-    ensures increment_and_call { audit increment_and_call global_rows 20 ≡ Order_dependent (pair_of 3 (place 1 Eff) (place 3 Body) (Write (Static 0) 0 1) (Read (Static 0) 0 1)) 15 }
+    ensures increment_and_call { audit increment_and_call global_rows 20 ≡ Order_dependent
+        (pair_of 3 (place 1 Eff) (place 3 Body) (Write (Static 0) 0 1) (Read (Static 0) 0 1)) 15 }
     ensures comma_between { audit comma_between local_rows 20 ≡ Clean 3 silent 13 }
     ensures and_skips { audit (and_beside 0) both_rows 20 ≡ Raced (pair_of 4 (place 0 Eff) (place 3 Eff) (Write main_local 0 1) (Write main_local 0 1)) 15 }
     ensures loop_forever { audit loop_forever [] 20 ≡ Out_of_steps 20 }
@@ -152,7 +163,8 @@ pub fn law_example_traces()
     ensures self_increment { HoldsRace (world_of self_increment local_rows) (canonical_run self_increment local_rows 10) 3 (place 0 Eff) (place 2 Eff) }
     ensures meets { Meets (world_of self_increment local_rows) (canonical_run self_increment local_rows 10) Unsequenced }
     ensures print_both { HoldsQuarrel (world_of print_both []) (canonical_run print_both [] 6) 2 (place 4 Body) (place 1 Body) }
-    ensures increment_and_call { HoldsQuarrel (world_of increment_and_call global_rows) (canonical_run increment_and_call global_rows 15) 3 (place 3 Body) (place 1 Eff) }
+    ensures increment_and_call { HoldsQuarrel (world_of increment_and_call global_rows) (canonical_run increment_and_call global_rows 15) 3 (place 3 Body)
+        (place 1 Eff) }
     ensures quit_beside { HoldsEndQuarrel (canonical_run quit_beside global_rows 7) 2 (place 3 Body) (place 1 Val) }
     ensures divide_by_zero { Meets (world_of divide_by_zero []) (canonical_run divide_by_zero [] 3) DivideByZero }
 {}

@@ -100,7 +100,8 @@ fn sorted_object(
     text: &[u8],
 ) -> Result<Option<ObjName>, NoMemory>
     requires { length frames.old < 2 ^ 31 }
-    ensures answer { IfOk result (λ found. MatchOption found (IsNoObjectText (sort_text sort ++ (codes " " ++ text.now))) (λ o. object_text frames.new o ≡ sort_text sort ++ (codes " " ++ text.now))) }
+    ensures answer { IfOk result (λ found. MatchOption found (IsNoObjectText (sort_text sort ++ (codes " " ++ text.now)))
+        (λ o. object_text frames.new o ≡ sort_text sort ++ (codes " " ++ text.now))) }
     ensures bounds { IfOk result (λ found. IfSome found (λ o. IsObject (object_name frames.new o))) }
     ensures frames { IfOk result (λ found. MatchOption found (frames.new ≡ frames.old) (λ o. ReachesObject frames.old frames.new o)) }
     ensures err { OnErr result (Extends frames.old frames.new) }
@@ -126,7 +127,8 @@ fn sorted_object(
 /// The automatic object of this place.
 fn auto_object(alloc: Global, frames: &mut Frames, text: &[u8]) -> Result<Option<ObjName>, NoMemory>
     requires { length frames.old < 2 ^ 31 }
-    ensures answer { IfOk result (λ found. MatchOption found (IsNoObjectText (codes "auto " ++ text.now)) (λ o. object_text frames.new o ≡ codes "auto " ++ text.now)) }
+    ensures answer { IfOk result (λ found. MatchOption found (IsNoObjectText (codes "auto " ++ text.now))
+        (λ o. object_text frames.new o ≡ codes "auto " ++ text.now)) }
     ensures bounds { IfOk result (λ found. IfSome found (λ o. IsObject (object_name frames.new o))) }
     ensures frames { IfOk result (λ found. MatchOption found (frames.new ≡ frames.old) (λ o. ReachesObject frames.old frames.new o)) }
     ensures err { OnErr result (Extends frames.old frames.new) }
@@ -144,7 +146,8 @@ fn auto_object(alloc: Global, frames: &mut Frames, text: &[u8]) -> Result<Option
 /// The allocated object of this place.
 fn heap_object(alloc: Global, frames: &mut Frames, text: &[u8]) -> Result<Option<ObjName>, NoMemory>
     requires { length frames.old < 2 ^ 31 }
-    ensures answer { IfOk result (λ found. MatchOption found (IsNoObjectText (codes "heap " ++ text.now)) (λ o. object_text frames.new o ≡ codes "heap " ++ text.now)) }
+    ensures answer { IfOk result (λ found. MatchOption found (IsNoObjectText (codes "heap " ++ text.now))
+        (λ o. object_text frames.new o ≡ codes "heap " ++ text.now)) }
     ensures bounds { IfOk result (λ found. IfSome found (λ o. IsObject (object_name frames.new o))) }
     ensures frames { IfOk result (λ found. MatchOption found (frames.new ≡ frames.old) (λ o. ReachesObject frames.old frames.new o)) }
     ensures err { OnErr result (Extends frames.old frames.new) }
@@ -170,7 +173,8 @@ struct Place {
 /// The place that has this text.
 fn read_place(alloc: Global, frames: &mut Frames, text: &[u8]) -> Result<Option<Place>, NoMemory>
     requires { length frames.old < 2 ^ 31 }
-    ensures answer { IfOk result (λ found. MatchOption found (IsNoPlaceText text.now) (λ p. frame_text (path_of frames.new p.frame.0) ++ numbers_text p.turn p.number ≡ text.now)) }
+    ensures answer { IfOk result (λ found. MatchOption found (IsNoPlaceText text.now)
+        (λ p. frame_text (path_of frames.new p.frame.0) ++ numbers_text p.turn p.number ≡ text.now)) }
     ensures bounds { IfOk result (λ found. IfSome found (λ p. IsPlace (path_of frames.new p.frame.0) p.turn p.number)) }
     ensures frames { IfOk result (λ found. MatchOption found (frames.new ≡ frames.old) (λ p. Reaches frames.old frames.new p.frame.0)) }
     ensures err { OnErr result (Extends frames.old frames.new) }

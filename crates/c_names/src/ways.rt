@@ -22,7 +22,8 @@ pub(crate) fn read_frame(
     text: &[u8],
 ) -> Result<Option<Frame>, NoMemory>
     requires { length frames.old < 2 ^ 31 }
-    ensures answer { IfOk result (λ found. MatchOption found (IsNoFrameText text.now) (λ f. (frame_text (path_of frames.new f.0) ≡ text.now) × IsFrame (path_of frames.new f.0))) }
+    ensures answer { IfOk result (λ found. MatchOption found (IsNoFrameText text.now) (λ f. (frame_text (path_of frames.new f.0) ≡ text.now)
+        × IsFrame (path_of frames.new f.0))) }
     ensures frames { IfOk result (λ found. MatchOption found (frames.new ≡ frames.old) (λ f. Reaches frames.old frames.new f.0)) }
     ensures err { OnErr result (Extends frames.old frames.new) }
 {

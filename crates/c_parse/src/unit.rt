@@ -62,7 +62,8 @@ fn declaration_behind(
     typedef: bool,
     first: Declarator,
 ) -> Result<UnitEntry, Refusal>
-    ensures { Reads (and_then (declarations.more_parts typedef first tokens.old) (λ parts. pure (UnitEntry.Declaration (record { specs = specs; parts = parts })))) result tokens.new }
+    ensures { Reads (and_then (declarations.more_parts typedef first tokens.old)
+        (λ parts. pure (UnitEntry.Declaration (record { specs = specs; parts = parts })))) result tokens.new }
 {
     let (specs, parts) = with(specs, more_parts(alloc, tokens, typedef, first))?;
     Ok(UnitEntry::Declaration(Declaration { specs, parts }))

@@ -17,7 +17,8 @@ fn number_of<'a>(
     at: u32,
 ) -> Result<u32, NoMemory>
     ensures number { IfOk result (λ n. n ≡ unwrap_or (get_by (λ k. bytes_eq text.entry.now k.now) numbers.old) at) }
-    ensures known { IfOk result (λ n. (other : List ℕ) → get_by (λ k. bytes_eq other k.now) numbers.new ≡ cond (bytes_eq text.entry.now other) (Some n) (get_by (λ k. bytes_eq other k.now) numbers.old)) }
+    ensures known { IfOk result (λ n. (other : List ℕ) → get_by (λ k. bytes_eq other k.now) numbers.new ≡ cond (bytes_eq text.entry.now other) (Some n)
+        (get_by (λ k. bytes_eq other k.now) numbers.old)) }
 {
     match numbers.get(text) {
         Some(number) => Ok(*number),

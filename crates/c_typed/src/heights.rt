@@ -1,7 +1,8 @@
 //! How high typed trees and statements stand.
 
 ghost use Rattle.std.specs.Prelude.{◌≡◌, ◌-◌, ◌^◌, min};
-ghost use Rattle.c_typed.specs.Height.{tree_height, option_height, body_height, start_height, block_height, entry_height, function_height, program_height, height_at};
+ghost use Rattle.c_typed.specs.Height.{tree_height, option_height, body_height, start_height, block_height, entry_height, function_height, program_height};
+ghost use Rattle.c_typed.specs.Height.{height_at};
 
 use crate::{Block, Body, Entry, ForStart, Function, Node, Program, Typed};
 

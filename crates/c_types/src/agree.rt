@@ -1,6 +1,7 @@
 // Compatible types (6.2.7).
 ghost use Rattle.std.specs.Prelude.{◌≡◌, ◌↔◌, IsTrue, false, map};
-ghost use Rattle.c_types.specs.Types.{type_of, qualified_of, signature_of, params_of, Compatible, Matches, EachMatches, SameEnumeration, SizesAgree, Alike, SameSignature, Agrees, kind_of, are_forms, is_character, is_character_kind};
+ghost use Rattle.c_types.specs.Types.{type_of, qualified_of, signature_of, params_of, Compatible, Matches, EachMatches, SameEnumeration, SizesAgree, Alike};
+ghost use Rattle.c_types.specs.Types.{SameSignature, Agrees, kind_of, are_forms, is_character, is_character_kind};
 ghost use Rattle.c_types.specs.Same as tests;
 
 use crate::{FuncTy, IntKind, Qual, Ty};

@@ -1,6 +1,7 @@
 // Composite types (6.2.7p3).
 ghost use Rattle.std.specs.Prelude.{◌≡◌, IfOk, map, slice_get};
-ghost use Rattle.c_types.specs.Types.{CType, Compatible, type_of, qualified_of, signature_of, params_of, known_count, composite, composites, composite_qualified, composite_signature, composite_param};
+ghost use Rattle.c_types.specs.Types.{CType, Compatible, type_of, qualified_of, signature_of, params_of, known_count, composite, composites};
+ghost use Rattle.c_types.specs.Types.{composite_qualified, composite_signature, composite_param};
 
 use crate::{FuncTy, Qual, Shared, Ty, copied, copied_qual};
 use std::alloc::Global;

@@ -1,6 +1,7 @@
 // The members of a structure or union (6.7.2.1).
 ghost use Rattle.std.specs.Prelude.{◌≡◌, ◌≤◌, ◌<◌, ◌^◌, ◌+◌, IfSome, Some, take, slice_get, length};
-ghost use Rattle.c_types.specs.Layout.{rounded, offset, with_member, placed, members_extent, padded, no_members, tag_extent, type_of_member, extent_of_member, offset_of, IsSound};
+ghost use Rattle.c_types.specs.Layout.{rounded, offset, with_member, placed, members_extent, padded, no_members, tag_extent, type_of_member, extent_of_member};
+ghost use Rattle.c_types.specs.Layout.{offset_of, IsSound};
 ghost use Rattle.c_types.specs.Layout as layout;
 ghost use Rattle.c_types.specs.Table.{look, IsTable};
 

@@ -2,7 +2,8 @@
 ghost use Rattle.std.specs.Prelude.{◌≡◌, Ok, option_map, map};
 ghost use Rattle.std.specs.List.{list_all};
 ghost use Rattle.serde_json.specs.View.{view};
-ghost use Rattle.certificate_text.specs.Reading.{is_lower_digit, digits_in, output_in, status_in, clause_named, clause_in, cause_in, limit_in, event_parts, event_in, two_events, pair_or_none, claim_in, need, Answers};
+ghost use Rattle.certificate_text.specs.Reading.{is_lower_digit, digits_in, output_in, status_in, clause_named, clause_in, cause_in, limit_in, event_parts};
+ghost use Rattle.certificate_text.specs.Reading.{event_in, two_events, pair_or_none, claim_in, need, Answers};
 
 use crate::values::{frame, items, kind, list_member, number, small_number};
 use crate::words::{Verdict, cause_of};

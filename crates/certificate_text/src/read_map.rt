@@ -1,7 +1,8 @@
 // The map of a certificate from its text.
 ghost use Rattle.std.specs.Prelude.{◌≡◌, false, true, IfErr, map, codes, option_and_then};
 ghost use Rattle.serde_json.specs.View.{view};
-ghost use Rattle.certificate_text.specs.Reading.{counted_name, framed_name, counted_in, framed_in, argv_in, placed, row_in, row_of, run_words, run_in, rows_of, entry_in, has_few_rows, map_in, list_at, need, Answers, Adds, IsTooMuch};
+ghost use Rattle.certificate_text.specs.Reading.{counted_name, framed_name, counted_in, framed_in, argv_in, placed, row_in, row_of, run_words, run_in, rows_of};
+ghost use Rattle.certificate_text.specs.Reading.{entry_in, has_few_rows, map_in, list_at, need, Answers, Adds, IsTooMuch};
 
 use crate::row::{MAX_ROWS, Run, Stride, row_at};
 use crate::values::{frame, items, list_member, number, small_number};

@@ -1,6 +1,7 @@
 // The words of a certificate's text.
 ghost use Rattle.std.specs.Prelude.{◌≡◌};
-ghost use Rattle.certificate_text.specs.Reading.{verdict_named, kind_named, cause_named, is_member, is_further, is_common, is_of_clean, is_of_undefined, is_of_outside};
+ghost use Rattle.certificate_text.specs.Reading.{verdict_named, kind_named, cause_named, is_member, is_further, is_common, is_of_clean, is_of_undefined};
+ghost use Rattle.certificate_text.specs.Reading.{is_of_outside};
 
 use ub_base::{Cause, Kind};
 

@@ -6,7 +6,8 @@ ghost use Rattle.hex.specs.Hex.{IsBytes, encode_lower};
 ghost use Rattle.certificate.specs.declared.cert.Version.TheVariants.{Two};
 ghost use Rattle.certificate.specs.Form.{HasBytes, HasForm};
 ghost use Rattle.certificate_text.specs.Reading.{States};
-ghost use Rattle.certificate_writing.specs.Writing.{list, frame_entry, event_entry, pair_entry, row_entry, run_entry, IsAlone, IsRun, Packs, segment_entry, pair_list, value_of, IsTextOf};
+ghost use Rattle.certificate_writing.specs.Writing.{list, frame_entry, event_entry, pair_entry, row_entry, run_entry, IsAlone, IsRun, Packs, segment_entry};
+ghost use Rattle.certificate_writing.specs.Writing.{pair_list, value_of, IsTextOf};
 ghost use Rattle.certificate_writing.specs.Members.{common, with_claim};
 
 use crate::longest::longest_run;
@@ -182,7 +183,8 @@ fn put_text(alloc: Global, members: &mut Members, name: &str, text: &str) -> Res
 
 // The digits of the output.
 fn put_output(alloc: Global, members: &mut Members, output: &[u8]) -> Result<(), AllocError>
-    ensures put { OnOk result (members_view members.new.entries ≡ with_member (codes "output") (string (encode_lower output.now)) (members_view members.old.entries)) }
+    ensures put { OnOk result (members_view members.new.entries ≡ with_member (codes "output") (string (encode_lower output.now))
+        (members_view members.old.entries)) }
     ensures bytes { IsBytes output.now }
 {
     let digits = hex::encode(alloc, output)?;

@@ -18,7 +18,8 @@ pub enum Go {
 /// Is told the picks of a run one by one: each by `pick`, then `node_done` of the node that it completes, and then
 /// `operands_done` of the node above where that awaits nothing more. After Stop it is told nothing more.
 pub trait Watch {
-    ghost use Rattle.core_run.specs.Calls.{Heard, picked, node_done as node_done_call, operands_done as operands_done_call, noted, GoesOn, FollowsPick, FollowsNode};
+    ghost use Rattle.core_run.specs.Calls.{Heard, picked, node_done as node_done_call, operands_done as operands_done_call, noted, GoesOn, FollowsPick};
+    ghost use Rattle.core_run.specs.Calls.{FollowsNode};
 
     /// How many picks it was told, where it counts them.
     ghost told: { Self → Option ℕ } = { λ _. None };

@@ -21,7 +21,8 @@ pub fn elaborate(alloc: Global, p: &Program) -> Result<CoreProgram, NoMemory>
     ensures terms { EachCounts (program_trees p.now) → IfOk result (λ c. terms_of c.terms ≡ terms_from (map (term_for 0) (program_trees p.now))) }
 
     // Each term is faithful, where the nodes have the operands that their operators take.
-    ensures faithful { EachCounts (program_trees p.now) → EachFormed (program_trees p.now) → IfOk result (λ c. AreFaithful (program_trees p.now) (terms_of c.terms)) }
+    ensures faithful { EachCounts (program_trees p.now) → EachFormed (program_trees p.now) →
+        IfOk result (λ c. AreFaithful (program_trees p.now) (terms_of c.terms)) }
 {
     let terms = all(alloc, p)?;
     Ok(CoreProgram { program: p, terms })

@@ -7,7 +7,8 @@ ghost use Rattle.evaluation_log.specs.declared.sought.Sought.TheVariants.{Any, R
 ghost use Rattle.evaluation_log.specs.Clashes.{SomeClash, NoClash, AreSorted, NoneBetween, operand_has, behind_has};
 ghost use Rattle.evaluation_log.specs.FoundItems.{ItemsConflict};
 ghost use Rattle.evaluation_log.specs.Touched.{event_has, is_sought, range_has, start_of};
-ghost use Rattle.evaluation_search.specs.First.{AreBetween, AreFrom, AreOnce, AreRising, HasJust, IsFirstOf, IsLeastEvent, IsNearer, IsOf, IsOfPair, IsSoughtPair};
+ghost use Rattle.evaluation_search.specs.First.{AreBetween, AreFrom, AreOnce, AreRising, HasJust, IsFirstOf, IsLeastEvent, IsNearer, IsOf, IsOfPair};
+ghost use Rattle.evaluation_search.specs.First.{IsSoughtPair};
 ghost use Rattle.evaluation_search.specs.First.{Takes, comes_first, named, sought_of};
 
 use crate::log::{Log, Place};
@@ -33,7 +34,8 @@ impl Search<'_> {
             (λ r. IfNone r (NoneBetween Any self.now.under.map.now segments.now self.now.log.events.now self.now.log.items.now at)) }
         ensures first { AreSorted segments.now self.now.log.events.now at → AreRising segments.now self.now.log.events.now at →
             AreOnce self.now.log.events.now (start_of segments.now self.now.log.events.now at) → IfOk result (IsFirstOf self.now.under.frames.now
-            (IsOfPair self.now.under.frames.now self.now.under.map.now self.now.place self.now.log.events.now self.now.log.items.now (AreBetween segments.now self.now.log.events.now at))) }
+            (IsOfPair self.now.under.frames.now self.now.under.map.now self.now.place self.now.log.events.now self.now.log.items.now
+            (AreBetween segments.now self.now.log.events.now at))) }
     {
         match self.least_between(segments, Sought::Races, at)? {
             Some(race) => Ok(Some(race)),
@@ -132,7 +134,8 @@ impl Search<'_> {
         requires second_sought { is_sought sought (slice_get self.now.log.events.now b) ≡ true }
         ensures conflict { ItemsConflict result }
         ensures none { IfNone result (NoClash sought self.now.under.map.now (holds foot_a.now) (holds foot_b.now)) }
-        ensures first { HasJust self.now.log.events.now self.now.log.items.now a foot_a.now → HasJust self.now.log.events.now self.now.log.items.now b foot_b.now →
+        ensures first { HasJust self.now.log.events.now self.now.log.items.now a foot_a.now →
+            HasJust self.now.log.events.now self.now.log.items.now b foot_b.now →
             IsFirstOf self.now.under.frames.now (λ f. (sought ≡ sought_of f.race) ×
             IsOf self.now.under.frames.now self.now.under.map.now self.now.place self.now.log.events.now self.now.log.items.now a b f) result }
     {

@@ -118,7 +118,8 @@ fn member_takes(
     offset: u64,
     at: u64,
 ) -> bool
-    ensures { IsTrue result → SuitsSome program.now address.0 address.1 at (shifted offset (scalars_within depth program.now.tags (type_of_member member.now))) }
+    ensures { IsTrue result → SuitsSome program.now address.0 address.1 at
+        (shifted offset (scalars_within depth program.now.tags (type_of_member member.now))) }
 {
     if at < offset || ends_before(program, member, at - offset) {
         return false;

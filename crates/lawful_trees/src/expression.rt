@@ -47,7 +47,8 @@ pub fn is_lawful_expression(
     tree: &Typed,
     purpose: Purpose,
 ) -> Result<bool, NoMemory>
-    ensures { IfOk result (λ b. IsTrue b → ExpressionIsLawful program.now (signature_of owner.now) (record { tree = tree.now; for_use = use_of purpose; blocks = blocks_of no_block around.now })) }
+    ensures { IfOk result (λ b. IsTrue b → ExpressionIsLawful program.now (signature_of owner.now)
+        (record { tree = tree.now; for_use = use_of purpose; blocks = blocks_of no_block around.now })) }
 {
     if count_nodes(tree) >= 0x1_0000_0000 {
         return Ok(false);

@@ -49,7 +49,8 @@ fn passed(tags: &Tags, params: &[Qual], variadic: bool, arguments: &[Typed]) -> 
 
 /// Whether it is a call of the first operand's function with the others (6.5.2.2p2).
 pub fn call_types(program: &Program, own: &Ty, operands: &[Typed]) -> bool
-    ensures { IsTrue result → (blocks : Blocks) (discarded : Bool) → TypesAre program.now blocks (shape.Call discarded) (type_of own.now) (types_of operands.now) }
+    ensures { IsTrue result → (blocks : Blocks) (discarded : Bool) →
+        TypesAre program.now blocks (shape.Call discarded) (type_of own.now) (types_of operands.now) }
 {
     let Some((called, arguments)) = operands.split_first() else {
         return false;
@@ -90,7 +91,8 @@ fn all_void(operands: &[Typed]) -> bool
 
 /// Whether an initializer list and its operands give no value.
 pub fn list_types(own: &Ty, operands: &[Typed]) -> bool
-    ensures { IsTrue result → (p : Program) (blocks : Blocks) (slot : Slot) (bytes : List Constant) → TypesAre p blocks (shape.List slot bytes) (type_of own.now) (types_of operands.now) }
+    ensures { IsTrue result → (p : Program) (blocks : Blocks) (slot : Slot) (bytes : List Constant) →
+        TypesAre p blocks (shape.List slot bytes) (type_of own.now) (types_of operands.now) }
 {
     is_void(own) && all_void(operands)
 }

@@ -160,7 +160,8 @@ fn changes_by(tags: &Tags, change: Change, object: &Ty, operand: &Ty) -> bool
 }
 
 fn step_types(program: &Program, change: Change, own: &Ty, place: &Ty) -> bool
-    ensures { IsTrue result → (blocks : Blocks) (old : Bool) → TypesAre program.now blocks (shape.Update change old) (type_of own.now) (type_of place.now ∷ []) }
+    ensures { IsTrue result → (blocks : Blocks) (old : Bool) →
+        TypesAre program.now blocks (shape.Update change old) (type_of own.now) (type_of place.now ∷ []) }
 {
     match place {
         Ty::Pointer(object) => {
@@ -174,7 +175,8 @@ fn step_types(program: &Program, change: Change, own: &Ty, place: &Ty) -> bool
 }
 
 fn update_types(program: &Program, change: Change, own: &Ty, place: &Ty, operand: &Ty) -> bool
-    ensures { IsTrue result → (blocks : Blocks) (old : Bool) → TypesAre program.now blocks (shape.Update change old) (type_of own.now) (type_of place.now ∷ type_of operand.now ∷ []) }
+    ensures { IsTrue result → (blocks : Blocks) (old : Bool) →
+        TypesAre program.now blocks (shape.Update change old) (type_of own.now) (type_of place.now ∷ type_of operand.now ∷ []) }
 {
     match place {
         Ty::Pointer(object) => {
@@ -218,7 +220,8 @@ fn binary_types(
     left: &Ty,
     right: &Ty,
 ) -> bool
-    ensures { IsTrue result → (blocks : Blocks) → TypesAre program.now blocks (shape.Bin op kind) (type_of own.now) (type_of left.now ∷ type_of right.now ∷ []) }
+    ensures { IsTrue result → (blocks : Blocks) → TypesAre program.now blocks (shape.Bin op kind) (type_of own.now)
+        (type_of left.now ∷ type_of right.now ∷ []) }
 {
     is_promoted(kind)
         && is_int(left, kind)
@@ -227,7 +230,8 @@ fn binary_types(
 }
 
 fn pointer_sum_types(program: &Program, size: u64, own: &Ty, pointer: &Ty, index: &Ty) -> bool
-    ensures { IsTrue result → (blocks : Blocks) (subtract : Bool) → TypesAre program.now blocks (shape.PtrAdd size subtract) (type_of own.now) (type_of pointer.now ∷ type_of index.now ∷ []) }
+    ensures { IsTrue result → (blocks : Blocks) (subtract : Bool) →
+        TypesAre program.now blocks (shape.PtrAdd size subtract) (type_of own.now) (type_of pointer.now ∷ type_of index.now ∷ []) }
 {
     match pointer {
         Ty::Pointer(target) => {
@@ -240,7 +244,8 @@ fn pointer_sum_types(program: &Program, size: u64, own: &Ty, pointer: &Ty, index
 }
 
 fn difference_types(program: &Program, size: u64, own: &Ty, left: &Ty, right: &Ty) -> bool
-    ensures { IsTrue result → (blocks : Blocks) → TypesAre program.now blocks (shape.PtrDiff size) (type_of own.now) (type_of left.now ∷ type_of right.now ∷ []) }
+    ensures { IsTrue result → (blocks : Blocks) → TypesAre program.now blocks (shape.PtrDiff size) (type_of own.now)
+        (type_of left.now ∷ type_of right.now ∷ []) }
 {
     steps_over(&program.tags, left, size)
         && steps_over(&program.tags, right, size)
@@ -257,7 +262,8 @@ fn assignment_types(
     place: &Ty,
     value: &Ty,
 ) -> bool
-    ensures { IsTrue result → (blocks : Blocks) → TypesAre program.now blocks (shape.Assign initializing access) (type_of own.now) (type_of place.now ∷ type_of value.now ∷ []) }
+    ensures { IsTrue result → (blocks : Blocks) → TypesAre program.now blocks (shape.Assign initializing access) (type_of own.now)
+        (type_of place.now ∷ type_of value.now ∷ []) }
 {
     match place {
         Ty::Pointer(object) => {
@@ -295,7 +301,8 @@ pub fn binary_node_types(program: &Program, node: &Node, own: &Ty, left: &Ty, ri
 
 // A node over three operands.
 pub fn choice_types(program: &Program, node: &Node, own: &Ty, test: &Ty, yes: &Ty, no: &Ty) -> bool
-    ensures { IsTrue result → (blocks : Blocks) → TypesAre program.now blocks (head_at node.now) (type_of own.now) (type_of test.now ∷ type_of yes.now ∷ type_of no.now ∷ []) }
+    ensures { IsTrue result → (blocks : Blocks) → TypesAre program.now blocks (head_at node.now) (type_of own.now)
+        (type_of test.now ∷ type_of yes.now ∷ type_of no.now ∷ []) }
 {
     match node {
         Node::Cond => is_scalar(test) && value_is(own, yes) && value_is(own, no),

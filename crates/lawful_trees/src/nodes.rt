@@ -83,7 +83,8 @@ fn is_lawful_node(
     own: &Ty,
     operands: &[Typed],
 ) -> bool
-    ensures { IsTrue result → SiteIsLawful program.now (blocks_of no_block around.now) (record { head = head_at node.now; ty = type_of own.now; operands = types_of operands.now }) }
+    ensures { IsTrue result → SiteIsLawful program.now (blocks_of no_block around.now)
+        (record { head = head_at node.now; ty = type_of own.now; operands = types_of operands.now }) }
 {
     names_there(program, around, node)
         && count_is(node, operands.len())

@@ -2,7 +2,9 @@
 ghost use Rattle.std.specs.Prelude.{◌≡◌, ◌<◌, ◌↔◌, IsTrue, false, Some};
 ghost use Rattle.c_types.specs.Types.{type_of, qualified_of, kind_of, void, int, pointer, Alike, Compatible, SizesAgree};
 ghost use Rattle.c_types.specs.Layout.{extent, extents};
-ghost use Rattle.c_typed.specs.Lawful.{There, IsSized, FirstOf, PointsInto, Gives, ValueIs, IsPointer, IsScalar, IsInteger, AccessIs, PointsTo, IsConstant, StepsOver, LiesIn, IsTagged, MemberOf, IsFunctionType, NoFunction, EndsInTag, AlignsTo, IsPromoted, IsPromotedType, IsArgument, IsResult, Ordered, Comparable, OneKind, Related, literal_type};
+ghost use Rattle.c_typed.specs.Lawful.{There, IsSized, FirstOf, PointsInto, Gives, ValueIs, IsPointer, IsScalar, IsInteger, AccessIs, PointsTo, IsConstant};
+ghost use Rattle.c_typed.specs.Lawful.{StepsOver, LiesIn, IsTagged, MemberOf, IsFunctionType, NoFunction, EndsInTag, AlignsTo, IsPromoted, IsPromotedType};
+ghost use Rattle.c_typed.specs.Lawful.{IsArgument, IsResult, Ordered, Comparable, OneKind, Related, literal_type};
 
 use c_typed::Access;
 use c_types::{IntKind, Qual, Tags, Ty, compatible, promote, same_qualified, same_type};
@@ -114,7 +116,8 @@ fn is_alike(target: &Qual, object: &Qual) -> bool
 
 // Whether the type is that of the object, or, where that is an array, of its first element, and so on.
 fn points_into(target: &Qual, object: &Qual) -> bool
-    ensures { IsTrue result → PointsInto (qualified_of target.now).constant (qualified_of target.now).ty (qualified_of object.now).constant (qualified_of object.now).ty }
+    ensures { IsTrue result → PointsInto (qualified_of target.now).constant (qualified_of target.now).ty (qualified_of object.now).constant
+        (qualified_of object.now).ty }
 {
     match &object.ty {
         Ty::Array(element, _) => is_alike(target, object) || points_into(target, element.get()),

@@ -65,7 +65,8 @@ fn add_repeated(
     step: u64,
     part: &Shape,
 ) -> Result<(), NoMemory>
-    ensures { OnOk result (map scalar_of leaves.new ≡ map scalar_of leaves.old ++ map capped (shifted offset (repeated_scalars count step (listed.leaves (form_of part.now))))) }
+    ensures { OnOk result (map scalar_of leaves.new ≡ map scalar_of leaves.old ++ map capped
+        (shifted offset (repeated_scalars count step (listed.leaves (form_of part.now))))) }
 {
     for i in 0..count {
         let at = offset.saturating_add(i.saturating_mul(step));

@@ -127,7 +127,8 @@ fn place_member(
 ) -> Result<(), NoMemory>
     requires own { IsRoomy tags.now current }
     requires others { AreRoomy tags.now opened.old }
-    ensures placed { OnOk result (all_leaves (forms_of (map put_of parts.new)) ++ remaining tags.now opened.new ≡ all_leaves (forms_of (map put_of parts.old)) ++ (contribution tags.now current ++ remaining tags.now opened.old)) }
+    ensures placed { OnOk result (all_leaves (forms_of (map put_of parts.new)) ++ remaining tags.now opened.new ≡ all_leaves
+        (forms_of (map put_of parts.old)) ++ (contribution tags.now current ++ remaining tags.now opened.old)) }
     ensures roomy { OnOk result (AreRoomy tags.now opened.new) }
     ensures less { OnOk result (work tags.now opened.new < open_work tags.now current + work tags.now opened.old) }
 {

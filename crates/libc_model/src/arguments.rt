@@ -12,7 +12,8 @@ ghost use Rattle.prov_memory.specs.Held.{held_of};
 ghost use Rattle.prov_memory.specs.Memory.{HasCell, life_in, store_of};
 ghost use Rattle.libc_spec.specs.Library.{argument_at, pointer_in, integer_in, size_of_value, is_zero, text};
 ghost use Rattle.libc_model.specs.Answers.{is_size};
-ghost use Rattle.libc_model.specs.Parts.{after, kept_by, kept_after, Follows, settled_to, one_of_two, offset_if, byte_at, accessed, accessed_if, text_in, IsShort, IsRange, string_size};
+ghost use Rattle.libc_model.specs.Parts.{after, kept_by, kept_after, Follows, settled_to, one_of_two, offset_if, byte_at, accessed, accessed_if, text_in};
+ghost use Rattle.libc_model.specs.Parts.{IsShort, IsRange, string_size};
 ghost use Rattle.libc_model.specs.Writes.{IsPlace};
 ghost use Rattle.libc_model.specs.Seen.{value_seen, values_seen, pointer_seen};
 
@@ -232,7 +233,8 @@ fn object_of(
     len: u64,
     t: &mut Touched,
 ) -> Result<Option<ObjName>, LibAnswer>
-    ensures { (io : Io) → HasCell m.now pointer.prov → Follows true (λ x. x) result m.now io t.old t.new (argument_object m.now.rows len pointer.addr pointer.prov) }
+    ensures { (io : Io) → HasCell m.now pointer.prov → Follows true (λ x. x) result m.now io t.old t.new
+        (argument_object m.now.rows len pointer.addr pointer.prov) }
 {
     match pointer.prov {
         Prov::Empty => Err(LibAnswer::Raise(Clause::LibraryArgument)),
@@ -287,7 +289,8 @@ pub fn check(
     len: u64,
     t: &mut Touched,
 ) -> Result<Option<Range>, LibAnswer>
-    ensures follows { (io : Io) → HasCell m.now pointer.prov → Follows true (accessed_if m.now) result m.now io t.old t.new (argument m.now.rows len pointer.addr pointer.prov) }
+    ensures follows { (io : Io) → HasCell m.now pointer.prov →
+        Follows true (accessed_if m.now) result m.now io t.old t.new (argument m.now.rows len pointer.addr pointer.prov) }
     ensures range { IfOk result (IsRange len) }
     ensures near { IfOk result (λ range. IfSome range (λ r. pointer.addr ≤ r.from + 2 ^ 47)) }
     ensures place { IfOk result (λ range. IfSome range (IsPlace m.now pointer.addr)) }
@@ -329,7 +332,8 @@ fn string_size(m: &Memory, object: ObjName, from: u64) -> Option<u64>
 /// The string that a pointer argument names, with its zero: the checks of its first byte, and 7.1.4p1 where the object has no
 /// zero behind it. `t` gains the items, the read of the string among them.
 pub fn check_string(m: &Memory, pointer: Pointer, t: &mut Touched) -> Result<Range, LibAnswer>
-    ensures follows { (io : Io) → HasCell m.now pointer.prov → Follows false (text_in m.now) result m.now io t.old t.new (text m.now.rows pointer.addr pointer.prov) }
+    ensures follows { (io : Io) → HasCell m.now pointer.prov →
+        Follows false (text_in m.now) result m.now io t.old t.new (text m.now.rows pointer.addr pointer.prov) }
     ensures short { IfOk result IsShort }
     ensures near { IfOk result (λ r. pointer.addr + r.len ≤ 2 ^ 48) }
 {

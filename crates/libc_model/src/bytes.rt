@@ -15,8 +15,10 @@ ghost use Rattle.prov_memory.specs.Memory.{AreKnown, CellsKnown, life_in, store_
 ghost use Rattle.libc_spec.specs.Library.{LibValue};
 ghost use Rattle.libc_model.specs.Seen.{value_seen};
 ghost use Rattle.libc_model.specs.Answers.{AreWithin, Answers, answer_in};
-ghost use Rattle.libc_model.specs.Parts.{after, Follows, IsPassed, limited, CanFollow, byte_at, bytes_of, IsShort, read_items, ReadsByte, ReadsAll, IsSettled, AreSettled};
-ghost use Rattle.libc_model.specs.Writes.{Tells, within_limits, IsPlace, FillsRange, LiveOn, SeesBytes, has_expose, is_expose, overwritten, without_empty, writable, write_items};
+ghost use Rattle.libc_model.specs.Parts.{after, Follows, IsPassed, limited, CanFollow, byte_at, bytes_of, IsShort, read_items, ReadsByte, ReadsAll, IsSettled};
+ghost use Rattle.libc_model.specs.Parts.{AreSettled};
+ghost use Rattle.libc_model.specs.Writes.{Tells, within_limits, IsPlace, FillsRange, LiveOn, SeesBytes, has_expose, is_expose, overwritten, without_empty};
+ghost use Rattle.libc_model.specs.Writes.{writable, write_items};
 
 use crate::arguments::{Range, read_of};
 use exposure::Prov;
@@ -165,8 +167,12 @@ pub fn finish(
     m: &mut Memory,
     t: &Touched,
 ) -> Result<Value, LibAnswer>
-    ensures exact { (io : Io) (script : List Row → Script LibValue) → AreWithin io → IfOk read IsPassed → Follows false value_seen read m.old io [] t.now (script m.old.rows) → Answers (answer_in result) t.now (store_of m.new io) (limited (store_of m.old io) (run m.new.rows (script m.new.rows) (store_of m.old io))) }
-    ensures each { (io : Io) (script : List Row → Script LibValue) → AreWithin io → IfOk read IsPassed → Tells value_seen read m.old io [] t.now (script m.old.rows) → Answers (answer_in result) t.now (store_of m.new io) (within_limits (store_of m.old io) (run m.new.rows (script m.new.rows) (store_of m.old io))) }
+    ensures exact { (io : Io) (script : List Row → Script LibValue) → AreWithin io → IfOk read IsPassed →
+        Follows false value_seen read m.old io [] t.now (script m.old.rows) →
+        Answers (answer_in result) t.now (store_of m.new io) (limited (store_of m.old io) (run m.new.rows (script m.new.rows) (store_of m.old io))) }
+    ensures each { (io : Io) (script : List Row → Script LibValue) → AreWithin io → IfOk read IsPassed →
+        Tells value_seen read m.old io [] t.now (script m.old.rows) → Answers (answer_in result) t.now (store_of m.new io)
+        (within_limits (store_of m.old io) (run m.new.rows (script m.new.rows) (store_of m.old io))) }
     ensures known { AreKnown m.old → AreKnown m.new }
     ensures same { OnErr result (m.new ≡ m.old) }
     ensures kept { Keeps m.old m.new }
@@ -188,10 +194,12 @@ pub fn put_over(
 )
     requires place { IsPlace m.old addr range }
     requires len { length block.now.cells ≡ range.len }
-    ensures store { (io : Io) (seen : Seen) → SeesBytes via seen → store_of m.new io ≡ with_bytes (store_of m.old io) range.object range.from (stored_from (declared_of (life_in (held_of m.old.objects range.object))) seen 0 (tagged_all m.old block.now.cells)) }
+    ensures store { (io : Io) (seen : Seen) → SeesBytes via seen → store_of m.new io ≡ with_bytes (store_of m.old io) range.object range.from
+        (stored_from (declared_of (life_in (held_of m.old.objects range.object))) seen 0 (tagged_all m.old block.now.cells)) }
     ensures rows { m.new.rows ≡ m.old.rows }
     ensures known { AreKnown m.old → CellsKnown (length m.old.origins) block.now.cells → AreKnown m.new }
-    ensures kept { IsNumbered (length m.old.types) via → CellsKnown (length m.old.origins) block.now.cells → CellsTagged (length m.old.types) block.now.cells → Keeps m.old m.new }
+    ensures kept { IsNumbered (length m.old.types) via → CellsKnown (length m.old.origins) block.now.cells → CellsTagged (length m.old.types) block.now.cells →
+        Keeps m.old m.new }
 {
     let _ = m.store(
         true,
@@ -217,7 +225,8 @@ pub fn overwrite(
     requires place { IfSome target (IsPlace m.old addr) }
     requires len { FillsRange (length block.now.cells) target }
     ensures items { OnOk result (t.new ≡ t.old ++ write_items target) }
-    ensures store { OnOk result ((io : Io) (ns : List ℕ) → block.now.cells ≡ map plain_cell ns → CanFollow m.old.cells t.old (store_of m.old io) → store_of m.new io ≡ overwritten target ns (after t.old (store_of m.old io))) }
+    ensures store { OnOk result ((io : Io) (ns : List ℕ) → block.now.cells ≡ map plain_cell ns → CanFollow m.old.cells t.old (store_of m.old io) →
+        store_of m.new io ≡ overwritten target ns (after t.old (store_of m.old io))) }
     ensures rows { m.new.rows ≡ m.old.rows }
     ensures known { (ns : List ℕ) → block.now.cells ≡ map plain_cell ns → AreKnown m.old → AreKnown m.new }
     ensures same { OnErr result (m.new ≡ m.old) }

@@ -1,5 +1,6 @@
 // The functions of the library, each with its act.
-ghost use Rattle.std.specs.Prelude.{◌≡◌, ◌≢◌, ℕ, ◌<◌, ◌≤◌, ◌+◌, ◌^◌, true, false, nat_lt, Some, None, Ok, Err, length, List, [], OnOk, OnErr, IfNone, if◌then◌else◌};
+ghost use Rattle.std.specs.Prelude.{◌≡◌, ◌≢◌, ℕ, ◌<◌, ◌≤◌, ◌+◌, ◌^◌, true, false, nat_lt, Some, None, Ok, Err, length, List, [], OnOk, OnErr, IfNone};
+ghost use Rattle.std.specs.Prelude.{if◌then◌else◌};
 ghost use Rattle.c_types.specs.declared.library.LibFunc.TheVariants.{Malloc, Free, Getchar, Putchar, Puts, Exit, Abort, Printf, Fprintf, Sprintf, Snprintf};
 ghost use Rattle.ub_base.specs.declared.clause.Cause.TheVariants.{Output};
 ghost use Rattle.addr_map.specs.declared.map.Row.{Row};
@@ -13,7 +14,8 @@ ghost use Rattle.ub_base.specs.declared.names.Event.{Event};
 ghost use Rattle.libc_model.specs.Seen.{values_seen};
 ghost use Rattle.libc_model.specs.Parts.{Gives, Follows, line, line_at, printing, limited};
 ghost use Rattle.prov_memory.specs.Tags.{AreTagged};
-ghost use Rattle.libc_model.specs.Answers.{ArgumentsMade, GivesMade, allocates, IsCall, AreWithin, Answers, answer_in, given_value, gives_value, leaves_all, wants_memory};
+ghost use Rattle.libc_model.specs.Answers.{ArgumentsMade, GivesMade, allocates, IsCall, AreWithin, Answers, answer_in, given_value, gives_value, leaves_all};
+ghost use Rattle.libc_model.specs.Answers.{wants_memory};
 
 use crate::arguments::{Pointer, check_string, int_at, pointer_at, size_at};
 use crate::bytes::{numbers, settle};
@@ -45,7 +47,8 @@ pub fn call(
     requires fprintf { f ≢ Fprintf }
     requires sprintf { f ≢ Sprintf }
     requires snprintf { f ≢ Snprintf }
-    ensures exact { IsCall f (values_seen args.now) m.old io.old → Answers result t.new (store_of m.new io.new) (called m.new.rows f (values_seen args.now) who (store_of m.old io.old)) }
+    ensures exact { IsCall f (values_seen args.now) m.old io.old →
+        Answers result t.new (store_of m.new io.new) (called m.new.rows f (values_seen args.now) who (store_of m.old io.old)) }
     ensures known { AreKnown m.old → wants_memory result ≡ false → AreKnown m.new }
     ensures same { leaves_all result f ≡ true → (m.new ≡ m.old) × (io.new ≡ io.old) }
     ensures within { AreWithin io.old → AreWithin io.new }
@@ -75,7 +78,8 @@ fn value_of(
     requires sprintf { f ≢ Sprintf }
     requires snprintf { f ≢ Snprintf }
     requires items { t.old ≡ [] }
-    ensures exact { IsCall f (values_seen args.now) m.old io.old → Answers (answer_in result) t.new (store_of m.new io.new) (called m.new.rows f (values_seen args.now) who (store_of m.old io.old)) }
+    ensures exact { IsCall f (values_seen args.now) m.old io.old →
+        Answers (answer_in result) t.new (store_of m.new io.new) (called m.new.rows f (values_seen args.now) who (store_of m.old io.old)) }
     ensures known { AreKnown m.old → wants_memory (answer_in result) ≡ false → AreKnown m.new }
     ensures same { leaves_all (answer_in result) f ≡ true → (m.new ≡ m.old) × (io.new ≡ io.old) }
     ensures within { AreWithin io.old → AreWithin io.new }
@@ -110,7 +114,8 @@ fn value_of(
 
 // free: its value is none.
 fn free(alloc: Global, args: &[Value], m: &mut Memory, t: &mut Touched) -> Result<Value, LibAnswer>
-    ensures exact { (io : Io) → AreWithin io → IsCall Free (values_seen args.now) m.old io → (who : Event) → Answers (answer_in result) t.new (store_of m.new io) (called m.new.rows Free (values_seen args.now) who (store_of m.old io)) }
+    ensures exact { (io : Io) → AreWithin io → IsCall Free (values_seen args.now) m.old io → (who : Event) →
+        Answers (answer_in result) t.new (store_of m.new io) (called m.new.rows Free (values_seen args.now) who (store_of m.old io)) }
     ensures known { AreKnown m.old → AreKnown m.new }
     ensures same { OnErr result (m.new ≡ m.old) }
     ensures kept { Keeps m.old m.new }
@@ -124,7 +129,8 @@ fn free(alloc: Global, args: &[Value], m: &mut Memory, t: &mut Touched) -> Resul
 // getchar: the next byte of the input, or -1 at its end.
 fn getchar(io: &mut Streams, t: &mut Touched) -> Result<Value, LibAnswer>
     requires { t.old ≡ [] }
-    ensures exact { (m : Kept) (vs : List LibValue) (who : Event) → AreWithin io.old → Answers (answer_in result) t.new (store_of m io.new) (called m.rows Getchar vs who (store_of m io.old)) }
+    ensures exact { (m : Kept) (vs : List LibValue) (who : Event) → AreWithin io.old →
+        Answers (answer_in result) t.new (store_of m io.new) (called m.rows Getchar vs who (store_of m io.old)) }
     ensures same { OnErr result (io.new ≡ io.old) }
     ensures within { AreWithin io.old → AreWithin io.new }
 {
@@ -153,7 +159,8 @@ fn output_past(written: u64, more: u64) -> Option<u64>
 /// Whether so many more bytes pass the limit on standard output and standard error together.
 pub fn check_output(io: &Streams, more: u64) -> Result<(), LibAnswer>
     ensures within { OnOk result (total io.now.output + more ≤ 2 ^ 24) }
-    ensures past { total io.now.output + more < 2 ^ 64 → result ≡ (if nat_lt (2 ^ 24) (total io.now.output + more) then Err (answers.Outside Output (total io.now.output + more)) else Ok tt) }
+    ensures past { total io.now.output + more < 2 ^ 64 → result ≡
+        (if nat_lt (2 ^ 24) (total io.now.output + more) then Err (answers.Outside Output (total io.now.output + more)) else Ok tt) }
 {
     match output_past(io.written(), more) {
         Some(total) => Err(LibAnswer::Outside(Cause::Output, total)),
@@ -164,7 +171,8 @@ pub fn check_output(io: &Streams, more: u64) -> Result<(), LibAnswer>
 // putchar: the byte of the number modulo 256, which it gives.
 fn putchar(number: i128, io: &mut Streams, t: &mut Touched) -> Result<Value, LibAnswer>
     requires { t.old ≡ [] }
-    ensures exact { (m : Kept) (vs : List LibValue) (who : Event) → number ≡ integer_in (argument_at vs 0) → AreWithin io.old → Answers (answer_in result) t.new (store_of m io.new) (called m.rows Putchar vs who (store_of m io.old)) }
+    ensures exact { (m : Kept) (vs : List LibValue) (who : Event) → number ≡ integer_in (argument_at vs 0) → AreWithin io.old →
+        Answers (answer_in result) t.new (store_of m io.new) (called m.rows Putchar vs who (store_of m io.old)) }
     ensures same { OnErr result (io.new ≡ io.old) }
     ensures within { AreWithin io.old → AreWithin io.new }
 {
@@ -184,7 +192,8 @@ fn puts(
     t: &mut Touched,
 ) -> Result<Value, LibAnswer>
     requires { t.old ≡ [] }
-    ensures exact { (who : Event) → IsCall Puts (values_seen args.now) m.old io.old → Answers (answer_in result) t.new (store_of m.new io.new) (called m.new.rows Puts (values_seen args.now) who (store_of m.old io.old)) }
+    ensures exact { (who : Event) → IsCall Puts (values_seen args.now) m.old io.old →
+        Answers (answer_in result) t.new (store_of m.new io.new) (called m.new.rows Puts (values_seen args.now) who (store_of m.old io.old)) }
     ensures known { AreKnown m.old → AreKnown m.new }
     ensures same { OnErr result ((m.new ≡ m.old) × (io.new ≡ io.old)) }
     ensures within { AreWithin io.old → AreWithin io.new }
@@ -222,7 +231,9 @@ fn print(
     io: &mut Streams,
     t: &mut Touched,
 ) -> Result<Value, LibAnswer>
-    ensures exact { (script : List Row → Script (List ℕ)) → AreWithin io.old → Gives false (List ℕ) m.old io.old [] t.old (script m.old.rows) bytes.now → Answers (answer_in result) t.new (store_of m.new io.new) (limited (store_of m.old io.old) (run m.new.rows (printing (script m.new.rows)) (store_of m.old io.old))) }
+    ensures exact { (script : List Row → Script (List ℕ)) → AreWithin io.old → Gives false (List ℕ) m.old io.old [] t.old (script m.old.rows) bytes.now →
+        Answers (answer_in result) t.new (store_of m.new io.new)
+        (limited (store_of m.old io.old) (run m.new.rows (printing (script m.new.rows)) (store_of m.old io.old))) }
     ensures known { AreKnown m.old → AreKnown m.new }
     ensures same { OnErr result ((m.new ≡ m.old) × (io.new ≡ io.old)) }
     ensures within { AreWithin io.old → AreWithin io.new }
@@ -239,7 +250,8 @@ fn print(
 // exit: the end of the run with the status modulo 256.
 fn exit(status: i128, t: &mut Touched) -> Result<Value, LibAnswer>
     requires { t.old ≡ [] }
-    ensures exact { (m : Kept) (io : Io) (vs : List LibValue) (who : Event) → status ≡ integer_in (argument_at vs 0) → AreWithin io → Answers (answer_in result) t.new (store_of m io) (called m.rows Exit vs who (store_of m io)) }
+    ensures exact { (m : Kept) (io : Io) (vs : List LibValue) (who : Event) → status ≡ integer_in (argument_at vs 0) → AreWithin io →
+        Answers (answer_in result) t.new (store_of m io) (called m.rows Exit vs who (store_of m io)) }
 {
     t.add(Item::Ending)?;
     Err(LibAnswer::End(ranges::low_byte(status)))
@@ -247,7 +259,8 @@ fn exit(status: i128, t: &mut Touched) -> Result<Value, LibAnswer>
 
 fn abort(t: &mut Touched) -> Result<Value, LibAnswer>
     requires { t.old ≡ [] }
-    ensures exact { (m : Kept) (io : Io) (vs : List LibValue) (who : Event) → AreWithin io → Answers (answer_in result) t.new (store_of m io) (called m.rows Abort vs who (store_of m io)) }
+    ensures exact { (m : Kept) (io : Io) (vs : List LibValue) (who : Event) → AreWithin io →
+        Answers (answer_in result) t.new (store_of m io) (called m.rows Abort vs who (store_of m io)) }
 {
     t.add(Item::Ending)?;
     Err(LibAnswer::End(ABORTED))

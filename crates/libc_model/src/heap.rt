@@ -1,6 +1,7 @@
 // Allocation (7.22.3).
 
-ghost use Rattle.std.specs.Prelude.{◌≡◌, ◌≢◌, ◌+◌, ◌*◌, ◌^◌, ◌∷◌, ◌++◌, length, min, max, true, nat_lt, Some, None, Ok, Err, IfOk, OnOk, OnErr, [], if◌then◌else◌};
+ghost use Rattle.std.specs.Prelude.{◌≡◌, ◌≢◌, ◌+◌, ◌*◌, ◌^◌, ◌∷◌, ◌++◌, length, min, max, true, nat_lt, Some, None, Ok, Err, IfOk, OnOk, OnErr, []};
+ghost use Rattle.std.specs.Prelude.{if◌then◌else◌};
 ghost use Rattle.ub_base.specs.declared.clause.Cause.TheVariants.{Created};
 ghost use Rattle.ub_base.specs.declared.names.Item.TheVariants.{Read, Born, Alive, Write, Dies};
 ghost use Rattle.exposure.specs.declared.prov.Prov.TheVariants.{Whole, Either};
@@ -20,7 +21,8 @@ ghost use Rattle.mem_spec.specs.Streams.{Io};
 ghost use Rattle.addr_map.specs.Rows.{row_of};
 ghost use Rattle.addr_map.specs.Sound.{Above};
 ghost use Rattle.c_types.specs.declared.library.LibFunc.TheVariants.{Calloc, Realloc};
-ghost use Rattle.libc_spec.specs.Library.{asked, library, is_given, is_heap_start, heap_name, heap_kind, malloc, calloc, free, realloc, resized, created_within};
+ghost use Rattle.libc_spec.specs.Library.{asked, library, is_given, is_heap_start, heap_name, heap_kind, malloc, calloc, free, realloc, resized};
+ghost use Rattle.libc_spec.specs.Library.{created_within};
 ghost use Rattle.libc_model.specs.Seen.{values_seen};
 ghost use Rattle.libc_model.specs.Making.{moved_store, released, rows_made, CanMove, IsNewAt, IsStart, start_in, heap_start_in};
 ghost use Rattle.libc_model.specs.Answers.{Does, IsCall, are_sizes, given_value};
@@ -78,7 +80,8 @@ fn sum_with(created: u64, size: u64) -> u64
 
 // Whether an object of this size passes the limit on created bytes.
 fn check_created(m: &Memory, size: u64) -> Result<(), LibAnswer>
-    ensures { result ≡ (if nat_lt (2 ^ 26) (min (m.now.created + max size 16) (2 ^ 62)) then Err (answers.Outside Created (min (m.now.created + max size 16) (2 ^ 62))) else Ok tt) }
+    ensures { result ≡ (if nat_lt (2 ^ 26) (min (m.now.created + max size 16) (2 ^ 62)) then Err
+        (answers.Outside Created (min (m.now.created + max size 16) (2 ^ 62))) else Ok tt) }
 {
     let sum = sum_with(m.created(), size);
     if sum > CREATED {
@@ -90,7 +93,8 @@ fn check_created(m: &Memory, size: u64) -> Result<(), LibAnswer>
 
 // A new heap object, unwritten.
 fn created(m: &mut Memory, name: ObjName, size: u64, t: &mut Touched) -> Result<Pointer, LibAnswer>
-    ensures exact { (io : Io) → AreKnown m.old → Does (λ base. record { addr = base; prov = Whole name }) result t.new (store_of m.new io) (run m.new.rows (create m.new.rows name size 16 heap_kind None) (store_of m.old io)) }
+    ensures exact { (io : Io) → AreKnown m.old → Does (λ base. record { addr = base; prov = Whole name }) result t.new (store_of m.new io)
+        (run m.new.rows (create m.new.rows name size 16 heap_kind None) (store_of m.old io)) }
     ensures rows { result ≢ Err answers.NoMemory → m.new.rows ≡ rows_made m.old name size }
     ensures born { IfOk result (λ new. IsBorn m.old m.new name new.addr size 16 heap_kind None) }
     ensures known { AreKnown m.old → OnOk result (AreKnown m.new) }
@@ -115,7 +119,8 @@ fn created(m: &mut Memory, name: ObjName, size: u64, t: &mut Touched) -> Result<
 
 /// malloc: null for 0 bytes and for more than 2^20 (own).
 pub fn allocate(size: u64, who: Event, m: &mut Memory, t: &mut Touched) -> Result<Value, LibAnswer>
-    ensures exact { (io : Io) → AreKnown m.old → Does given_value result t.new (store_of m.new io) (created_within size (store_of m.old io) (run m.new.rows (malloc m.new.rows who size) (store_of m.old io))) }
+    ensures exact { (io : Io) → AreKnown m.old → Does given_value result t.new (store_of m.new io)
+        (created_within size (store_of m.old io) (run m.new.rows (malloc m.new.rows who size) (store_of m.old io))) }
     ensures known { AreKnown m.old → OnOk result (AreKnown m.new) }
     ensures same { OnErr result (result ≢ Err answers.NoMemory → m.new ≡ m.old) }
     ensures failed { OnErr result (Keeps m.old m.new) }
@@ -142,7 +147,9 @@ pub fn allocate_zeros(
     t: &mut Touched,
 ) -> Result<Value, LibAnswer>
     requires items { t.old ≡ [] }
-    ensures exact { (io : Io) → are_sizes (values_seen args.now) (0 ∷ 1 ∷ []) ≡ true → AreKnown m.old → Above 16777216 m.old.rows → Does given_value result t.new (store_of m.new io) (created_within (asked Calloc (values_seen args.now)) (store_of m.old io) (run m.new.rows (calloc m.new.rows who (asked Calloc (values_seen args.now))) (store_of m.old io))) }
+    ensures exact { (io : Io) → are_sizes (values_seen args.now) (0 ∷ 1 ∷ []) ≡ true → AreKnown m.old → Above 16777216 m.old.rows →
+        Does given_value result t.new (store_of m.new io) (created_within (asked Calloc (values_seen args.now)) (store_of m.old io)
+        (run m.new.rows (calloc m.new.rows who (asked Calloc (values_seen args.now))) (store_of m.old io))) }
     ensures known { AreKnown m.old → OnOk result (AreKnown m.new) }
     ensures same { OnErr result (result ≢ Err answers.NoMemory → m.new ≡ m.old) }
     ensures failed { OnErr result (Keeps m.old m.new) }
@@ -167,7 +174,8 @@ fn zeroed(
     t: &mut Touched,
 ) -> Result<Value, LibAnswer>
     requires items { t.old ≡ [] }
-    ensures exact { (io : Io) → AreKnown m.old → Above 16777216 m.old.rows → Does given_value result t.new (store_of m.new io) (created_within size (store_of m.old io) (run m.new.rows (calloc m.new.rows who size) (store_of m.old io))) }
+    ensures exact { (io : Io) → AreKnown m.old → Above 16777216 m.old.rows → Does given_value result t.new (store_of m.new io)
+        (created_within size (store_of m.old io) (run m.new.rows (calloc m.new.rows who size) (store_of m.old io))) }
     ensures known { AreKnown m.old → OnOk result (AreKnown m.new) }
     ensures same { OnErr result (result ≢ Err answers.NoMemory → m.new ≡ m.old) }
     ensures failed { OnErr result (Keeps m.old m.new) }
@@ -202,10 +210,13 @@ fn add_zeroed(name: ObjName, size: u64, t: &mut Touched) -> Result<(), NoMemory>
 
 // Stores the bytes at the start of a new object, which refuses none.
 fn fill(m: &mut Memory, object: ObjName, addr: u64, via: Via, block: &Block, scratch: &mut Touched)
-    ensures exact { IsShort via (length block.now.cells) → (seen : Seen) → Sees m.old via seen → IsNewAt m.old object addr (length (tagged_all m.old block.now.cells)) → (io : Io) → store_of m.new io ≡ with_bytes (store_of m.old io) object 0 (stored_from None seen 0 (tagged_all m.old block.now.cells)) }
+    ensures exact { IsShort via (length block.now.cells) → (seen : Seen) → Sees m.old via seen → IsNewAt m.old object addr
+        (length (tagged_all m.old block.now.cells)) → (io : Io) →
+        store_of m.new io ≡ with_bytes (store_of m.old io) object 0 (stored_from None seen 0 (tagged_all m.old block.now.cells)) }
     ensures rows { m.new.rows ≡ m.old.rows }
     ensures known { AreKnown m.old → CellsKnown (length m.old.origins) block.now.cells → AreKnown m.new }
-    ensures kept { IsNumbered (length m.old.types) via → CellsKnown (length m.old.origins) block.now.cells → CellsTagged (length m.old.types) block.now.cells → Keeps m.old m.new }
+    ensures kept { IsNumbered (length m.old.types) via → CellsKnown (length m.old.origins) block.now.cells → CellsTagged (length m.old.types) block.now.cells →
+        Keeps m.old m.new }
 {
     let _ = m.store(true, via, 1, addr, Prov::Whole(object), block, scratch);
 }
@@ -238,7 +249,8 @@ pub fn free(
     m: &mut Memory,
     t: &mut Touched,
 ) -> Result<(), LibAnswer>
-    ensures exact { (io : Io) → HasCell m.old pointer.prov → Does (λ u. u) result t.new (store_of m.new io) (run m.new.rows (free m.new.rows pointer.addr pointer.prov clause) (store_of m.old io)) }
+    ensures exact { (io : Io) → HasCell m.old pointer.prov → Does (λ u. u) result t.new (store_of m.new io)
+        (run m.new.rows (free m.new.rows pointer.addr pointer.prov clause) (store_of m.old io)) }
     ensures known { AreKnown m.old → AreKnown m.new }
     ensures same { OnErr result (m.new ≡ m.old) }
     ensures kept { Keeps m.old m.new }
@@ -265,7 +277,8 @@ fn free_object(
     t: &mut Touched,
 ) -> Result<(), LibAnswer>
     requires { addr ≢ 0 }
-    ensures exact { (io : Io) → Does (λ u. u) result t.new (store_of m.new io) (run m.new.rows (free m.new.rows addr (Whole object) clause) (store_of m.old io)) }
+    ensures exact { (io : Io) → Does (λ u. u) result t.new (store_of m.new io)
+        (run m.new.rows (free m.new.rows addr (Whole object) clause) (store_of m.old io)) }
     ensures known { AreKnown m.old → AreKnown m.new }
     ensures same { OnErr result (m.new ≡ m.old) }
     ensures kept { Keeps m.old m.new }
@@ -292,7 +305,8 @@ fn free_start(
 ) -> Result<(), LibAnswer>
     requires start { addr ≢ 0 }
     requires items { t.old ≡ [] }
-    ensures exact { (io : Io) → has_cell m.old.cells id ≡ true → Does (λ u. u) result t.new (store_of m.new io) (run m.new.rows (free m.new.rows addr (Either id past start) clause) (store_of m.old io)) }
+    ensures exact { (io : Io) → has_cell m.old.cells id ≡ true → Does (λ u. u) result t.new (store_of m.new io)
+        (run m.new.rows (free m.new.rows addr (Either id past start) clause) (store_of m.old io)) }
     ensures known { AreKnown m.old → AreKnown m.new }
     ensures same { OnErr result (m.new ≡ m.old) }
     ensures kept { Keeps m.old m.new }
@@ -358,7 +372,9 @@ pub fn reallocate(
     t: &mut Touched,
 ) -> Result<Value, LibAnswer>
     requires items { t.old ≡ [] }
-    ensures exact { (io : Io) → IsCall Realloc (values_seen args.now) m.old io → Does given_value result t.new (store_of m.new io) (created_within (asked Realloc (values_seen args.now)) (store_of m.old io) (run m.new.rows (library m.new.rows Realloc (values_seen args.now) who) (store_of m.old io))) }
+    ensures exact { (io : Io) → IsCall Realloc (values_seen args.now) m.old io → Does given_value result t.new (store_of m.new io)
+        (created_within (asked Realloc (values_seen args.now)) (store_of m.old io)
+        (run m.new.rows (library m.new.rows Realloc (values_seen args.now) who) (store_of m.old io))) }
     ensures known { AreKnown m.old → OnOk result (AreKnown m.new) }
     ensures same { OnErr result (result ≢ Err answers.NoMemory → m.new ≡ m.old) }
     ensures failed { OnErr result (Keeps m.old m.new) }
@@ -378,7 +394,8 @@ fn change_size(
     t: &mut Touched,
 ) -> Result<Value, LibAnswer>
     requires items { t.old ≡ [] }
-    ensures exact { (io : Io) → CanMove m.old → HasCell m.old pointer.prov → Does given_value result t.new (store_of m.new io) (created_within size (store_of m.old io) (run m.new.rows (realloc m.new.rows who pointer.addr pointer.prov size) (store_of m.old io))) }
+    ensures exact { (io : Io) → CanMove m.old → HasCell m.old pointer.prov → Does given_value result t.new (store_of m.new io)
+        (created_within size (store_of m.old io) (run m.new.rows (realloc m.new.rows who pointer.addr pointer.prov size) (store_of m.old io))) }
     ensures known { AreKnown m.old → OnOk result (AreKnown m.new) }
     ensures same { OnErr result (result ≢ Err answers.NoMemory → m.new ≡ m.old) }
     ensures failed { OnErr result (Keeps m.old m.new) }
@@ -401,7 +418,8 @@ fn release(
     m: &mut Memory,
     t: &mut Touched,
 ) -> Result<Value, LibAnswer>
-    ensures exact { (io : Io) → HasCell m.old pointer.prov → Does given_value result t.new (store_of m.new io) (run m.new.rows (released m.new.rows pointer.addr pointer.prov) (store_of m.old io)) }
+    ensures exact { (io : Io) → HasCell m.old pointer.prov → Does given_value result t.new (store_of m.new io)
+        (run m.new.rows (released m.new.rows pointer.addr pointer.prov) (store_of m.old io)) }
     ensures known { AreKnown m.old → AreKnown m.new }
     ensures same { OnErr result (m.new ≡ m.old) }
     ensures kept { Keeps m.old m.new }
@@ -425,7 +443,8 @@ fn resize(
     requires start { pointer.addr ≢ 0 }
     requires some { size ≢ 0 }
     requires items { t.old ≡ [] }
-    ensures exact { (io : Io) → CanMove m.old → HasCell m.old pointer.prov → Does given_value result t.new (store_of m.new io) (created_within size (store_of m.old io) (run m.new.rows (resized m.new.rows who pointer.addr pointer.prov size) (store_of m.old io))) }
+    ensures exact { (io : Io) → CanMove m.old → HasCell m.old pointer.prov → Does given_value result t.new (store_of m.new io)
+        (created_within size (store_of m.old io) (run m.new.rows (resized m.new.rows who pointer.addr pointer.prov size) (store_of m.old io))) }
     ensures known { AreKnown m.old → OnOk result (AreKnown m.new) }
     ensures same { OnErr result (result ≢ Err answers.NoMemory → m.new ≡ m.old) }
     ensures failed { OnErr result (Keeps m.old m.new) }
@@ -493,10 +512,13 @@ fn move_to(
     t: &mut Touched,
 ) -> Result<Pointer, LibAnswer>
     requires { IsStart m.old object addr }
-    ensures made { (io : Io) → AreKnown m.old → (s : Store) × Does (λ base. record { addr = base; prov = Whole name }) result (Born name ∷ []) s (run (rows_made m.old name size) (create (rows_made m.old name size) name size 16 heap_kind None) (store_of m.old io)) }
-    ensures store { OnOk result ((io : Io) → CanMove m.old → CanSettle m.old.cells settles → store_of m.new io ≡ moved_store (rows_made m.old name size) object name size (after_settling settles (store_of m.old io))) }
+    ensures made { (io : Io) → AreKnown m.old → (s : Store) × Does (λ base. record { addr = base; prov = Whole name }) result (Born name ∷ []) s
+        (run (rows_made m.old name size) (create (rows_made m.old name size) name size 16 heap_kind None) (store_of m.old io)) }
+    ensures store { OnOk result ((io : Io) → CanMove m.old → CanSettle m.old.cells settles →
+        store_of m.new io ≡ moved_store (rows_made m.old name size) object name size (after_settling settles (store_of m.old io))) }
     ensures rows { result ≢ Err answers.NoMemory → m.new.rows ≡ rows_made m.old name size }
-    ensures items { OnOk result (t.new ≡ t.old ++ (Read object 0 (min (size_in (row_of m.old.rows object)) size) ∷ Born name ∷ Alive name ∷ Write name 0 (min (size_in (row_of m.old.rows object)) size) ∷ Dies object ∷ [])) }
+    ensures items { OnOk result (t.new ≡ t.old ++ (Read object 0 (min (size_in (row_of m.old.rows object)) size) ∷ Born name ∷ Alive name ∷ Write name 0
+        (min (size_in (row_of m.old.rows object)) size) ∷ Dies object ∷ [])) }
     ensures known { AreKnown m.old → OnOk result (AreKnown m.new) }
     ensures same { OnErr result (result ≢ Err answers.NoMemory → m.new ≡ m.old) }
     ensures failed { OnErr result (Keeps m.old m.new) }

@@ -14,7 +14,8 @@ ghost use Rattle.prov_memory.specs.Tags.{AreTagged, CellsTagged};
 ghost use Rattle.libc_model.specs.Seen.{value_seen, values_seen};
 ghost use Rattle.libc_model.specs.Answers.{IsCall, Answers, answer_in, copy_function, leaves_all, wants_memory};
 ghost use Rattle.libc_model.specs.Parts.{after, CanFollow, Follows, IsPassed, IsRange, IsShort, accessed_if, bytes_if, bytes_of, reads_if, ReadsAll};
-ghost use Rattle.libc_model.specs.Writes.{Tells, AreEven, IsKept, IsPlace, FillsRange, has_expose, moved, moved_items, moving, ranges_to_copy, target_at, target_checked};
+ghost use Rattle.libc_model.specs.Writes.{Tells, AreEven, IsKept, IsPlace, FillsRange, has_expose, moved, moved_items, moving, ranges_to_copy, target_at};
+ghost use Rattle.libc_model.specs.Writes.{target_checked};
 ghost use Rattle.libc_spec.specs.Library.{called, low_byte, memcmp, order_of, overlap};
 
 use crate::arguments::{Pointer, Range, check, int_at, pointer_at, read_of, size_at};
@@ -78,7 +79,8 @@ pub fn target_of(
     len: u64,
     t: &mut Touched,
 ) -> Result<Option<Range>, LibAnswer>
-    ensures follows { (io : Io) → HasCell m.now to.prov → Follows true (accessed_if m.now) result m.now io t.old t.new (target_at m.now.rows len to.addr to.prov) }
+    ensures follows { (io : Io) → HasCell m.now to.prov →
+        Follows true (accessed_if m.now) result m.now io t.old t.new (target_at m.now.rows len to.addr to.prov) }
     ensures range { IfOk result (IsRange len) }
     ensures place { IfOk result (λ target. IfSome target (IsPlace m.now to.addr)) }
 {
@@ -105,7 +107,8 @@ pub fn copied(
     scratch: &mut Touched,
 ) -> Result<Block, NoMemory>
     requires { IsPlace m.old addr range }
-    ensures bytes { IfOk result (λ b. AreTagged m.old → tagged_all m.new b.cells ≡ retagged (declared_of (life_in (held_of m.old.objects range.object))) range.from (bytes_of m.old range)) }
+    ensures bytes { IfOk result (λ b. AreTagged m.old → tagged_all m.new b.cells ≡ retagged
+        (declared_of (life_in (held_of m.old.objects range.object))) range.from (bytes_of m.old range)) }
     ensures store { OnOk result (AreTagged m.old → (io : Io) → store_of m.new io ≡ store_of m.old io) }
     ensures len { IfOk result (λ b. length b.cells ≡ range.len) }
     ensures pieces { IfOk result (λ b. AreKnown m.old → CellsKnown (length m.new.origins) b.cells) }
@@ -145,7 +148,9 @@ fn ranges_to_copy(
     len: u64,
     t: &mut Touched,
 ) -> Result<Ranges, LibAnswer>
-    ensures follows { (io : Io) → HasCell m.now to.prov → HasCell m.now from.prov → Follows true (λ r. (accessed_if m.now r.target, accessed_if m.now r.source)) result m.now io t.old t.new (ranges_to_copy m.now.rows may_overlap to.addr to.prov from.addr from.prov len) }
+    ensures follows { (io : Io) → HasCell m.now to.prov → HasCell m.now from.prov → Follows true
+        (λ r. (accessed_if m.now r.target, accessed_if m.now r.source)) result m.now io t.old t.new
+        (ranges_to_copy m.now.rows may_overlap to.addr to.prov from.addr from.prov len) }
     ensures target { IfOk result (λ r. IsRange len r.target) }
     ensures source { IfOk result (λ r. IsRange len r.source) }
     ensures to { IfOk result (λ r. IfSome r.target (IsPlace m.now to.addr)) }
@@ -168,7 +173,8 @@ pub fn copy(
     t: &mut Touched,
 ) -> Result<Value, LibAnswer>
     requires { t.old ≡ [] }
-    ensures exact { (io : Io) (who : Event) → IsCall (copy_function may_overlap) (values_seen args.now) m.old io → Answers (answer_in result) t.new (store_of m.new io) (called m.new.rows (copy_function may_overlap) (values_seen args.now) who (store_of m.old io)) }
+    ensures exact { (io : Io) (who : Event) → IsCall (copy_function may_overlap) (values_seen args.now) m.old io →
+        Answers (answer_in result) t.new (store_of m.new io) (called m.new.rows (copy_function may_overlap) (values_seen args.now) who (store_of m.old io)) }
     ensures known { AreKnown m.old → wants_memory (answer_in result) ≡ false → AreKnown m.new }
     ensures same { leaves_all (answer_in result) (copy_function may_overlap) ≡ true → m.new ≡ m.old }
     ensures failed { OnErr result (Keeps m.old m.new) }
@@ -205,7 +211,8 @@ fn move_bytes(
     requires from { IfSome ranges.source (IsPlace m.old from) }
     requires even { AreEven ranges.target ranges.source }
     ensures items { OnOk result (t.new ≡ t.old ++ moved_items ranges.target ranges.source) }
-    ensures store { OnOk result ((io : Io) → has_expose t.old ≡ false → AreTagged m.old → CanFollow m.old.cells t.old (store_of m.old io) → store_of m.new io ≡ moved m.old ranges.target ranges.source (after t.old (store_of m.old io))) }
+    ensures store { OnOk result ((io : Io) → has_expose t.old ≡ false → AreTagged m.old → CanFollow m.old.cells t.old (store_of m.old io) →
+        store_of m.new io ≡ moved m.old ranges.target ranges.source (after t.old (store_of m.old io))) }
     ensures rows { OnOk result (m.new.rows ≡ m.old.rows) }
     ensures known { AreKnown m.old → OnOk result (AreKnown m.new) }
     ensures failed { OnErr result (Keeps m.old m.new) }
@@ -232,7 +239,8 @@ pub fn fill(
     t: &mut Touched,
 ) -> Result<Value, LibAnswer>
     requires { t.old ≡ [] }
-    ensures exact { (io : Io) (who : Event) → IsCall Memset (values_seen args.now) m.old io → Answers (answer_in result) t.new (store_of m.new io) (called m.new.rows Memset (values_seen args.now) who (store_of m.old io)) }
+    ensures exact { (io : Io) (who : Event) → IsCall Memset (values_seen args.now) m.old io →
+        Answers (answer_in result) t.new (store_of m.new io) (called m.new.rows Memset (values_seen args.now) who (store_of m.old io)) }
     ensures known { AreKnown m.old → AreKnown m.new }
     ensures same { OnErr result (m.new ≡ m.old) }
     ensures kept { Keeps m.old m.new }
@@ -268,7 +276,8 @@ pub fn compare(
     t: &mut Touched,
 ) -> Result<Value, LibAnswer>
     requires { t.old ≡ [] }
-    ensures exact { (io : Io) (who : Event) → IsCall Memcmp (values_seen args.now) m.old io → Answers (answer_in result) t.new (store_of m.new io) (called m.new.rows Memcmp (values_seen args.now) who (store_of m.old io)) }
+    ensures exact { (io : Io) (who : Event) → IsCall Memcmp (values_seen args.now) m.old io →
+        Answers (answer_in result) t.new (store_of m.new io) (called m.new.rows Memcmp (values_seen args.now) who (store_of m.old io)) }
     ensures known { AreKnown m.old → AreKnown m.new }
     ensures same { OnErr result (m.new ≡ m.old) }
     ensures kept { Keeps m.old m.new }
@@ -292,7 +301,8 @@ fn order_of_ranges(
     len: u64,
     t: &mut Touched,
 ) -> Result<Value, LibAnswer>
-    ensures tells { (io : Io) → HasCell m.now first.prov → HasCell m.now second.prov → Tells value_seen result m.now io t.old t.new (memcmp m.now.rows first.addr first.prov second.addr second.prov len) }
+    ensures tells { (io : Io) → HasCell m.now first.prov → HasCell m.now second.prov →
+        Tells value_seen result m.now io t.old t.new (memcmp m.now.rows first.addr first.prov second.addr second.prov len) }
     ensures passed { IfOk result IsPassed }
 {
     let a = check(m, first, len, t)?;

@@ -28,7 +28,8 @@ pub fn length(
     t: &mut Touched,
 ) -> Result<Value, LibAnswer>
     requires { t.old ≡ [] }
-    ensures exact { (io : Io) (who : Event) → IsCall Strlen (values_seen args.now) m.old io → Answers (answer_in result) t.new (store_of m.new io) (called m.new.rows Strlen (values_seen args.now) who (store_of m.old io)) }
+    ensures exact { (io : Io) (who : Event) → IsCall Strlen (values_seen args.now) m.old io →
+        Answers (answer_in result) t.new (store_of m.new io) (called m.new.rows Strlen (values_seen args.now) who (store_of m.old io)) }
     ensures known { AreKnown m.old → AreKnown m.new }
     ensures same { OnErr result (m.new ≡ m.old) }
     ensures kept { Keeps m.old m.new }
@@ -61,7 +62,8 @@ pub fn copy_string(
     t: &mut Touched,
 ) -> Result<Value, LibAnswer>
     requires { t.old ≡ [] }
-    ensures exact { (io : Io) (who : Event) → IsCall Strcpy (values_seen args.now) m.old io → Answers (answer_in result) t.new (store_of m.new io) (called m.new.rows Strcpy (values_seen args.now) who (store_of m.old io)) }
+    ensures exact { (io : Io) (who : Event) → IsCall Strcpy (values_seen args.now) m.old io →
+        Answers (answer_in result) t.new (store_of m.new io) (called m.new.rows Strcpy (values_seen args.now) who (store_of m.old io)) }
     ensures known { AreKnown m.old → AreKnown m.new }
     ensures same { OnErr result (m.new ≡ m.old) }
     ensures kept { Keeps m.old m.new }
@@ -87,7 +89,9 @@ fn string_to_copy(
     from: Pointer,
     t: &mut Touched,
 ) -> Result<StringCopy, LibAnswer>
-    ensures follows { (io : Io) → HasCell m.now to.prov → HasCell m.now from.prov → Follows false (λ copy. (copy.numbers.items, accessed_if m.now copy.target)) result m.now io t.old t.new (string_to_copy m.now.rows to.addr to.prov from.addr from.prov) }
+    ensures follows { (io : Io) → HasCell m.now to.prov → HasCell m.now from.prov → Follows false
+        (λ copy. (copy.numbers.items, accessed_if m.now copy.target)) result m.now io t.old t.new
+        (string_to_copy m.now.rows to.addr to.prov from.addr from.prov) }
     ensures place { IfOk result (λ copy. IfSome copy.target (IsPlace m.now to.addr)) }
     ensures len { IfOk result (λ copy. FillsRange (length copy.numbers.items) copy.target) }
 {
@@ -107,7 +111,8 @@ pub fn compare_strings(
     t: &mut Touched,
 ) -> Result<Value, LibAnswer>
     requires { t.old ≡ [] }
-    ensures exact { (io : Io) (who : Event) → IsCall Strcmp (values_seen args.now) m.old io → Answers (answer_in result) t.new (store_of m.new io) (called m.new.rows Strcmp (values_seen args.now) who (store_of m.old io)) }
+    ensures exact { (io : Io) (who : Event) → IsCall Strcmp (values_seen args.now) m.old io →
+        Answers (answer_in result) t.new (store_of m.new io) (called m.new.rows Strcmp (values_seen args.now) who (store_of m.old io)) }
     ensures known { AreKnown m.old → AreKnown m.new }
     ensures same { OnErr result (m.new ≡ m.old) }
     ensures kept { Keeps m.old m.new }
@@ -123,7 +128,8 @@ fn order_of_strings(
     second: Pointer,
     t: &mut Touched,
 ) -> Result<Value, LibAnswer>
-    ensures follows { (io : Io) → HasCell m.now first.prov → HasCell m.now second.prov → Follows false value_seen result m.now io t.old t.new (strcmp m.now.rows first.addr first.prov second.addr second.prov) }
+    ensures follows { (io : Io) → HasCell m.now first.prov → HasCell m.now second.prov →
+        Follows false value_seen result m.now io t.old t.new (strcmp m.now.rows first.addr first.prov second.addr second.prov) }
     ensures passed { IfOk result IsPassed }
 {
     let a = check_string(m, first, t)?;
@@ -141,7 +147,8 @@ pub fn find_byte(
     t: &mut Touched,
 ) -> Result<Value, LibAnswer>
     requires { t.old ≡ [] }
-    ensures exact { (io : Io) (who : Event) → IsCall Strchr (values_seen args.now) m.old io → Answers (answer_in result) t.new (store_of m.new io) (called m.new.rows Strchr (values_seen args.now) who (store_of m.old io)) }
+    ensures exact { (io : Io) (who : Event) → IsCall Strchr (values_seen args.now) m.old io →
+        Answers (answer_in result) t.new (store_of m.new io) (called m.new.rows Strchr (values_seen args.now) who (store_of m.old io)) }
     ensures known { AreKnown m.old → AreKnown m.new }
     ensures same { OnErr result (m.new ≡ m.old) }
     ensures kept { Keeps m.old m.new }
@@ -157,7 +164,8 @@ fn place_in_string(
     number: i128,
     t: &mut Touched,
 ) -> Result<Value, LibAnswer>
-    ensures follows { (io : Io) → HasCell m.now text.prov → Follows false value_seen result m.now io t.old t.new (strchr m.now.rows text.addr text.prov number) }
+    ensures follows { (io : Io) → HasCell m.now text.prov →
+        Follows false value_seen result m.now io t.old t.new (strchr m.now.rows text.addr text.prov number) }
     ensures passed { IfOk result IsPassed }
 {
     let range = check_string(m, text, t)?;

@@ -1,7 +1,9 @@
 // The directives of a format (7.21.6.1p4 to p9).
 ghost use Rattle.std.specs.Prelude.{◌≡◌, ◌==◌, ◌&&◌, ◌||◌, not, ◌+◌, ◌-◌, ◌*◌, min, take, drop, length, if◌then◌else◌, option_map, ◌≤◌, IfSome};
 ghost use Rattle.std.specs.List.{list_any, take_while};
-ghost use Rattle.libc_spec.specs.Directives.{most, is_flag, is_digit, flags_in, number_from, count_of_digits, width_of, precision_behind, precision_of, begins, length_of, directive_of, form_if, has_flag, is_floating, form_of_text, form, is_plain, is_absent, is_l, is_big_l, left_out};
+ghost use Rattle.libc_spec.specs.Directives.{most, is_flag, is_digit, flags_in, number_from, count_of_digits, width_of, precision_behind, precision_of, begins};
+ghost use Rattle.libc_spec.specs.Directives.{length_of, directive_of, form_if, has_flag, is_floating, form_of_text, form, is_plain, is_absent, is_l, is_big_l};
+ghost use Rattle.libc_spec.specs.Directives.{left_out};
 ghost use Rattle.libc_print.specs.Seen.{flags_seen, count_seen, length_seen, piece, directive_seen, form_seen};
 
 /// A number above this counts as this (own).
@@ -297,7 +299,8 @@ impl Directive {
     }
 
     fn form_of_floating(self) -> Form
-        ensures { form_seen result ≡ form_if (is_floating self.conversion && (is_plain (length_seen self.length) || (is_l (length_seen self.length) || is_big_l (length_seen self.length)))) left_out }
+        ensures { form_seen result ≡ form_if (is_floating self.conversion &&
+            (is_plain (length_seen self.length) || (is_l (length_seen self.length) || is_big_l (length_seen self.length)))) left_out }
     {
         let may_be_floating = matches!(
             self.length,

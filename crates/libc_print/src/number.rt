@@ -1,8 +1,10 @@
 // The texts of conversions (7.21.6.1p4 to p8).
 
 ghost use Rattle.std.specs.Prelude.{◌≡◌, reverse, ◌<◌, ◌≤◌, ◌+◌, ◌^◌, ◌++◌, ◌∷◌, [], ◌==◌, min, unsigned_abs, replicate, IfOk, OnOk, if◌then◌else◌};
-ghost use Rattle.libc_spec.specs.Print.{digit, base_of, field, padded, own_size, whole_size, sign, hex_prefix, zeros_before, integer_field, is_signed_conversion, spaced, bare};
-ghost use Rattle.libc_print.specs.Seen.{flags_seen, base_number, is_upper, digits_of, parts_with, integer_parts_of, address_parts_of, parts_seen, field_seen, width_seen};
+ghost use Rattle.libc_spec.specs.Print.{digit, base_of, field, padded, own_size, whole_size, sign, hex_prefix, zeros_before, integer_field};
+ghost use Rattle.libc_spec.specs.Print.{is_signed_conversion, spaced, bare};
+ghost use Rattle.libc_print.specs.Seen.{flags_seen, base_number, is_upper, digits_of, parts_with, integer_parts_of, address_parts_of, parts_seen, field_seen};
+ghost use Rattle.libc_print.specs.Seen.{width_seen};
 ghost use Rattle.libc_print.specs.Answers.{PutsBytes};
 
 use crate::directive::{Flags, MOST};
@@ -214,7 +216,8 @@ fn hex_prefix(flags: Flags, conversion: u8, magnitude: u128) -> &'static [u8]
 }
 
 fn prefix_of(flags: Flags, conversion: u8, number: i128) -> &'static [u8]
-    ensures { result.now ≡ (if is_signed_conversion conversion then sign (flags_seen flags) number else hex_prefix (flags_seen flags) conversion (unsigned_abs number)) }
+    ensures { result.now ≡ (if is_signed_conversion conversion then sign (flags_seen flags) number else hex_prefix (flags_seen flags) conversion
+        (unsigned_abs number)) }
 {
     if is_signed(conversion) {
         sign_of(number < 0, flags)
@@ -253,7 +256,8 @@ pub fn put_integer(
     precision: Option<u64>,
     number: i128,
 ) -> Result<(), Refusal>
-    ensures { PutsBytes result out.old.items out.new.items (field (integer_parts_of (flags_seen flags) conversion precision number) (integer_field (flags_seen flags) (width_seen width) precision)) }
+    ensures { PutsBytes result out.old.items out.new.items (field (integer_parts_of (flags_seen flags) conversion precision number)
+        (integer_field (flags_seen flags) (width_seen width) precision)) }
 {
     let digits = digits(alloc, number.unsigned_abs(), Base::of(conversion))?;
     let digits = digits.as_slice();
@@ -270,7 +274,8 @@ fn put_digits(
     number: i128,
     digits: &[u8],
 ) -> Result<(), Refusal>
-    ensures { PutsBytes result out.old.items out.new.items (field (parts_with (flags_seen flags) conversion precision number digits.now) (integer_field (flags_seen flags) (width_seen width) precision)) }
+    ensures { PutsBytes result out.old.items out.new.items (field (parts_with (flags_seen flags) conversion precision number digits.now)
+        (integer_field (flags_seen flags) (width_seen width) precision)) }
 {
     let parts = Parts {
         prefix: prefix_of(flags, conversion, number),

@@ -41,7 +41,8 @@ pub fn format(
     io: &mut Streams,
     t: &mut Touched,
 ) -> LibAnswer
-    ensures exact { AreWithin io.old → HaveCells m.old (values_seen args.now) → Answers result t.new (store_of m.new io.new) (printed_by m.new.rows (argument_at (values_seen args.now) 0) (drop 1 (typed args.now types.now)) (store_of m.old io.old)) }
+    ensures exact { AreWithin io.old → HaveCells m.old (values_seen args.now) → Answers result t.new (store_of m.new io.new)
+        (printed_by m.new.rows (argument_at (values_seen args.now) 0) (drop 1 (typed args.now types.now)) (store_of m.old io.old)) }
     ensures known { AreKnown m.old → AreKnown m.new }
     ensures same { gives_value result ≡ false → (m.new ≡ m.old) × (io.new ≡ io.old) }
     ensures within { AreWithin io.old → AreWithin io.new }
@@ -80,7 +81,9 @@ pub fn printed(
     t: &mut Touched,
 ) -> Result<Value, LibAnswer>
     requires { t.old ≡ [] }
-    ensures exact { AreWithin io.old → HaveCells m.old (values_seen args.now) → Answers (answer_in result) t.new (store_of m.new io.new) (limited (run m.new.rows (print_to to m.new.rows (argument_at (values_seen args.now) at) (drop first (typed args.now types.now))) (store_of m.old io.old))) }
+    ensures exact { AreWithin io.old → HaveCells m.old (values_seen args.now) → Answers (answer_in result) t.new (store_of m.new io.new)
+        (limited (run m.new.rows (print_to to m.new.rows (argument_at (values_seen args.now) at) (drop first (typed args.now types.now)))
+        (store_of m.old io.old))) }
     ensures known { AreKnown m.old → AreKnown m.new }
     ensures same { OnErr result ((m.new ≡ m.old) × (io.new ≡ io.old)) }
     ensures within { AreWithin io.old → AreWithin io.new }
@@ -100,7 +103,8 @@ fn put_out(
     io: &mut Streams,
     t: &mut Touched,
 ) -> Result<Value, LibAnswer>
-    ensures exact { (script : List Row → Script (List ℕ)) → AreWithin io.old → Gives false (List ℕ) m.old io.old [] t.old (script m.old.rows) bytes.now → Answers (answer_in result) t.new (store_of m.new io.new) (limited (run m.new.rows (printing to (script m.new.rows)) (store_of m.old io.old))) }
+    ensures exact { (script : List Row → Script (List ℕ)) → AreWithin io.old → Gives false (List ℕ) m.old io.old [] t.old (script m.old.rows) bytes.now →
+        Answers (answer_in result) t.new (store_of m.new io.new) (limited (run m.new.rows (printing to (script m.new.rows)) (store_of m.old io.old))) }
     ensures known { AreKnown m.old → AreKnown m.new }
     ensures same { OnErr result ((m.new ≡ m.old) × (io.new ≡ io.old)) }
     ensures within { AreWithin io.old → AreWithin io.new }
@@ -125,7 +129,8 @@ pub fn printed_text(
     m: &Memory,
     t: &mut Touched,
 ) -> Result<Vec<u8>, LibAnswer>
-    ensures { (io : Io) → HasCell m.now pointer.prov → HaveCells m.now (values_seen args.now) → Prints (λ v. v.items) result m.now io t.old t.new (printed_text m.now.rows pointer.addr pointer.prov (drop first (typed args.now types.now))) }
+    ensures { (io : Io) → HasCell m.now pointer.prov → HaveCells m.now (values_seen args.now) →
+        Prints (λ v. v.items) result m.now io t.old t.new (printed_text m.now.rows pointer.addr pointer.prov (drop first (typed args.now types.now))) }
 {
     let range = check_string(m, pointer, t)?;
     let mut format = numbers(alloc, m, range, t)?;
@@ -143,7 +148,8 @@ fn text_of(
     m: &Memory,
     t: &mut Touched,
 ) -> Result<Vec<u8>, LibAnswer>
-    ensures { (io : Io) → HaveCells m.now (values_seen values.now) → Prints (λ v. v.items) result m.now io t.old t.new (text_of (suc (length format.now)) m.now.rows 0 format.now (drop first (typed values.now types.now))) }
+    ensures { (io : Io) → HaveCells m.now (values_seen values.now) → Prints (λ v. v.items) result m.now io t.old t.new
+        (text_of (suc (length format.now)) m.now.rows 0 format.now (drop first (typed values.now types.now))) }
 {
     let mut args = Arguments {
         values,
@@ -175,7 +181,8 @@ fn put_next(
     m: &Memory,
     t: &mut Touched,
 ) -> Result<usize, LibAnswer>
-    ensures exact { (io : Io) → HaveCells m.now (values_seen args.old.values.now) → Adds (step_bytes (left args.new)) result m.now io t.old t.new out.old.items out.new.items (step m.now.rows byte cs.now at (left args.old)) }
+    ensures exact { (io : Io) → HaveCells m.now (values_seen args.old.values.now) →
+        Adds (step_bytes (left args.new)) result m.now io t.old t.new out.old.items out.new.items (step m.now.rows byte cs.now at (left args.old)) }
     ensures len { IfOk result (λ n. n ≤ length cs.now) }
     ensures values { args.new.values ≡ args.old.values }
 {
@@ -218,7 +225,9 @@ fn put_directive(
     m: &Memory,
     t: &mut Touched,
 ) -> Result<(), LibAnswer>
-    ensures exact { (io : Io) → HaveCells m.now (values_seen args.old.values.now) → Adds (directive_bytes (left args.new)) result m.now io t.old t.new out.old.items out.new.items (put m.now.rows (directive_seen directive) (left args.old)) }
+    ensures exact { (io : Io) → HaveCells m.now (values_seen args.old.values.now) →
+        Adds (directive_bytes (left args.new)) result m.now io t.old t.new out.old.items out.new.items
+        (put m.now.rows (directive_seen directive) (left args.old)) }
     ensures values { args.new.values ≡ args.old.values }
 {
     if is_pointed(directive.conversion) {
@@ -258,7 +267,8 @@ fn put_value(
     args: &mut Arguments<'_>,
 ) -> Result<(), Refusal>
     requires { is_pointed directive.conversion ≡ false }
-    ensures exact { (rows : List Row) → Puts result out.old.items out.new.items (left args.new) (put_sized rows (directive_seen directive) (width_seen width) precision (left args.old)) }
+    ensures exact { (rows : List Row) → Puts result out.old.items out.new.items (left args.new)
+        (put_sized rows (directive_seen directive) (width_seen width) precision (left args.old)) }
     ensures values { args.new.values ≡ args.old.values }
 {
     if directive.conversion == b'c' {
@@ -291,7 +301,8 @@ fn put_number(
     precision: Option<u64>,
     args: &mut Arguments<'_>,
 ) -> Result<(), Refusal>
-    ensures exact { Puts result out.old.items out.new.items (left args.new) (put_integer (directive_seen directive) (width_seen width) precision (left args.old)) }
+    ensures exact { Puts result out.old.items out.new.items (left args.new)
+        (put_integer (directive_seen directive) (width_seen width) precision (left args.old)) }
     ensures values { args.new.values ≡ args.old.values }
 {
     let conversion = directive.conversion;
@@ -319,7 +330,9 @@ fn put_pointed(
     t: &mut Touched,
 ) -> Result<(), LibAnswer>
     requires { is_pointed directive.conversion ≡ true }
-    ensures exact { (io : Io) → HaveCells m.now (values_seen args.old.values.now) → Adds (directive_bytes (left args.new)) result m.now io t.old t.new out.old.items out.new.items (put m.now.rows (directive_seen directive) (left args.old)) }
+    ensures exact { (io : Io) → HaveCells m.now (values_seen args.old.values.now) →
+        Adds (directive_bytes (left args.new)) result m.now io t.old t.new out.old.items out.new.items
+        (put m.now.rows (directive_seen directive) (left args.old)) }
     ensures values { args.new.values ≡ args.old.values }
 {
     let width = take_width(directive.width, args)?;
@@ -341,7 +354,9 @@ fn put_string(
     m: &Memory,
     t: &mut Touched,
 ) -> Result<(), LibAnswer>
-    ensures exact { (io : Io) → HaveCells m.now (values_seen args.old.values.now) → Adds (directive_bytes (left args.new)) result m.now io t.old t.new out.old.items out.new.items (put_string m.now.rows (directive_seen directive) (width_seen width) precision (left args.old)) }
+    ensures exact { (io : Io) → HaveCells m.now (values_seen args.old.values.now) → Adds (directive_bytes
+        (left args.new)) result m.now io t.old t.new out.old.items out.new.items
+        (put_string m.now.rows (directive_seen directive) (width_seen width) precision (left args.old)) }
     ensures values { args.new.values ≡ args.old.values }
 {
     let pointer = take_pointer(false, args)?;
@@ -358,7 +373,8 @@ fn put_pointer(
     args: &mut Arguments<'_>,
     t: &mut Touched,
 ) -> Result<(), LibAnswer>
-    ensures exact { (m : Kept) (io : Io) → Adds (directive_bytes (left args.new)) result m io t.old t.new out.old.items out.new.items (put_address (directive_seen directive) (width_seen width) (left args.old)) }
+    ensures exact { (m : Kept) (io : Io) → Adds (directive_bytes (left args.new)) result m io t.old t.new out.old.items out.new.items
+        (put_address (directive_seen directive) (width_seen width) (left args.old)) }
     ensures values { args.new.values ≡ args.old.values }
 {
     let pointer = take_pointer(true, args)?;

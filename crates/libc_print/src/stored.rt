@@ -41,7 +41,8 @@ fn room(most: Option<u64>, len: u64) -> u64
 
 // Where so many bytes are stored; none where it is none.
 fn array(m: &Memory, to: Pointer, len: u64, t: &mut Touched) -> Result<Option<Range>, LibAnswer>
-    ensures follows { (io : Io) → HasCell m.now to.prov → Follows true (accessed_if m.now) result m.now io t.old t.new (array m.now.rows len (pointer_seen to)) }
+    ensures follows { (io : Io) → HasCell m.now to.prov →
+        Follows true (accessed_if m.now) result m.now io t.old t.new (array m.now.rows len (pointer_seen to)) }
     ensures fills { IfOk result (FillsRange len) }
     ensures place { IfOk result (λ target. IfSome target (IsPlace m.now to.addr)) }
 {
@@ -70,7 +71,9 @@ fn place(
     m: &Memory,
     t: &mut Touched,
 ) -> Result<Placed, LibAnswer>
-    ensures follows { (io : Io) → HasCell m.now to.prov → HasCell m.now format.prov → HaveCells m.now (values_seen args.now) → Prints (placed_seen m.now) result m.now io t.old t.new (placed m.now.rows most (pointer_seen to) (pointer_seen format) (drop first (typed args.now types.now))) }
+    ensures follows { (io : Io) → HasCell m.now to.prov → HasCell m.now format.prov → HaveCells m.now (values_seen args.now) →
+        Prints (placed_seen m.now) result m.now io t.old t.new
+        (placed m.now.rows most (pointer_seen to) (pointer_seen format) (drop first (typed args.now types.now))) }
     ensures fills { IfOk result (λ p. FillsRange (room most (length p.text.items)) p.target) }
     ensures place { IfOk result (λ p. IfSome p.target (IsPlace m.now to.addr)) }
 {
@@ -145,7 +148,9 @@ fn put_in(
 ) -> Result<Value, LibAnswer>
     requires place { IfSome placed.now.target (IsPlace m.old addr) }
     requires fills { FillsRange (room most (length placed.now.text.items)) placed.now.target }
-    ensures exact { (script : List Row → Script formatted.Placed) (io : Io) → AreWithin io → Gives false formatted.Placed m.old io [] t.old (script m.old.rows) (placed_seen m.old placed.now) → Answers (answer_in result) t.new (store_of m.new io) (limited (run m.new.rows (storing most (script m.new.rows)) (store_of m.old io))) }
+    ensures exact { (script : List Row → Script formatted.Placed) (io : Io) → AreWithin io →
+        Gives false formatted.Placed m.old io [] t.old (script m.old.rows) (placed_seen m.old placed.now) →
+        Answers (answer_in result) t.new (store_of m.new io) (limited (run m.new.rows (storing most (script m.new.rows)) (store_of m.old io))) }
     ensures known { AreKnown m.old → AreKnown m.new }
     ensures same { OnErr result (m.new ≡ m.old) }
     ensures kept { Keeps m.old m.new }
@@ -170,7 +175,9 @@ fn stored(
     t: &mut Touched,
 ) -> Result<Value, LibAnswer>
     requires { t.old ≡ [] }
-    ensures exact { (io : Io) → AreWithin io → HaveCells m.old (values_seen args.now) → Answers (answer_in result) t.new (store_of m.new io) (stored_by m.new.rows most (argument_at (values_seen args.now) 0) (argument_at (values_seen args.now) at) (drop first (typed args.now types.now)) (store_of m.old io)) }
+    ensures exact { (io : Io) → AreWithin io → HaveCells m.old (values_seen args.now) → Answers (answer_in result) t.new (store_of m.new io)
+        (stored_by m.new.rows most (argument_at (values_seen args.now) 0) (argument_at (values_seen args.now) at) (drop first (typed args.now types.now))
+        (store_of m.old io)) }
     ensures known { AreKnown m.old → AreKnown m.new }
     ensures same { OnErr result (m.new ≡ m.old) }
     ensures kept { Keeps m.old m.new }
@@ -199,7 +206,9 @@ pub fn format_into(
     m: &mut Memory,
     t: &mut Touched,
 ) -> LibAnswer
-    ensures exact { (io : Io) → AreWithin io → HaveCells m.old (values_seen args.now) → Answers result t.new (store_of m.new io) (stored_by m.new.rows None (argument_at (values_seen args.now) 0) (argument_at (values_seen args.now) 1) (drop 2 (typed args.now types.now)) (store_of m.old io)) }
+    ensures exact { (io : Io) → AreWithin io → HaveCells m.old (values_seen args.now) → Answers result t.new (store_of m.new io)
+        (stored_by m.new.rows None (argument_at (values_seen args.now) 0) (argument_at (values_seen args.now) 1) (drop 2 (typed args.now types.now))
+        (store_of m.old io)) }
     ensures known { AreKnown m.old → AreKnown m.new }
     ensures same { gives_value result ≡ false → m.new ≡ m.old }
     ensures kept { Keeps m.old m.new }
@@ -221,7 +230,9 @@ pub fn format_within(
     m: &mut Memory,
     t: &mut Touched,
 ) -> LibAnswer
-    ensures exact { (io : Io) → AreWithin io → IsTrue (is_size (integer_in (argument_at (values_seen args.now) 1))) → HaveCells m.old (values_seen args.now) → Answers result t.new (store_of m.new io) (stored_by m.new.rows (Some (size_of_value (argument_at (values_seen args.now) 1))) (argument_at (values_seen args.now) 0) (argument_at (values_seen args.now) 2) (drop 3 (typed args.now types.now)) (store_of m.old io)) }
+    ensures exact { (io : Io) → AreWithin io → IsTrue (is_size (integer_in (argument_at (values_seen args.now) 1))) → HaveCells m.old (values_seen args.now) →
+        Answers result t.new (store_of m.new io) (stored_by m.new.rows (Some (size_of_value (argument_at (values_seen args.now) 1)))
+        (argument_at (values_seen args.now) 0) (argument_at (values_seen args.now) 2) (drop 3 (typed args.now types.now)) (store_of m.old io)) }
     ensures known { AreKnown m.old → AreKnown m.new }
     ensures same { gives_value result ≡ false → m.new ≡ m.old }
     ensures kept { Keeps m.old m.new }

@@ -36,7 +36,9 @@ pub fn format_to(
     io: &mut Streams,
     t: &mut Touched,
 ) -> LibAnswer
-    ensures exact { AreWithin io.old → HaveCells m.old (values_seen args.now) → Answers result t.new (store_of m.new io.new) (printed_to_by m.new.rows (integer_in (argument_at (values_seen args.now) 0)) (argument_at (values_seen args.now) 1) (drop 2 (typed args.now types.now)) (store_of m.old io.old)) }
+    ensures exact { AreWithin io.old → HaveCells m.old (values_seen args.now) → Answers result t.new (store_of m.new io.new)
+        (printed_to_by m.new.rows (integer_in (argument_at (values_seen args.now) 0)) (argument_at (values_seen args.now) 1)
+        (drop 2 (typed args.now types.now)) (store_of m.old io.old)) }
     ensures known { AreKnown m.old → AreKnown m.new }
     ensures same { gives_value result ≡ false → (m.new ≡ m.old) × (io.new ≡ io.old) }
     ensures within { AreWithin io.old → AreWithin io.new }
@@ -75,7 +77,8 @@ fn written(
     t: &mut Touched,
 ) -> Result<Value, LibAnswer>
     requires { t.old ≡ [] }
-    ensures exact { AreWithin io.old → HaveCells m.old (values_seen args.now) → Answers (answer_in result) t.new (store_of m.new io.new) (printed_to_by m.new.rows stream (argument_at (values_seen args.now) 1) (drop 2 (typed args.now types.now)) (store_of m.old io.old)) }
+    ensures exact { AreWithin io.old → HaveCells m.old (values_seen args.now) → Answers (answer_in result) t.new (store_of m.new io.new)
+        (printed_to_by m.new.rows stream (argument_at (values_seen args.now) 1) (drop 2 (typed args.now types.now)) (store_of m.old io.old)) }
     ensures known { AreKnown m.old → AreKnown m.new }
     ensures same { OnErr result ((m.new ≡ m.old) × (io.new ≡ io.old)) }
     ensures within { AreWithin io.old → AreWithin io.new }
@@ -110,7 +113,8 @@ pub fn short_text(
     m: &Memory,
     t: &mut Touched,
 ) -> Result<Vec<u8>, LibAnswer>
-    ensures { (io : Io) → HasCell m.now pointer.prov → HaveCells m.now (values_seen args.now) → Prints (λ v. v.items) result m.now io t.old t.new (short_text m.now.rows pointer.addr pointer.prov (drop first (typed args.now types.now))) }
+    ensures { (io : Io) → HasCell m.now pointer.prov → HaveCells m.now (values_seen args.now) →
+        Prints (λ v. v.items) result m.now io t.old t.new (short_text m.now.rows pointer.addr pointer.prov (drop first (typed args.now types.now))) }
 {
     let text = printed_text(alloc, pointer, args, types, first, m, t)?;
     check_short(text.as_slice().len() as u64)?;

@@ -24,7 +24,8 @@ pub fn string_of(
     m: &Memory,
     t: &mut Touched,
 ) -> Result<Vec<u8>, LibAnswer>
-    ensures { (io : Io) → HasCell m.now pointer.prov → Follows false (λ v. v.items) result m.now io t.old t.new (string_bytes m.now.rows (pointer_seen pointer) precision) }
+    ensures { (io : Io) → HasCell m.now pointer.prov → Follows false (λ v. v.items) result m.now io t.old t.new
+        (string_bytes m.now.rows (pointer_seen pointer) precision) }
 {
     match precision {
         None => whole_string(alloc, pointer, m, t),
@@ -38,7 +39,8 @@ fn whole_string(
     m: &Memory,
     t: &mut Touched,
 ) -> Result<Vec<u8>, LibAnswer>
-    ensures { (io : Io) → HasCell m.now pointer.prov → Follows false (λ v. v.items) result m.now io t.old t.new (string_bytes m.now.rows (pointer_seen pointer) None) }
+    ensures { (io : Io) → HasCell m.now pointer.prov → Follows false (λ v. v.items) result m.now io t.old t.new
+        (string_bytes m.now.rows (pointer_seen pointer) None) }
 {
     let range = check_string(m, pointer, t)?;
     let mut text = numbers(alloc, m, range, t)?;
@@ -53,7 +55,8 @@ fn bounded_string(
     m: &Memory,
     t: &mut Touched,
 ) -> Result<Vec<u8>, LibAnswer>
-    ensures { (io : Io) → HasCell m.now pointer.prov → Follows false (λ v. v.items) result m.now io t.old t.new (string_bytes m.now.rows (pointer_seen pointer) (Some most)) }
+    ensures { (io : Io) → HasCell m.now pointer.prov → Follows false (λ v. v.items) result m.now io t.old t.new
+        (string_bytes m.now.rows (pointer_seen pointer) (Some most)) }
 {
     let Some(range) = bounded_range(m, pointer, most, t)? else {
         return Ok(Vec::new(alloc));
@@ -85,7 +88,8 @@ fn bounded_range(
     most: u64,
     t: &mut Touched,
 ) -> Result<Option<Range>, LibAnswer>
-    ensures follows { (io : Io) → HasCell m.now pointer.prov → Follows false (bytes_if m.now) result m.now io t.old t.new (bounded_text m.now.rows most pointer.addr pointer.prov) }
+    ensures follows { (io : Io) → HasCell m.now pointer.prov →
+        Follows false (bytes_if m.now) result m.now io t.old t.new (bounded_text m.now.rows most pointer.addr pointer.prov) }
     ensures short { IfOk result (λ range. IfSome range IsShort) }
 {
     let Some(first) = check(m, pointer, most.min(1), t)? else {

@@ -2,7 +2,8 @@
 ghost use Rattle.std.specs.Prelude.{◌≡◌, ◌∷◌, [], false, min, unsigned_abs, IfOk, IfErr};
 ghost use Rattle.ub_base.specs.declared.clause.Clause.TheVariants.{TooFewArguments};
 ghost use Rattle.c_types.specs.Types.{type_of, pointer};
-ghost use Rattle.libc_spec.specs.Print.{next_int, next_integer, next_pointer, width_taken, precision_taken, not_negative, signed_kind, converted, same_kind, fits_kind, is_target};
+ghost use Rattle.libc_spec.specs.Print.{next_int, next_integer, next_pointer, width_taken, precision_taken, not_negative, signed_kind, converted, same_kind};
+ghost use Rattle.libc_spec.specs.Print.{fits_kind, is_target};
 ghost use Rattle.libc_spec.specs.Directives.{most};
 ghost use Rattle.prov_memory.specs.Memory.{Kept, HasCell};
 ghost use Rattle.libc_model.specs.Answers.{HaveCells};

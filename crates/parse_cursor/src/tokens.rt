@@ -210,7 +210,8 @@ pub fn specifier_words(
     place: Place,
 ) -> Result<Items<Word>, Refusal>
     ensures reads { Reads (steps.words (allowed_in place) tokens.old) result tokens.new }
-    ensures ok { IfOk result (λ words. rules.Words (allowed_in place) words tokens.old tokens.new × (steps.allows (allowed_in place) (kind tokens.new) ≡ false)) }
+    ensures ok { IfOk result (λ words. rules.Words (allowed_in place) words tokens.old tokens.new
+        × (steps.allows (allowed_in place) (kind tokens.new) ≡ false)) }
 {
     let mut found = Items::new(alloc);
     for _turn in 0..tokens.turns() {
@@ -231,7 +232,8 @@ pub fn specifier_words(
 /// The qualifiers behind a star (6.7.6).
 pub fn qualifiers(alloc: Global, tokens: &mut Cursor<'_>) -> Result<Items<Word>, Refusal>
     ensures reads { Reads (steps.words rules.is_qualifier tokens.old) result tokens.new }
-    ensures ok { IfOk result (λ words. rules.Words rules.is_qualifier words tokens.old tokens.new × (steps.allows rules.is_qualifier (kind tokens.new) ≡ false)) }
+    ensures ok { IfOk result (λ words. rules.Words rules.is_qualifier words tokens.old tokens.new
+        × (steps.allows rules.is_qualifier (kind tokens.new) ≡ false)) }
 {
     let mut found = Items::new(alloc);
     for _turn in 0..tokens.turns() {

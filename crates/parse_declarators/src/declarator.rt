@@ -109,7 +109,8 @@ impl<
     fn parameter(&self, tokens: &mut Cursor<'_>) -> Result<Param, Refusal>
         requires declarator { NestsDeclarator self.now.depth (G.pre self.now.declarator) (G.post self.now.declarator) }
         requires specs { NestsSpecs self.now.depth (H.pre self.now.specs) (H.post self.now.specs) }
-        ensures { Reads (spec.one_parameter (nested.expr self.now.depth) (nested.declarator self.now.depth) (nested.specs self.now.depth) tokens.old) result tokens.new }
+        ensures { Reads (spec.one_parameter (nested.expr self.now.depth) (nested.declarator self.now.depth)
+            (nested.specs self.now.depth) tokens.old) result tokens.new }
     {
         let specs = self.specs(tokens, Place::Declaration)?;
         let (specs, declarator) = with(specs, self.parameter_declarator(tokens))?;
@@ -120,7 +121,8 @@ impl<
     fn parameter_list(&self, tokens: &mut Cursor<'_>) -> Result<(Items<Param>, bool), Refusal>
         requires declarator { NestsDeclarator self.now.depth (G.pre self.now.declarator) (G.post self.now.declarator) }
         requires specs { NestsSpecs self.now.depth (H.pre self.now.specs) (H.post self.now.specs) }
-        ensures { Reads (spec.parameters_from (nested.expr self.now.depth) (nested.declarator self.now.depth) (nested.specs self.now.depth) (turns tokens.old) [] tokens.old) result tokens.new }
+        ensures { Reads (spec.parameters_from (nested.expr self.now.depth) (nested.declarator self.now.depth) (nested.specs self.now.depth)
+            (turns tokens.old) [] tokens.old) result tokens.new }
     {
         let mut found = Items::new(self.alloc);
         for _turn in 0..tokens.turns() {
@@ -139,7 +141,8 @@ impl<
     fn parameters(&self, tokens: &mut Cursor<'_>) -> Result<(Items<Param>, bool), Refusal>
         requires declarator { NestsDeclarator self.now.depth (G.pre self.now.declarator) (G.post self.now.declarator) }
         requires specs { NestsSpecs self.now.depth (H.pre self.now.specs) (H.post self.now.specs) }
-        ensures { Reads (spec.parameters (nested.expr self.now.depth) (nested.declarator self.now.depth) (nested.specs self.now.depth) tokens.old) result tokens.new }
+        ensures { Reads (spec.parameters (nested.expr self.now.depth) (nested.declarator self.now.depth)
+            (nested.specs self.now.depth) tokens.old) result tokens.new }
     {
         if tokens.sees(Mark::CloseParen) {
             Ok((Items::new(self.alloc), false))
@@ -174,7 +177,8 @@ impl<
         inner: Declarator,
     ) -> Result<Declarator, Refusal>
         requires { NestsExpr self.now.depth (F.pre self.now.expr) (F.post self.now.expr) }
-        ensures { Reads (spec.array_suffix (nested.expr self.now.depth) (nested.declarator self.now.depth) (nested.specs self.now.depth) inner tokens.old) result tokens.new }
+        ensures { Reads (spec.array_suffix (nested.expr self.now.depth) (nested.declarator self.now.depth)
+            (nested.specs self.now.depth) inner tokens.old) result tokens.new }
     {
         if tokens.eat(Mark::CloseBracket) {
             Ok(make::array(self.alloc, inner)?)
@@ -187,7 +191,8 @@ impl<
     fn prototype(&self, tokens: &mut Cursor<'_>, own: bool) -> Result<(Items<Param>, bool), Refusal>
         requires declarator { NestsDeclarator self.now.depth (G.pre self.now.declarator) (G.post self.now.declarator) }
         requires specs { NestsSpecs self.now.depth (H.pre self.now.specs) (H.post self.now.specs) }
-        ensures { Reads (parts.closed_prototype own (spec.parameters (nested.expr self.now.depth) (nested.declarator self.now.depth) (nested.specs self.now.depth)) tokens.old) result tokens.new }
+        ensures { Reads (parts.closed_prototype own (spec.parameters (nested.expr self.now.depth) (nested.declarator self.now.depth)
+            (nested.specs self.now.depth)) tokens.old) result tokens.new }
     {
         let outer = tokens.open();
         let saved = tokens.take_prototype(self.alloc);
@@ -205,7 +210,8 @@ impl<
     ) -> Result<Declarator, Refusal>
         requires declarator { NestsDeclarator self.now.depth (G.pre self.now.declarator) (G.post self.now.declarator) }
         requires specs { NestsSpecs self.now.depth (H.pre self.now.specs) (H.post self.now.specs) }
-        ensures { Reads (spec.function_suffix (nested.expr self.now.depth) (nested.declarator self.now.depth) (nested.specs self.now.depth) inner tokens.old) result tokens.new }
+        ensures { Reads (spec.function_suffix (nested.expr self.now.depth) (nested.declarator self.now.depth)
+            (nested.specs self.now.depth) inner tokens.old) result tokens.new }
     {
         let own = is_own_name(&inner);
         let (inner, (params, ellipsis)) = with(inner, self.prototype(tokens, own))?;
@@ -217,7 +223,8 @@ impl<
         requires expr { NestsExpr self.now.depth (F.pre self.now.expr) (F.post self.now.expr) }
         requires declarator { NestsDeclarator self.now.depth (G.pre self.now.declarator) (G.post self.now.declarator) }
         requires specs { NestsSpecs self.now.depth (H.pre self.now.specs) (H.post self.now.specs) }
-        ensures { Reads (spec.one_suffix (nested.expr self.now.depth) (nested.declarator self.now.depth) (nested.specs self.now.depth) inner tokens.old) result tokens.new }
+        ensures { Reads (spec.one_suffix (nested.expr self.now.depth) (nested.declarator self.now.depth)
+            (nested.specs self.now.depth) inner tokens.old) result tokens.new }
     {
         if tokens.eat(Mark::OpenBracket) {
             self.array_suffix(tokens, inner)
@@ -235,7 +242,8 @@ impl<
         requires expr { NestsExpr self.now.depth (F.pre self.now.expr) (F.post self.now.expr) }
         requires declarator { NestsDeclarator self.now.depth (G.pre self.now.declarator) (G.post self.now.declarator) }
         requires specs { NestsSpecs self.now.depth (H.pre self.now.specs) (H.post self.now.specs) }
-        ensures { Reads (spec.suffixes (nested.expr self.now.depth) (nested.declarator self.now.depth) (nested.specs self.now.depth) inner tokens.old) result tokens.new }
+        ensures { Reads (spec.suffixes (nested.expr self.now.depth) (nested.declarator self.now.depth)
+            (nested.specs self.now.depth) inner tokens.old) result tokens.new }
     {
         for _turn in 0..tokens.turns() {
             if !is_suffix(tokens.peek()) {
@@ -250,7 +258,8 @@ impl<
     #[tactic(auto, unfolding(parse_spec::specs::Declarators::nested))]
     fn nested(&self, tokens: &mut Cursor<'_>, mode: Mode) -> Result<Declarator, Refusal>
         requires { NestsDeclarator self.now.depth (G.pre self.now.declarator) (G.post self.now.declarator) }
-        ensures { Reads (spec.nested (nested.expr self.now.depth) (nested.declarator self.now.depth) (nested.specs self.now.depth) (mode_of mode) tokens.old) result tokens.new }
+        ensures { Reads (spec.nested (nested.expr self.now.depth) (nested.declarator self.now.depth) (nested.specs self.now.depth)
+            (mode_of mode) tokens.old) result tokens.new }
     {
         let inner = self.declarator(tokens, mode);
         before(tokens, inner, Mark::CloseParen)
@@ -259,7 +268,8 @@ impl<
     #[tactic(auto, unfolding(parse_spec::specs::Declarators::innermost))]
     fn base(&self, tokens: &mut Cursor<'_>, mode: Mode) -> Result<Declarator, Refusal>
         requires { NestsDeclarator self.now.depth (G.pre self.now.declarator) (G.post self.now.declarator) }
-        ensures { Reads (spec.innermost (nested.expr self.now.depth) (nested.declarator self.now.depth) (nested.specs self.now.depth) (mode_of mode) tokens.old) result tokens.new }
+        ensures { Reads (spec.innermost (nested.expr self.now.depth) (nested.declarator self.now.depth) (nested.specs self.now.depth)
+            (mode_of mode) tokens.old) result tokens.new }
     {
         match tokens.peek() {
             Some(TokenKind::Name) => name(mode, tokens),
@@ -278,7 +288,8 @@ impl<
     #[tactic(auto, unfolding(parse_spec::specs::Declarators::pointed))]
     fn pointed(&self, tokens: &mut Cursor<'_>, mode: Mode) -> Result<Declarator, Refusal>
         requires { NestsDeclarator self.now.depth (G.pre self.now.declarator) (G.post self.now.declarator) }
-        ensures { Reads (spec.pointed (nested.expr self.now.depth) (nested.declarator self.now.depth) (nested.specs self.now.depth) (mode_of mode) tokens.old) result tokens.new }
+        ensures { Reads (spec.pointed (nested.expr self.now.depth) (nested.declarator self.now.depth) (nested.specs self.now.depth)
+            (mode_of mode) tokens.old) result tokens.new }
     {
         let words = qualifiers(self.alloc, tokens)?;
         let (words, inner) = with(words, self.declarator(tokens, mode))?;
@@ -290,7 +301,8 @@ impl<
         requires expr { NestsExpr self.now.depth (F.pre self.now.expr) (F.post self.now.expr) }
         requires declarator { NestsDeclarator self.now.depth (G.pre self.now.declarator) (G.post self.now.declarator) }
         requires specs { NestsSpecs self.now.depth (H.pre self.now.specs) (H.post self.now.specs) }
-        ensures { Reads (spec.one_declarator (nested.expr self.now.depth) (nested.declarator self.now.depth) (nested.specs self.now.depth) (mode_of mode) tokens.old) result tokens.new }
+        ensures { Reads (spec.one_declarator (nested.expr self.now.depth) (nested.declarator self.now.depth) (nested.specs self.now.depth)
+            (mode_of mode) tokens.old) result tokens.new }
     {
         if tokens.eat(Mark::Star) {
             self.pointed(tokens, mode)

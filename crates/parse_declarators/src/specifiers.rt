@@ -90,7 +90,8 @@ impl<
     #[tactic(auto, unfolding(parse_spec::specs::Specifiers::assertion))]
     pub fn assertion(&self, tokens: &mut Cursor<'_>) -> Result<(Expr, u32), Refusal>
         requires { NestsExpr self.now.depth (F.pre self.now.expr) (F.post self.now.expr) }
-        ensures { Reads (spec.assertion (nested.expr self.now.depth) (nested.declarator self.now.depth) (nested.specs self.now.depth) tokens.old) result tokens.new }
+        ensures { Reads (spec.assertion (nested.expr self.now.depth) (nested.declarator self.now.depth)
+            (nested.specs self.now.depth) tokens.old) result tokens.new }
     {
         let condition = self.condition(tokens)?;
         with(condition, message(tokens))
@@ -98,7 +99,8 @@ impl<
 
     fn member_assertion(&self, tokens: &mut Cursor<'_>) -> Result<MemberEntry, Refusal>
         requires { NestsExpr self.now.depth (F.pre self.now.expr) (F.post self.now.expr) }
-        ensures { Reads (parts.member_assertion (spec.assertion (nested.expr self.now.depth) (nested.declarator self.now.depth) (nested.specs self.now.depth)) tokens.old) result tokens.new }
+        ensures { Reads (parts.member_assertion (spec.assertion (nested.expr self.now.depth) (nested.declarator self.now.depth)
+            (nested.specs self.now.depth)) tokens.old) result tokens.new }
     {
         let (condition, message) = self.assertion(tokens)?;
         Ok(MemberEntry::Assertion(condition, message))
@@ -106,7 +108,8 @@ impl<
 
     fn member_names(&self, tokens: &mut Cursor<'_>) -> Result<Items<Declarator>, Refusal>
         requires { NestsDeclarator self.now.depth (G.pre self.now.declarator) (G.post self.now.declarator) }
-        ensures { Reads (spec.names_from (nested.expr self.now.depth) (nested.declarator self.now.depth) (nested.specs self.now.depth) (turns tokens.old) [] tokens.old) result tokens.new }
+        ensures { Reads (spec.names_from (nested.expr self.now.depth) (nested.declarator self.now.depth) (nested.specs self.now.depth)
+            (turns tokens.old) [] tokens.old) result tokens.new }
     {
         let mut found = Items::new(self.alloc);
         for _turn in 0..tokens.turns() {
@@ -122,7 +125,8 @@ impl<
     #[tactic(auto, unfolding(parse_spec::specs::Specifiers::member_names))]
     fn maybe_names(&self, tokens: &mut Cursor<'_>) -> Result<Items<Declarator>, Refusal>
         requires { NestsDeclarator self.now.depth (G.pre self.now.declarator) (G.post self.now.declarator) }
-        ensures { Reads (spec.member_names (nested.expr self.now.depth) (nested.declarator self.now.depth) (nested.specs self.now.depth) tokens.old) result tokens.new }
+        ensures { Reads (spec.member_names (nested.expr self.now.depth) (nested.declarator self.now.depth)
+            (nested.specs self.now.depth) tokens.old) result tokens.new }
     {
         if tokens.eat(Mark::Semicolon) {
             return Ok(Items::new(self.alloc));
@@ -134,7 +138,8 @@ impl<
     fn fields(&self, tokens: &mut Cursor<'_>) -> Result<MemberEntry, Refusal>
         requires declarator { NestsDeclarator self.now.depth (G.pre self.now.declarator) (G.post self.now.declarator) }
         requires specs { NestsSpecs self.now.depth (H.pre self.now.specs) (H.post self.now.specs) }
-        ensures { Reads (parts.fields (nested.specs self.now.depth) (spec.member_names (nested.expr self.now.depth) (nested.declarator self.now.depth) (nested.specs self.now.depth)) tokens.old) result tokens.new }
+        ensures { Reads (parts.fields (nested.specs self.now.depth) (spec.member_names (nested.expr self.now.depth) (nested.declarator self.now.depth)
+            (nested.specs self.now.depth)) tokens.old) result tokens.new }
     {
         let specs = self.specs(tokens, Place::Qualified)?;
         let (specs, names) = with(specs, self.maybe_names(tokens))?;
@@ -146,7 +151,8 @@ impl<
         requires expr { NestsExpr self.now.depth (F.pre self.now.expr) (F.post self.now.expr) }
         requires declarator { NestsDeclarator self.now.depth (G.pre self.now.declarator) (G.post self.now.declarator) }
         requires specs { NestsSpecs self.now.depth (H.pre self.now.specs) (H.post self.now.specs) }
-        ensures { Reads (spec.one_member (nested.expr self.now.depth) (nested.declarator self.now.depth) (nested.specs self.now.depth) tokens.old) result tokens.new }
+        ensures { Reads (spec.one_member (nested.expr self.now.depth) (nested.declarator self.now.depth)
+            (nested.specs self.now.depth) tokens.old) result tokens.new }
     {
         if tokens.sees_word(Word::StaticAssert) {
             self.member_assertion(tokens)
@@ -160,7 +166,8 @@ impl<
         requires expr { NestsExpr self.now.depth (F.pre self.now.expr) (F.post self.now.expr) }
         requires declarator { NestsDeclarator self.now.depth (G.pre self.now.declarator) (G.post self.now.declarator) }
         requires specs { NestsSpecs self.now.depth (H.pre self.now.specs) (H.post self.now.specs) }
-        ensures { Reads (spec.members_from (nested.expr self.now.depth) (nested.declarator self.now.depth) (nested.specs self.now.depth) (turns tokens.old) [] tokens.old) result tokens.new }
+        ensures { Reads (spec.members_from (nested.expr self.now.depth) (nested.declarator self.now.depth) (nested.specs self.now.depth)
+            (turns tokens.old) [] tokens.old) result tokens.new }
     {
         let mut found = Items::new(self.alloc);
         for _turn in 0..tokens.turns() {
@@ -178,7 +185,8 @@ impl<
         requires expr { NestsExpr self.now.depth (F.pre self.now.expr) (F.post self.now.expr) }
         requires declarator { NestsDeclarator self.now.depth (G.pre self.now.declarator) (G.post self.now.declarator) }
         requires specs { NestsSpecs self.now.depth (H.pre self.now.specs) (H.post self.now.specs) }
-        ensures { Reads (spec.tagged (nested.expr self.now.depth) (nested.declarator self.now.depth) (nested.specs self.now.depth) union tokens.old) result tokens.new }
+        ensures { Reads (spec.tagged (nested.expr self.now.depth) (nested.declarator self.now.depth)
+            (nested.specs self.now.depth) union tokens.old) result tokens.new }
     {
         let tag = maybe_identifier(tokens);
         if tokens.eat(Mark::OpenBrace) {
@@ -205,7 +213,8 @@ impl<
     #[tactic(auto, unfolding(parse_spec::specs::Specifiers::enumerator_value))]
     fn enumerator_value(&self, tokens: &mut Cursor<'_>) -> Result<Option<Expr>, Refusal>
         requires { NestsExpr self.now.depth (F.pre self.now.expr) (F.post self.now.expr) }
-        ensures { Reads (spec.enumerator_value (nested.expr self.now.depth) (nested.declarator self.now.depth) (nested.specs self.now.depth) tokens.old) result tokens.new }
+        ensures { Reads (spec.enumerator_value (nested.expr self.now.depth) (nested.declarator self.now.depth)
+            (nested.specs self.now.depth) tokens.old) result tokens.new }
     {
         if tokens.eat(Mark::Equal) {
             Ok(Some(self.expr(tokens, CONDITIONAL)?))
@@ -218,7 +227,8 @@ impl<
     #[tactic(auto, unfolding(parse_spec::specs::Specifiers::one_enumerator))]
     fn enumerator(&self, tokens: &mut Cursor<'_>) -> Result<Enumerator, Refusal>
         requires { NestsExpr self.now.depth (F.pre self.now.expr) (F.post self.now.expr) }
-        ensures { Reads (spec.one_enumerator (nested.expr self.now.depth) (nested.declarator self.now.depth) (nested.specs self.now.depth) tokens.old) result tokens.new }
+        ensures { Reads (spec.one_enumerator (nested.expr self.now.depth) (nested.declarator self.now.depth)
+            (nested.specs self.now.depth) tokens.old) result tokens.new }
     {
         let name = identifier(tokens)?;
         let value = self.enumerator_value(tokens)?;
@@ -229,7 +239,8 @@ impl<
     /// After the opening brace: at least one, and the closing brace.
     fn enumerators(&self, tokens: &mut Cursor<'_>) -> Result<Items<Enumerator>, Refusal>
         requires { NestsExpr self.now.depth (F.pre self.now.expr) (F.post self.now.expr) }
-        ensures { Reads (spec.enumerators_from (nested.expr self.now.depth) (nested.declarator self.now.depth) (nested.specs self.now.depth) (turns tokens.old) [] tokens.old) result tokens.new }
+        ensures { Reads (spec.enumerators_from (nested.expr self.now.depth) (nested.declarator self.now.depth) (nested.specs self.now.depth)
+            (turns tokens.old) [] tokens.old) result tokens.new }
     {
         let mut found = Items::new(self.alloc);
         for _turn in 0..tokens.turns() {
@@ -248,7 +259,8 @@ impl<
     #[tactic(auto, unfolding(parse_spec::specs::Specifiers::enumerated))]
     fn enumerated(&self, tokens: &mut Cursor<'_>) -> Result<Base, Refusal>
         requires { NestsExpr self.now.depth (F.pre self.now.expr) (F.post self.now.expr) }
-        ensures { Reads (spec.enumerated (nested.expr self.now.depth) (nested.declarator self.now.depth) (nested.specs self.now.depth) tokens.old) result tokens.new }
+        ensures { Reads (spec.enumerated (nested.expr self.now.depth) (nested.declarator self.now.depth)
+            (nested.specs self.now.depth) tokens.old) result tokens.new }
     {
         let tag = maybe_identifier(tokens);
         if tokens.eat(Mark::OpenBrace) {
@@ -270,7 +282,8 @@ impl<
         requires expr { NestsExpr self.now.depth (F.pre self.now.expr) (F.post self.now.expr) }
         requires declarator { NestsDeclarator self.now.depth (G.pre self.now.declarator) (G.post self.now.declarator) }
         requires specs { NestsSpecs self.now.depth (H.pre self.now.specs) (H.post self.now.specs) }
-        ensures { Reads (spec.specifier_base (nested.expr self.now.depth) (nested.declarator self.now.depth) (nested.specs self.now.depth) typed tokens.old) result tokens.new }
+        ensures { Reads (spec.specifier_base (nested.expr self.now.depth) (nested.declarator self.now.depth)
+            (nested.specs self.now.depth) typed tokens.old) result tokens.new }
     {
         match tokens.peek() {
             Some(TokenKind::Keyword(Word::Struct)) => {
@@ -303,7 +316,8 @@ impl<
         requires expr { NestsExpr self.now.depth (F.pre self.now.expr) (F.post self.now.expr) }
         requires declarator { NestsDeclarator self.now.depth (G.pre self.now.declarator) (G.post self.now.declarator) }
         requires specs { NestsSpecs self.now.depth (H.pre self.now.specs) (H.post self.now.specs) }
-        ensures { Reads (spec.specifiers (nested.expr self.now.depth) (nested.declarator self.now.depth) (nested.specs self.now.depth) (allowed_in place) tokens.old) result tokens.new }
+        ensures { Reads (spec.specifiers (nested.expr self.now.depth) (nested.declarator self.now.depth) (nested.specs self.now.depth)
+            (allowed_in place) tokens.old) result tokens.new }
     {
         let first = tokens.at();
         let words = specifier_words(self.alloc, tokens, place)?;

@@ -92,7 +92,8 @@ impl<
     #[tactic(auto, unfolding(parse_spec::specs::Expressions::inside))]
     fn inside(&self, tokens: &mut Cursor<'_>) -> Result<Expr, Refusal>
         requires { NestsExpr self.now.depth (F.pre self.now.expr) (F.post self.now.expr) }
-        ensures { Reads (spec.inside (nested.expr self.now.depth) (nested.declarator self.now.depth) (nested.specs self.now.depth) tokens.old) result tokens.new }
+        ensures { Reads (spec.inside (nested.expr self.now.depth) (nested.declarator self.now.depth)
+            (nested.specs self.now.depth) tokens.old) result tokens.new }
     {
         let inner = self.expr(tokens, COMMA);
         before(tokens, inner, Mark::CloseParen)
@@ -101,7 +102,8 @@ impl<
     #[tactic(auto, unfolding(parse_spec::specs::Expressions::primary))]
     fn primary(&self, tokens: &mut Cursor<'_>) -> Result<Expr, Refusal>
         requires { NestsExpr self.now.depth (F.pre self.now.expr) (F.post self.now.expr) }
-        ensures { Reads (spec.primary (nested.expr self.now.depth) (nested.declarator self.now.depth) (nested.specs self.now.depth) tokens.old) result tokens.new }
+        ensures { Reads (spec.primary (nested.expr self.now.depth) (nested.declarator self.now.depth)
+            (nested.specs self.now.depth) tokens.old) result tokens.new }
     {
         let at = tokens.at();
         match tokens.peek() {
@@ -119,7 +121,8 @@ impl<
 
     fn argument_list(&self, tokens: &mut Cursor<'_>) -> Result<Items<Expr>, Refusal>
         requires { NestsExpr self.now.depth (F.pre self.now.expr) (F.post self.now.expr) }
-        ensures { Reads (spec.argument_list (nested.expr self.now.depth) (nested.declarator self.now.depth) (nested.specs self.now.depth) tokens.old) result tokens.new }
+        ensures { Reads (spec.argument_list (nested.expr self.now.depth) (nested.declarator self.now.depth)
+            (nested.specs self.now.depth) tokens.old) result tokens.new }
     {
         let mut found = Items::new(self.alloc);
         for _turn in 0..tokens.turns() {
@@ -134,7 +137,8 @@ impl<
     #[tactic(auto, unfolding(parse_spec::specs::Expressions::arguments))]
     fn arguments(&self, tokens: &mut Cursor<'_>) -> Result<Items<Expr>, Refusal>
         requires { NestsExpr self.now.depth (F.pre self.now.expr) (F.post self.now.expr) }
-        ensures { Reads (spec.arguments (nested.expr self.now.depth) (nested.declarator self.now.depth) (nested.specs self.now.depth) tokens.old) result tokens.new }
+        ensures { Reads (spec.arguments (nested.expr self.now.depth) (nested.declarator self.now.depth)
+            (nested.specs self.now.depth) tokens.old) result tokens.new }
     {
         if tokens.eat(Mark::CloseParen) {
             return Ok(Items::new(self.alloc));
@@ -146,7 +150,8 @@ impl<
     /// After the opening parenthesis of a call.
     fn call_of(&self, tokens: &mut Cursor<'_>, at: u32, left: Expr) -> Result<Expr, Refusal>
         requires { NestsExpr self.now.depth (F.pre self.now.expr) (F.post self.now.expr) }
-        ensures { Reads (spec.post_by (nested.expr self.now.depth) (nested.declarator self.now.depth) (nested.specs self.now.depth) at left (Some Mark.OpenParen) tokens.old) result tokens.new }
+        ensures { Reads (spec.post_by (nested.expr self.now.depth) (nested.declarator self.now.depth) (nested.specs self.now.depth) at left
+            (Some Mark.OpenParen) tokens.old) result tokens.new }
     {
         let (left, found) = with(left, self.arguments(tokens))?;
         Ok(make::call(self.alloc, at, left, found)?)
@@ -156,7 +161,8 @@ impl<
     #[tactic(auto, unfolding(parse_spec::specs::Expressions::subscript))]
     fn subscript(&self, tokens: &mut Cursor<'_>) -> Result<Expr, Refusal>
         requires { NestsExpr self.now.depth (F.pre self.now.expr) (F.post self.now.expr) }
-        ensures { Reads (spec.subscript (nested.expr self.now.depth) (nested.declarator self.now.depth) (nested.specs self.now.depth) tokens.old) result tokens.new }
+        ensures { Reads (spec.subscript (nested.expr self.now.depth) (nested.declarator self.now.depth)
+            (nested.specs self.now.depth) tokens.old) result tokens.new }
     {
         let inner = self.expr(tokens, COMMA);
         before(tokens, inner, Mark::CloseBracket)
@@ -164,7 +170,8 @@ impl<
 
     fn index_of(&self, tokens: &mut Cursor<'_>, at: u32, left: Expr) -> Result<Expr, Refusal>
         requires { NestsExpr self.now.depth (F.pre self.now.expr) (F.post self.now.expr) }
-        ensures { Reads (spec.post_by (nested.expr self.now.depth) (nested.declarator self.now.depth) (nested.specs self.now.depth) at left (Some Mark.OpenBracket) tokens.old) result tokens.new }
+        ensures { Reads (spec.post_by (nested.expr self.now.depth) (nested.declarator self.now.depth) (nested.specs self.now.depth) at left
+            (Some Mark.OpenBracket) tokens.old) result tokens.new }
     {
         let (left, inner) = with(left, self.subscript(tokens))?;
         Ok(make::index(self.alloc, at, left, inner)?)
@@ -172,7 +179,8 @@ impl<
 
     /// After the dot.
     fn dot_of(&self, tokens: &mut Cursor<'_>, at: u32, left: Expr) -> Result<Expr, Refusal>
-        ensures { Reads (spec.post_by (nested.expr self.now.depth) (nested.declarator self.now.depth) (nested.specs self.now.depth) at left (Some Mark.Dot) tokens.old) result tokens.new }
+        ensures { Reads (spec.post_by (nested.expr self.now.depth) (nested.declarator self.now.depth) (nested.specs self.now.depth) at left
+            (Some Mark.Dot) tokens.old) result tokens.new }
     {
         let (left, member) = with(left, identifier(tokens))?;
         Ok(make::dot(self.alloc, at, left, member)?)
@@ -180,7 +188,8 @@ impl<
 
     /// After the arrow.
     fn arrow_of(&self, tokens: &mut Cursor<'_>, at: u32, left: Expr) -> Result<Expr, Refusal>
-        ensures { Reads (spec.post_by (nested.expr self.now.depth) (nested.declarator self.now.depth) (nested.specs self.now.depth) at left (Some Mark.Arrow) tokens.old) result tokens.new }
+        ensures { Reads (spec.post_by (nested.expr self.now.depth) (nested.declarator self.now.depth) (nested.specs self.now.depth) at left
+            (Some Mark.Arrow) tokens.old) result tokens.new }
     {
         let (left, member) = with(left, identifier(tokens))?;
         Ok(make::arrow(self.alloc, at, left, member)?)
@@ -197,7 +206,8 @@ impl<
     #[tactic(auto, unfolding(parse_spec::specs::Expressions::post))]
     fn post(&self, tokens: &mut Cursor<'_>, at: u32, left: Expr) -> Result<Expr, Refusal>
         requires { NestsExpr self.now.depth (F.pre self.now.expr) (F.post self.now.expr) }
-        ensures { Reads (spec.post (nested.expr self.now.depth) (nested.declarator self.now.depth) (nested.specs self.now.depth) at left tokens.old) result tokens.new }
+        ensures { Reads (spec.post (nested.expr self.now.depth) (nested.declarator self.now.depth)
+            (nested.specs self.now.depth) at left tokens.old) result tokens.new }
     {
         let mark = tokens.mark();
         tokens.take();
@@ -213,7 +223,8 @@ impl<
 
     fn posts(&self, tokens: &mut Cursor<'_>, at: u32, mut left: Expr) -> Result<Expr, Refusal>
         requires { NestsExpr self.now.depth (F.pre self.now.expr) (F.post self.now.expr) }
-        ensures { Reads (spec.posts (nested.expr self.now.depth) (nested.declarator self.now.depth) (nested.specs self.now.depth) at left tokens.old) result tokens.new }
+        ensures { Reads (spec.posts (nested.expr self.now.depth) (nested.declarator self.now.depth)
+            (nested.specs self.now.depth) at left tokens.old) result tokens.new }
     {
         for _turn in 0..tokens.turns() {
             if tokens.tight() <= POSTFIX {
@@ -229,7 +240,8 @@ impl<
     fn type_name(&self, tokens: &mut Cursor<'_>) -> Result<TypeName, Refusal>
         requires declarator { NestsDeclarator self.now.depth (G.pre self.now.declarator) (G.post self.now.declarator) }
         requires specs { NestsSpecs self.now.depth (H.pre self.now.specs) (H.post self.now.specs) }
-        ensures { Reads (spec.type_name (nested.expr self.now.depth) (nested.declarator self.now.depth) (nested.specs self.now.depth) tokens.old) result tokens.new }
+        ensures { Reads (spec.type_name (nested.expr self.now.depth) (nested.declarator self.now.depth)
+            (nested.specs self.now.depth) tokens.old) result tokens.new }
     {
         tokens.expect(Mark::OpenParen)?;
         let specs = self.specs(tokens, Place::Qualified)?;
@@ -243,7 +255,8 @@ impl<
         requires expr { NestsExpr self.now.depth (F.pre self.now.expr) (F.post self.now.expr) }
         requires declarator { NestsDeclarator self.now.depth (G.pre self.now.declarator) (G.post self.now.declarator) }
         requires specs { NestsSpecs self.now.depth (H.pre self.now.specs) (H.post self.now.specs) }
-        ensures { Reads (spec.casted (nested.expr self.now.depth) (nested.declarator self.now.depth) (nested.specs self.now.depth) at tokens.old) result tokens.new }
+        ensures { Reads (spec.casted (nested.expr self.now.depth) (nested.declarator self.now.depth)
+            (nested.specs self.now.depth) at tokens.old) result tokens.new }
     {
         let to = self.type_name(tokens)?;
         let (to, value) = with(to, self.expr(tokens, CAST))?;
@@ -256,7 +269,8 @@ impl<
         requires expr { NestsExpr self.now.depth (F.pre self.now.expr) (F.post self.now.expr) }
         requires declarator { NestsDeclarator self.now.depth (G.pre self.now.declarator) (G.post self.now.declarator) }
         requires specs { NestsSpecs self.now.depth (H.pre self.now.specs) (H.post self.now.specs) }
-        ensures { Reads (spec.size (nested.expr self.now.depth) (nested.declarator self.now.depth) (nested.specs self.now.depth) at tokens.old) result tokens.new }
+        ensures { Reads (spec.size (nested.expr self.now.depth) (nested.declarator self.now.depth)
+            (nested.specs self.now.depth) at tokens.old) result tokens.new }
     {
         if begins_cast(tokens) {
             let of = self.type_name(tokens)?;
@@ -270,7 +284,8 @@ impl<
     #[tactic(auto, unfolding(parse_spec::specs::Expressions::chained))]
     fn chained(&self, tokens: &mut Cursor<'_>, at: u32) -> Result<Expr, Refusal>
         requires { NestsExpr self.now.depth (F.pre self.now.expr) (F.post self.now.expr) }
-        ensures { Reads (spec.chained (nested.expr self.now.depth) (nested.declarator self.now.depth) (nested.specs self.now.depth) at tokens.old) result tokens.new }
+        ensures { Reads (spec.chained (nested.expr self.now.depth) (nested.declarator self.now.depth)
+            (nested.specs self.now.depth) at tokens.old) result tokens.new }
     {
         let first = self.primary(tokens)?;
         self.posts(tokens, at, first)
@@ -281,7 +296,8 @@ impl<
     fn alignment(&self, tokens: &mut Cursor<'_>, at: u32) -> Result<Expr, Refusal>
         requires declarator { NestsDeclarator self.now.depth (G.pre self.now.declarator) (G.post self.now.declarator) }
         requires specs { NestsSpecs self.now.depth (H.pre self.now.specs) (H.post self.now.specs) }
-        ensures { Reads (spec.alignment (nested.expr self.now.depth) (nested.declarator self.now.depth) (nested.specs self.now.depth) at tokens.old) result tokens.new }
+        ensures { Reads (spec.alignment (nested.expr self.now.depth) (nested.declarator self.now.depth)
+            (nested.specs self.now.depth) at tokens.old) result tokens.new }
     {
         let of = self.type_name(tokens)?;
         Ok(make::alignof_type(self.alloc, at, of)?)
@@ -293,7 +309,8 @@ impl<
         requires expr { NestsExpr self.now.depth (F.pre self.now.expr) (F.post self.now.expr) }
         requires declarator { NestsDeclarator self.now.depth (G.pre self.now.declarator) (G.post self.now.declarator) }
         requires specs { NestsSpecs self.now.depth (H.pre self.now.specs) (H.post self.now.specs) }
-        ensures { Reads (spec.bracketed (nested.expr self.now.depth) (nested.declarator self.now.depth) (nested.specs self.now.depth) at least tokens.old) result tokens.new }
+        ensures { Reads (spec.bracketed (nested.expr self.now.depth) (nested.declarator self.now.depth)
+            (nested.specs self.now.depth) at least tokens.old) result tokens.new }
     {
         if !begins_type_after(tokens) {
             return self.chained(tokens, at);
@@ -308,7 +325,8 @@ impl<
     #[tactic(auto, unfolding(parse_spec::specs::Expressions::operated))]
     fn operated(&self, tokens: &mut Cursor<'_>, at: u32, op: UnaryOp) -> Result<Expr, Refusal>
         requires { NestsExpr self.now.depth (F.pre self.now.expr) (F.post self.now.expr) }
-        ensures { Reads (spec.operated (nested.expr self.now.depth) (nested.declarator self.now.depth) (nested.specs self.now.depth) at op tokens.old) result tokens.new }
+        ensures { Reads (spec.operated (nested.expr self.now.depth) (nested.declarator self.now.depth)
+            (nested.specs self.now.depth) at op tokens.old) result tokens.new }
     {
         tokens.take();
         let operand = self.expr(tokens, operand_level(op))?;
@@ -327,7 +345,8 @@ impl<
         requires expr { NestsExpr self.now.depth (F.pre self.now.expr) (F.post self.now.expr) }
         requires declarator { NestsDeclarator self.now.depth (G.pre self.now.declarator) (G.post self.now.declarator) }
         requires specs { NestsSpecs self.now.depth (H.pre self.now.specs) (H.post self.now.specs) }
-        ensures { Reads (spec.prefix_by (nested.expr self.now.depth) (nested.declarator self.now.depth) (nested.specs self.now.depth) at least (Some (token.Punct mark)) tokens.old) result tokens.new }
+        ensures { Reads (spec.prefix_by (nested.expr self.now.depth) (nested.declarator self.now.depth) (nested.specs self.now.depth) at least
+            (Some (token.Punct mark)) tokens.old) result tokens.new }
     {
         match mark {
             Mark::OpenParen => self.bracketed(tokens, at, least),
@@ -344,7 +363,8 @@ impl<
         requires expr { NestsExpr self.now.depth (F.pre self.now.expr) (F.post self.now.expr) }
         requires declarator { NestsDeclarator self.now.depth (G.pre self.now.declarator) (G.post self.now.declarator) }
         requires specs { NestsSpecs self.now.depth (H.pre self.now.specs) (H.post self.now.specs) }
-        ensures { Reads (spec.prefix (nested.expr self.now.depth) (nested.declarator self.now.depth) (nested.specs self.now.depth) least tokens.old) result tokens.new }
+        ensures { Reads (spec.prefix (nested.expr self.now.depth) (nested.declarator self.now.depth)
+            (nested.specs self.now.depth) least tokens.old) result tokens.new }
     {
         let at = tokens.at();
         match tokens.peek() {
@@ -381,7 +401,8 @@ impl<
     #[tactic(auto, unfolding(parse_spec::specs::Expressions::choice))]
     fn choice(&self, tokens: &mut Cursor<'_>, at: u32, test: Expr) -> Result<Expr, Refusal>
         requires { NestsExpr self.now.depth (F.pre self.now.expr) (F.post self.now.expr) }
-        ensures { Reads (spec.choice (nested.expr self.now.depth) (nested.declarator self.now.depth) (nested.specs self.now.depth) at test tokens.old) result tokens.new }
+        ensures { Reads (spec.choice (nested.expr self.now.depth) (nested.declarator self.now.depth)
+            (nested.specs self.now.depth) at test tokens.old) result tokens.new }
     {
         let (test, (yes, no)) = with(test, self.branches(tokens))?;
         Ok(make::cond(self.alloc, at, test, yes, no)?)
@@ -396,7 +417,8 @@ impl<
         left: Expr,
     ) -> Result<Expr, Refusal>
         requires { NestsExpr self.now.depth (F.pre self.now.expr) (F.post self.now.expr) }
-        ensures { Reads (spec.assigned_by (nested.expr self.now.depth) (nested.declarator self.now.depth) (nested.specs self.now.depth) at left (Some op) tokens.old) result tokens.new }
+        ensures { Reads (spec.assigned_by (nested.expr self.now.depth) (nested.declarator self.now.depth) (nested.specs self.now.depth) at left
+            (Some op) tokens.old) result tokens.new }
     {
         tokens.take();
         let (left, value) = with(left, self.expr(tokens, ASSIGNMENT))?;
@@ -413,7 +435,8 @@ impl<
         left: Expr,
     ) -> Result<Expr, Refusal>
         requires { NestsExpr self.now.depth (F.pre self.now.expr) (F.post self.now.expr) }
-        ensures { Reads (spec.assigned (nested.expr self.now.depth) (nested.declarator self.now.depth) (nested.specs self.now.depth) at lone left tokens.old) result tokens.new }
+        ensures { Reads (spec.assigned (nested.expr self.now.depth) (nested.declarator self.now.depth)
+            (nested.specs self.now.depth) at lone left tokens.old) result tokens.new }
     {
         match assignment_sign(tokens, lone) {
             Some(op) => self.assign_of(tokens, at, op, left),
@@ -430,7 +453,8 @@ impl<
         left: Expr,
     ) -> Result<Expr, Refusal>
         requires { NestsExpr self.now.depth (F.pre self.now.expr) (F.post self.now.expr) }
-        ensures { Reads (spec.joined_by (nested.expr self.now.depth) (nested.declarator self.now.depth) (nested.specs self.now.depth) at true left (Some op) tokens.old) result tokens.new }
+        ensures { Reads (spec.joined_by (nested.expr self.now.depth) (nested.declarator self.now.depth) (nested.specs self.now.depth) at true left
+            (Some op) tokens.old) result tokens.new }
     {
         tokens.take();
         let (left, right) = with(left, self.expr(tokens, right_level_of(op)))?;
@@ -447,7 +471,8 @@ impl<
         left: Expr,
     ) -> Result<Expr, Refusal>
         requires { NestsExpr self.now.depth (F.pre self.now.expr) (F.post self.now.expr) }
-        ensures { Reads (spec.joined (nested.expr self.now.depth) (nested.declarator self.now.depth) (nested.specs self.now.depth) at lone left tokens.old) result tokens.new }
+        ensures { Reads (spec.joined (nested.expr self.now.depth) (nested.declarator self.now.depth)
+            (nested.specs self.now.depth) at lone left tokens.old) result tokens.new }
     {
         match binary_sign(tokens) {
             Some(op) => self.binary_of(tokens, at, op, left),
@@ -465,7 +490,8 @@ impl<
         left: Expr,
     ) -> Result<Expr, Refusal>
         requires { NestsExpr self.now.depth (F.pre self.now.expr) (F.post self.now.expr) }
-        ensures { Reads (spec.step (nested.expr self.now.depth) (nested.declarator self.now.depth) (nested.specs self.now.depth) at lone left tokens.old) result tokens.new }
+        ensures { Reads (spec.step (nested.expr self.now.depth) (nested.declarator self.now.depth)
+            (nested.specs self.now.depth) at lone left tokens.old) result tokens.new }
     {
         if tokens.eat(Mark::Question) {
             self.choice(tokens, at, left)
@@ -483,7 +509,8 @@ impl<
         mut left: Expr,
     ) -> Result<Expr, Refusal>
         requires { NestsExpr self.now.depth (F.pre self.now.expr) (F.post self.now.expr) }
-        ensures { Reads (spec.climbed (nested.expr self.now.depth) (nested.declarator self.now.depth) (nested.specs self.now.depth) least at lone left tokens.old) result tokens.new }
+        ensures { Reads (spec.climbed (nested.expr self.now.depth) (nested.declarator self.now.depth)
+            (nested.specs self.now.depth) least at lone left tokens.old) result tokens.new }
     {
         for _turn in 0..tokens.turns() {
             if tokens.tight() <= least {
@@ -500,7 +527,8 @@ impl<
         requires expr { NestsExpr self.now.depth (F.pre self.now.expr) (F.post self.now.expr) }
         requires declarator { NestsDeclarator self.now.depth (G.pre self.now.declarator) (G.post self.now.declarator) }
         requires specs { NestsSpecs self.now.depth (H.pre self.now.specs) (H.post self.now.specs) }
-        ensures { Reads (spec.operators (nested.expr self.now.depth) (nested.declarator self.now.depth) (nested.specs self.now.depth) least tokens.old) result tokens.new }
+        ensures { Reads (spec.operators (nested.expr self.now.depth) (nested.declarator self.now.depth)
+            (nested.specs self.now.depth) least tokens.old) result tokens.new }
     {
         let at = tokens.at();
         let lone = !begins_cast(tokens);
@@ -513,7 +541,8 @@ impl<
         requires expr { NestsExpr self.now.depth (F.pre self.now.expr) (F.post self.now.expr) }
         requires declarator { NestsDeclarator self.now.depth (G.pre self.now.declarator) (G.post self.now.declarator) }
         requires specs { NestsSpecs self.now.depth (H.pre self.now.specs) (H.post self.now.specs) }
-        ensures { Reads (spec.commas (nested.expr self.now.depth) (nested.declarator self.now.depth) (nested.specs self.now.depth) at first tokens.old) result tokens.new }
+        ensures { Reads (spec.commas (nested.expr self.now.depth) (nested.declarator self.now.depth)
+            (nested.specs self.now.depth) at first tokens.old) result tokens.new }
     {
         let mut found = pushed(Items::new(self.alloc), Ok(first))?;
         for _turn in 0..tokens.turns() {
@@ -532,7 +561,8 @@ impl<
         requires expr { NestsExpr self.now.depth (F.pre self.now.expr) (F.post self.now.expr) }
         requires declarator { NestsDeclarator self.now.depth (G.pre self.now.declarator) (G.post self.now.declarator) }
         requires specs { NestsSpecs self.now.depth (H.pre self.now.specs) (H.post self.now.specs) }
-        ensures { Reads (spec.whole (nested.expr self.now.depth) (nested.declarator self.now.depth) (nested.specs self.now.depth) tokens.old) result tokens.new }
+        ensures { Reads (spec.whole (nested.expr self.now.depth) (nested.declarator self.now.depth)
+            (nested.specs self.now.depth) tokens.old) result tokens.new }
     {
         let at = tokens.at();
         let first = self.operators(tokens, ASSIGNMENT)?;
@@ -549,7 +579,8 @@ impl<
         requires expr { NestsExpr self.now.depth (F.pre self.now.expr) (F.post self.now.expr) }
         requires declarator { NestsDeclarator self.now.depth (G.pre self.now.declarator) (G.post self.now.declarator) }
         requires specs { NestsSpecs self.now.depth (H.pre self.now.specs) (H.post self.now.specs) }
-        ensures { Reads (spec.level (nested.expr self.now.depth) (nested.declarator self.now.depth) (nested.specs self.now.depth) least tokens.old) result tokens.new }
+        ensures { Reads (spec.level (nested.expr self.now.depth) (nested.declarator self.now.depth)
+            (nested.specs self.now.depth) least tokens.old) result tokens.new }
     {
         if least == COMMA {
             self.whole(tokens)

@@ -196,7 +196,8 @@ impl Objects {
     pub fn write(&mut self, at: usize, from: u64, via: Via, cells: &[Cell])
         requires { FallsIn self.old at from (length cells.now) }
         ensures rows { (rows : List Row) → HaveRows rows self.old → HaveRows rows self.new }
-        ensures written { (h : Held) → slice_get self.old at ≡ Some h → (g : Held) × (self.new ≡ changed (holding g.cells) h.name self.old) × IsWritten h g from via cells.now }
+        ensures written { (h : Held) → slice_get self.old at ≡ Some h → (g : Held) × (self.new ≡ changed (holding g.cells) h.name self.old)
+            × IsWritten h g from via cells.now }
     {
         if at < self.list.len() {
             let object = &mut self.list[at];

@@ -28,7 +28,9 @@ use ub_base::Clause;
 /// The number of the function that a call through this address and type calls: 6.5.3.2p4 where no function that is
 /// defined or of the library stands there, and 6.5.2.2p9 where its type isn't compatible.
 pub fn callee(p: &Program, addr: u64, ty: &FuncTy) -> Result<u32, Clause>
-    ensures { length p.now.functions ≤ 2 ^ 32 → (fs : List Called) → AreFunctions p.now.functions fs → (agree : CType → CType → Bool) → AgreesAsCompatible agree → (rows : List Row) (s : Store) → run rows (checked_call agree (type_by (signature_of ty.now)) (function_of fs 0 addr)) s ≡ act_of result [] s }
+    ensures { length p.now.functions ≤ 2 ^ 32 → (fs : List Called) → AreFunctions p.now.functions fs → (agree : CType → CType → Bool) →
+        AgreesAsCompatible agree → (rows : List Row) (s : Store) →
+        run rows (checked_call agree (type_by (signature_of ty.now)) (function_of fs 0 addr)) s ≡ act_of result [] s }
 {
     let Some(number) = number_at(addr) else {
         return Err(Clause::InvalidPointer);
@@ -51,7 +53,8 @@ fn number_at(addr: u64) -> Option<u32>
 
 // Whether a call of this type may call it.
 fn check_call(function: &Function, ty: &FuncTy) -> Result<(), Clause>
-    ensures { result ≡ call_checks (is_some function.now.body || is_some function.now.library) (compatible_functions (signature_of function.now.ty) (signature_of ty.now)) }
+    ensures { result ≡ call_checks (is_some function.now.body || is_some function.now.library)
+        (compatible_functions (signature_of function.now.ty) (signature_of ty.now)) }
 {
     if function.body.is_none() && function.library.is_none() {
         return Err(Clause::InvalidPointer);
@@ -89,7 +92,8 @@ pub fn answer(left: Value, discarded: bool) -> Result<Value, Clause>
 /// the result type `void`.
 pub fn left(p: &Program, function: u32) -> Value
     ensures main { function ≡ p.now.main → (m : Kept) → value_in m result ≡ Int (pos 0) }
-    ensures other { (f : Typed) → function ≢ p.now.main → slice_get p.now.functions function ≡ Some f → (m : Kept) → value_in m result ≡ left_of (signature_of f.ty).result }
+    ensures other { (f : Typed) → function ≢ p.now.main → slice_get p.now.functions function ≡ Some f → (m : Kept) →
+        value_in m result ≡ left_of (signature_of f.ty).result }
 {
     if function == p.main {
         return Value::Int(0);

@@ -1,5 +1,6 @@
 // The objects that stand before the first pick: those with static storage, string literals, and the arguments of `main`.
-ghost use Rattle.std.specs.Prelude.{◌≡◌, List, pos, ◌+◌, ◌-◌, ◌*◌, ◌%◌, min, max, ◌<◌, ◌≤◌, ◌^◌, ◌++◌, ◌∷◌, [], ℕ, Some, Err, false, length, map, option_map, slice_get, string_bytes, IfOk, OnOk};
+ghost use Rattle.std.specs.Prelude.{◌≡◌, List, pos, ◌+◌, ◌-◌, ◌*◌, ◌%◌, min, max, ◌<◌, ◌≤◌, ◌^◌, ◌++◌, ◌∷◌, [], ℕ, Some, Err, false, length, map, option_map};
+ghost use Rattle.std.specs.Prelude.{slice_get, string_bytes, IfOk, OnOk};
 ghost use Rattle.std.specs.List.{All};
 ghost use Rattle.ub_base.specs.declared.names.ObjName.{ObjName};
 ghost use Rattle.ub_base.specs.declared.names.ObjName.TheVariants as names;
@@ -24,8 +25,10 @@ ghost use Rattle.prov_memory.specs.Sound.{IsSound};
 ghost use Rattle.prov_memory.specs.Tags.{CellsTagged};
 ghost use Rattle.run_acts.specs.Contents.{Stands};
 ghost use Rattle.run_acts.specs.Kept.{IsOf};
-ghost use Rattle.run_acts.specs.Outcomes.{CannotHold, CannotStand, FirstArgument, FirstLiteral, HasNoPlace, IsFilled, IsNew, IsReady, NoVector, SomeStatic, Waits, WaitAll};
-ghost use Rattle.run_acts.specs.Standing.{AreArguments, AreStatics, ArgumentAdded, IsStatic, AllCreated, AllFilled, StaticFilled, StaticsFilled, literals, NamedFilled, program_name, Stand, StartStands, StaticCreated, StaticsCreated, StandsThere};
+ghost use Rattle.run_acts.specs.Outcomes.{CannotHold, CannotStand, FirstArgument, FirstLiteral, HasNoPlace, IsFilled, IsNew, IsReady, NoVector, SomeStatic};
+ghost use Rattle.run_acts.specs.Outcomes.{Waits, WaitAll};
+ghost use Rattle.run_acts.specs.Standing.{AreArguments, AreStatics, ArgumentAdded, IsStatic, AllCreated, AllFilled, StaticFilled, StaticsFilled, literals};
+ghost use Rattle.run_acts.specs.Standing.{NamedFilled, program_name, Stand, StartStands, StaticCreated, StaticsCreated, StandsThere};
 ghost use Rattle.run_objects.specs.Extents.{extent_of, HasForm};
 ghost use Rattle.run_acts.specs.Standing as standing;
 ghost use Rattle.run_acts.specs.Starting.{AreAll, ArePlaced, AreMadeAll, AddsArgument, Creates, EndsLow, Puts};
@@ -63,7 +66,8 @@ impl Places {
 
     /// A pointer into the object with static storage of this number.
     pub fn object(&self, number: u32, offset: u64) -> Pointer
-        ensures { (a : ℕ) → slice_get self.now.objects number ≡ Some a → pointer_at result ≡ record { address = address_after a offset; prov = Whole (names.Static number) } }
+        ensures { (a : ℕ) → slice_get self.now.objects number ≡ Some a →
+            pointer_at result ≡ record { address = address_after a offset; prov = Whole (names.Static number) } }
     {
         match self.objects.get(number as usize) {
             Some(addr) => pointer_to(ObjName::Static(number), *addr, offset),
@@ -73,7 +77,8 @@ impl Places {
 
     /// A pointer into the string literal of this number.
     pub fn literal(&self, number: u32, offset: u64) -> Pointer
-        ensures { (a : ℕ) → slice_get self.now.literals number ≡ Some a → pointer_at result ≡ record { address = address_after a offset; prov = Whole (names.Lit number) } }
+        ensures { (a : ℕ) → slice_get self.now.literals number ≡ Some a →
+            pointer_at result ≡ record { address = address_after a offset; prov = Whole (names.Lit number) } }
     {
         match self.literals.get(number as usize) {
             Some(addr) => pointer_to(ObjName::Lit(number), *addr, offset),
@@ -94,7 +99,8 @@ const NAME: &[u8; 4] = b"prog";
 
 /// The bytes that the objects count which stand before the first pick.
 pub fn start_bytes(p: &Program, args: &[String]) -> u64
-    ensures exact { length args.now + 1 < 2 ^ 32 → (os : List Standing) → Stand p.now (program_name ∷ map string_bytes args.now) os → result ≡ created_after 0 (map (λ o. o.decl) os) }
+    ensures exact { length args.now + 1 < 2 ^ 32 → (os : List Standing) → Stand p.now (program_name ∷ map string_bytes args.now) os →
+        result ≡ created_after 0 (map (λ o. o.decl) os) }
 {
     let named = literal_bytes(p, static_bytes(p));
     if takes_arguments(p) {
@@ -179,11 +185,14 @@ pub fn start(
 ) -> Result<Started, CreateFault>
     ensures kept { IsSound m.old → IsLawful p.now → Keeps m.old m.new }
     ensures placed { IfOk result (λ s. IsSound m.old → IsLawful p.now → ArePlaced m.new p.now s.places) }
-    ensures stands { OnOk result (IsSound m.old → IsLawful p.now → length args.now + 1 < 2 ^ 32 → StartStands m.old m.new p.now (program_name ∷ map string_bytes args.now)) }
+    ensures stands { OnOk result (IsSound m.old → IsLawful p.now → length args.now + 1 < 2 ^ 32 →
+        StartStands m.old m.new p.now (program_name ∷ map string_bytes args.now)) }
     ensures made { IfOk result (λ s. IsSound m.old → IsLawful p.now → IsOf m.new s.count × IsOf m.new s.vector) }
     ensures given { IfOk result (λ s. IsSound m.old → IsLawful p.now → IsGiven m.new p.now (length args.now + 1) s) }
-    ensures unplaced { result ≡ Err Unplaced → IsSound m.old → IsLawful p.now → Above 16777216 m.old.rows → length args.now + 1 < 2 ^ 32 → HasNoPlace m.old m.new p.now (program_name ∷ map string_bytes args.now) }
-    ensures room { result ≡ Err Unplaced → IsSound m.old → IsLawful p.now → IsNew m.old → Above 16777216 m.old.rows → length args.now + 1 < 2 ^ 32 → (os : List Standing) → Stand p.now (program_name ∷ map string_bytes args.now) os → created_after 0 (map (λ o. o.decl) os) ≤ 2 ^ 40 → ⊥ }
+    ensures unplaced { result ≡ Err Unplaced → IsSound m.old → IsLawful p.now → Above 16777216 m.old.rows → length args.now + 1 < 2 ^ 32 →
+        HasNoPlace m.old m.new p.now (program_name ∷ map string_bytes args.now) }
+    ensures room { result ≡ Err Unplaced → IsSound m.old → IsLawful p.now → IsNew m.old → Above 16777216 m.old.rows → length args.now + 1 < 2 ^ 32 →
+        (os : List Standing) → Stand p.now (program_name ∷ map string_bytes args.now) os → created_after 0 (map (λ o. o.decl) os) ≤ 2 ^ 40 → ⊥ }
 {
     let mut t = Touched::new(alloc)?;
     begin(alloc, p, args, m, &mut t)
@@ -198,10 +207,12 @@ fn begin(
 ) -> Result<Started, CreateFault>
     ensures kept { IsSound m.old → IsLawful p.now → Keeps m.old m.new }
     ensures placed { IfOk result (λ s. IsSound m.old → IsLawful p.now → ArePlaced m.new p.now s.places) }
-    ensures stands { OnOk result (IsSound m.old → IsLawful p.now → length args.now + 1 < 2 ^ 32 → StartStands m.old m.new p.now (program_name ∷ map string_bytes args.now)) }
+    ensures stands { OnOk result (IsSound m.old → IsLawful p.now → length args.now + 1 < 2 ^ 32 →
+        StartStands m.old m.new p.now (program_name ∷ map string_bytes args.now)) }
     ensures made { IfOk result (λ s. IsSound m.old → IsLawful p.now → IsOf m.new s.count × IsOf m.new s.vector) }
     ensures given { IfOk result (λ s. IsSound m.old → IsLawful p.now → IsGiven m.new p.now (length args.now + 1) s) }
-    ensures unplaced { result ≡ Err Unplaced → IsSound m.old → IsLawful p.now → Above 16777216 m.old.rows → length args.now + 1 < 2 ^ 32 → HasNoPlace m.old m.new p.now (program_name ∷ map string_bytes args.now) }
+    ensures unplaced { result ≡ Err Unplaced → IsSound m.old → IsLawful p.now → Above 16777216 m.old.rows → length args.now + 1 < 2 ^ 32 →
+        HasNoPlace m.old m.new p.now (program_name ∷ map string_bytes args.now) }
 {
     let mut places = Places::new(alloc);
     create_statics(alloc, p, &mut places, m, t)?;
@@ -246,9 +257,12 @@ fn create_statics(
 ) -> Result<(), CreateFault>
     ensures kept { Keeps m.old m.new }
     ensures rest { places.new.literals ≡ places.old.literals }
-    ensures exact { OnOk result (IsSound m.old → places.old.objects ≡ [] → length p.now.statics < 2 ^ 32 → StaticsCreated m.old m.new p.now.tags p.now.statics) }
-    ensures placed { OnOk result (places.old.objects ≡ [] → length p.now.statics < 2 ^ 32 → AreAll m.new (λ k. names.Static k) places.new.objects (length p.now.statics)) }
-    ensures unplaced { result ≡ Err Unplaced → IsSound m.old → places.old.objects ≡ [] → length p.now.statics < 2 ^ 32 → SomeStatic m.old m.new p.now.tags p.now.statics }
+    ensures exact { OnOk result (IsSound m.old → places.old.objects ≡ [] → length p.now.statics < 2 ^ 32 →
+        StaticsCreated m.old m.new p.now.tags p.now.statics) }
+    ensures placed { OnOk result (places.old.objects ≡ [] → length p.now.statics < 2 ^ 32 →
+        AreAll m.new (λ k. names.Static k) places.new.objects (length p.now.statics)) }
+    ensures unplaced { result ≡ Err Unplaced → IsSound m.old → places.old.objects ≡ [] → length p.now.statics < 2 ^ 32 →
+        SomeStatic m.old m.new p.now.tags p.now.statics }
 {
     for object in p.statics.as_slice() {
         let addr = create_static(alloc, p, object, count_of(&places.objects), m, t)?;
@@ -266,9 +280,12 @@ fn create_literals(
 ) -> Result<(), CreateFault>
     ensures kept { Keeps m.old m.new }
     ensures rest { places.new.objects ≡ places.old.objects }
-    ensures exact { OnOk result (IsSound m.old → places.old.literals ≡ [] → length p.now.literals < 2 ^ 32 → AllCreated m.old m.new (literals 0 p.now.literals)) }
-    ensures placed { OnOk result (places.old.literals ≡ [] → length p.now.literals < 2 ^ 32 → AreAll m.new (λ k. names.Lit k) places.new.literals (length p.now.literals)) }
-    ensures unplaced { result ≡ Err Unplaced → IsSound m.old → places.old.literals ≡ [] → length p.now.literals < 2 ^ 32 → FirstLiteral m.old m.new p.now.literals }
+    ensures exact { OnOk result (IsSound m.old → places.old.literals ≡ [] → length p.now.literals < 2 ^ 32 →
+        AllCreated m.old m.new (literals 0 p.now.literals)) }
+    ensures placed { OnOk result (places.old.literals ≡ [] → length p.now.literals < 2 ^ 32 →
+        AreAll m.new (λ k. names.Lit k) places.new.literals (length p.now.literals)) }
+    ensures unplaced { result ≡ Err Unplaced → IsSound m.old → places.old.literals ≡ [] → length p.now.literals < 2 ^ 32 →
+        FirstLiteral m.old m.new p.now.literals }
 {
     for literal in p.literals.as_slice() {
         let name = ObjName::Lit(count_of(&places.literals));
@@ -287,7 +304,8 @@ fn fill_named(
     t: &mut Touched,
 ) -> Result<(), CreateFault>
     ensures kept { IsSound m.old → IsLawful p.now → ArePlaced m.old p.now places.now → Keeps m.old m.new }
-    ensures room { IsSound m.old → IsLawful p.now → ArePlaced m.old p.now places.now → Above 16777216 m.old.rows → (os : List Standing) → AreStatics p.now.tags 0 p.now.statics os → WaitAll m.old (os ++ literals 0 p.now.literals) → IsFilled m.old m.new result }
+    ensures room { IsSound m.old → IsLawful p.now → ArePlaced m.old p.now places.now → Above 16777216 m.old.rows → (os : List Standing) →
+        AreStatics p.now.tags 0 p.now.statics os → WaitAll m.old (os ++ literals 0 p.now.literals) → IsFilled m.old m.new result }
     ensures exact { OnOk result (IsSound m.old → IsLawful p.now → ArePlaced m.old p.now places.now → NamedFilled m.old m.new p.now) }
 {
     fill_statics(alloc, p, places, m, t)?;
@@ -303,7 +321,8 @@ fn fill_statics(
 ) -> Result<(), CreateFault>
     ensures kept { IsSound m.old → IsLawful p.now → ArePlaced m.old p.now places.now → Keeps m.old m.new }
     ensures exact { OnOk result (IsSound m.old → IsLawful p.now → ArePlaced m.old p.now places.now → StaticsFilled m.old m.new p.now.tags p.now.statics) }
-    ensures room { IsSound m.old → IsLawful p.now → ArePlaced m.old p.now places.now → Above 16777216 m.old.rows → (os : List Standing) → AreStatics p.now.tags 0 p.now.statics os → WaitAll m.old os → IsFilled m.old m.new result }
+    ensures room { IsSound m.old → IsLawful p.now → ArePlaced m.old p.now places.now → Above 16777216 m.old.rows → (os : List Standing) →
+        AreStatics p.now.tags 0 p.now.statics os → WaitAll m.old os → IsFilled m.old m.new result }
 {
     for (number, object) in p.statics.as_slice().iter().enumerate() {
         fill_static(alloc, p, object, number, places, m, t)?;
@@ -318,9 +337,11 @@ fn fill_literals(
     m: &mut Memory,
     t: &mut Touched,
 ) -> Result<(), CreateFault>
-    ensures exact { OnOk result (AreAll m.old (λ k. names.Lit k) places.now.literals (length p.now.literals) → length p.now.literals < 2 ^ 32 → AllFilled m.old m.new (literals 0 p.now.literals)) }
+    ensures exact { OnOk result (AreAll m.old (λ k. names.Lit k) places.now.literals (length p.now.literals) → length p.now.literals < 2 ^ 32 →
+        AllFilled m.old m.new (literals 0 p.now.literals)) }
     ensures kept { Keeps m.old m.new }
-    ensures room { AreAll m.old (λ k. names.Lit k) places.now.literals (length p.now.literals) → length p.now.literals < 2 ^ 32 → Above 16777216 m.old.rows → WaitAll m.old (literals 0 p.now.literals) → IsFilled m.old m.new result }
+    ensures room { AreAll m.old (λ k. names.Lit k) places.now.literals (length p.now.literals) → length p.now.literals < 2 ^ 32 → Above 16777216 m.old.rows →
+        WaitAll m.old (literals 0 p.now.literals) → IsFilled m.old m.new result }
 {
     for (number, literal) in p.literals.as_slice().iter().enumerate() {
         let number = short(number);
@@ -403,8 +424,11 @@ fn fill_static(
     t: &mut Touched,
 ) -> Result<(), CreateFault>
     ensures kept { IsSound m.old → ArePlaced m.old p.now places.now → All (λ c. ContentIsLawful p.now c.content) object.now.constants → Keeps m.old m.new }
-    ensures exact { OnOk result (IsSound m.old → ArePlaced m.old p.now places.now → All (λ c. ContentIsLawful p.now c.content) object.now.constants → number < length p.now.statics → length p.now.statics < 2 ^ 32 → StaticFilled m.old m.new p.now.tags number object.now) }
-    ensures room { IsSound m.old → ArePlaced m.old p.now places.now → StaticIsLawful p.now object.now → number < length p.now.statics → length p.now.statics < 2 ^ 32 → Above 16777216 m.old.rows → (o : Standing) → IsStatic p.now.tags number object.now o → Waits m.old o → IsFilled m.old m.new result }
+    ensures exact { OnOk result (IsSound m.old → ArePlaced m.old p.now places.now → All (λ c. ContentIsLawful p.now c.content) object.now.constants →
+        number < length p.now.statics → length p.now.statics < 2 ^ 32 → StaticFilled m.old m.new p.now.tags number object.now) }
+    ensures room { IsSound m.old → ArePlaced m.old p.now places.now → StaticIsLawful p.now object.now → number < length p.now.statics →
+        length p.now.statics < 2 ^ 32 → Above 16777216 m.old.rows → (o : Standing) → IsStatic p.now.tags number object.now o → Waits m.old o →
+        IsFilled m.old m.new result }
 {
     let number = short(number);
     let whole = places.object(number, 0);
@@ -466,7 +490,8 @@ fn put(
     ensures exact { OnOk result ((x : ObjName) → whole.prov ≡ Whole x → Puts m.old m.new x (address_after whole.addr at) (seen m.old bytes.now.cells)) }
     ensures rest { record m.new { objects = []; cells = [] } ≡ record m.old { objects = []; cells = [] } }
     ensures kept { CellsKnown (length m.old.origins) bytes.now.cells → CellsTagged (length m.old.types) bytes.now.cells → Keeps m.old m.new }
-    ensures room { (x : ObjName) (size : ℕ) → whole.prov ≡ Whole x → IsReady m.old x whole.addr size → at + length bytes.now.cells ≤ size → IsFilled m.old m.new result }
+    ensures room { (x : ObjName) (size : ℕ) → whole.prov ≡ Whole x → IsReady m.old x whole.addr size → at + length bytes.now.cells ≤ size →
+        IsFilled m.old m.new result }
 {
     let addr = whole.addr.saturating_add(at);
     match m.store(true, Via::Bytes, 1, addr, whole.prov, bytes, t) {
@@ -485,7 +510,8 @@ fn create_text(
     t: &mut Touched,
 ) -> Result<u64, CreateFault>
     ensures kept { Keeps m.old m.new }
-    ensures exact { OnOk result (AreKnown m.old → Creates m.old m.new name count 1 (record { heap = false; literal = literal; constant = false }) (Some (repeat count 1 (leaf (int Char))))) }
+    ensures exact { OnOk result (AreKnown m.old → Creates m.old m.new name count 1 (record { heap = false; literal = literal; constant = false })
+        (Some (repeat count 1 (leaf (int Char))))) }
     ensures stands { IfOk result (λ addr. Stands m.new name addr) }
     ensures unplaced { result ≡ Err Unplaced → CannotHold m.new name count }
     ensures same { result ≡ Err Unplaced → m.new ≡ m.old }
@@ -545,10 +571,12 @@ fn create_arguments(
     t: &mut Touched,
 ) -> Result<Items<Argument>, CreateFault>
     ensures kept { Keeps m.old m.new }
-    ensures exact { OnOk result (IsSound m.old → length args.now + 1 < 2 ^ 32 → AllCreated m.old m.new (standing.arguments 0 (program_name ∷ map string_bytes args.now))) }
+    ensures exact { OnOk result (IsSound m.old → length args.now + 1 < 2 ^ 32 →
+        AllCreated m.old m.new (standing.arguments 0 (program_name ∷ map string_bytes args.now))) }
     ensures there { IfOk result (λ all. length args.now + 1 < 2 ^ 32 → AreArguments m.new 0 (program_name ∷ map string_bytes args.now) all) }
     ensures made { IfOk result (AreMadeAll m.new) }
-    ensures unplaced { result ≡ Err Unplaced → IsSound m.old → length args.now + 1 < 2 ^ 32 → FirstArgument m.old m.new (program_name ∷ map string_bytes args.now) }
+    ensures unplaced { result ≡ Err Unplaced → IsSound m.old → length args.now + 1 < 2 ^ 32 →
+        FirstArgument m.old m.new (program_name ∷ map string_bytes args.now) }
 {
     let mut all = Items::new(alloc);
     create_argument(alloc, NAME, &mut all, m, t)?;
@@ -566,7 +594,8 @@ fn create_argument(
     t: &mut Touched,
 ) -> Result<(), CreateFault>
     ensures kept { Keeps m.old m.new }
-    ensures exact { OnOk result (AreKnown m.old → length all.old < 2 ^ 32 → Creates m.old m.new (names.Arg (length all.old)) (length text.now + 1) 1 (record { heap = false; literal = false; constant = false }) (Some (repeat (length text.now + 1) 1 (leaf (int Char))))) }
+    ensures exact { OnOk result (AreKnown m.old → length all.old < 2 ^ 32 → Creates m.old m.new (names.Arg (length all.old)) (length text.now + 1) 1
+        (record { heap = false; literal = false; constant = false }) (Some (repeat (length text.now + 1) 1 (leaf (int Char))))) }
     ensures there { OnOk result (length all.old < 2 ^ 32 → ArgumentAdded m.new text.now all.old all.new) }
     ensures count { OnOk result (length all.new ≡ length all.old + 1) }
     ensures made { OnOk result (AreMadeAll m.old all.old → AreMadeAll m.new all.new) }
@@ -604,7 +633,8 @@ fn fill_arguments(
 ) -> Result<(), CreateFault>
     ensures exact { OnOk result ((words : List (List ℕ)) → AreArguments m.old 0 words arguments.now → AllFilled m.old m.new (standing.arguments 0 words)) }
     ensures kept { Keeps m.old m.new }
-    ensures room { Above 16777216 m.old.rows → (words : List (List ℕ)) → AreArguments m.old 0 words arguments.now → WaitAll m.old (standing.arguments 0 words) → IsFilled m.old m.new result }
+    ensures room { Above 16777216 m.old.rows → (words : List (List ℕ)) → AreArguments m.old 0 words arguments.now →
+        WaitAll m.old (standing.arguments 0 words) → IsFilled m.old m.new result }
 {
     for argument in arguments {
         fill_text(alloc, argument.text.as_slice(), argument.place, m, t)?;
@@ -620,7 +650,8 @@ fn create_vector(
     t: &mut Touched,
 ) -> Result<Pointer, CreateFault>
     ensures kept { Keeps m.old m.new }
-    ensures exact { OnOk result (AreKnown m.old → length args.now < 2 ^ 32 → Creates m.old m.new names.Argv (8 * (length args.now + 2)) 8 (record { heap = false; literal = false; constant = false }) (Some (repeat (length args.now + 2) 8 (leaf (pointer false (int Char)))))) }
+    ensures exact { OnOk result (AreKnown m.old → length args.now < 2 ^ 32 → Creates m.old m.new names.Argv (8 * (length args.now + 2)) 8
+        (record { heap = false; literal = false; constant = false }) (Some (repeat (length args.now + 2) 8 (leaf (pointer false (int Char)))))) }
     ensures made { IfOk result (λ p. IsMade m.new p.prov) }
     ensures stands { IfOk result (λ p. StandsThere m.new names.Argv p) }
     ensures unplaced { result ≡ Err Unplaced → length args.now < 2 ^ 32 → NoVector m.new (length args.now + 1) }
@@ -657,8 +688,10 @@ fn point(
     t: &mut Touched,
 ) -> Result<(), CreateFault>
     ensures kept { IsSound m.old → AreMadeAll m.old arguments.now → Keeps m.old m.new }
-    ensures exact { OnOk result (IsSound m.old → AreMadeAll m.old arguments.now → StandsThere m.old names.Argv vector → (words : List (List ℕ)) → AreArguments m.old 0 words arguments.now → length words < 2 ^ 32 → AllFilled m.old m.new (standing.vector words ∷ [])) }
-    ensures room { IsSound m.old → AreMadeAll m.old arguments.now → StandsThere m.old names.Argv vector → Above 16777216 m.old.rows → (words : List (List ℕ)) → AreArguments m.old 0 words arguments.now → length words < 2 ^ 32 → Waits m.old (standing.vector words) → IsFilled m.old m.new result }
+    ensures exact { OnOk result (IsSound m.old → AreMadeAll m.old arguments.now → StandsThere m.old names.Argv vector → (words : List (List ℕ)) →
+        AreArguments m.old 0 words arguments.now → length words < 2 ^ 32 → AllFilled m.old m.new (standing.vector words ∷ [])) }
+    ensures room { IsSound m.old → AreMadeAll m.old arguments.now → StandsThere m.old names.Argv vector → Above 16777216 m.old.rows → (words : List (List ℕ)) →
+        AreArguments m.old 0 words arguments.now → length words < 2 ^ 32 → Waits m.old (standing.vector words) → IsFilled m.old m.new result }
 {
     let mut at = 0;
     for argument in arguments {

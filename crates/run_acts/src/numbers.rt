@@ -34,8 +34,10 @@ pub fn convert(
     operand: &Value,
     t: &mut Touched,
 ) -> Result<Value, MemFault>
-    ensures exact { IfOk result (λ value. AreKnown m.old → (io : Io) → run m.old.rows (nodes.convert who conversion (value_in m.old operand.now)) (store_of m.old io) ≡ Done (value_in m.new value) t.new (store_of m.new io)) }
-    ensures raises { IfErr result (λ fault. IfRaise fault (λ c. (io : Io) → run m.old.rows (nodes.convert who conversion (value_in m.old operand.now)) (store_of m.old io) ≡ Raised c)) }
+    ensures exact { IfOk result (λ value. AreKnown m.old → (io : Io) → run m.old.rows (nodes.convert who conversion (value_in m.old operand.now))
+        (store_of m.old io) ≡ Done (value_in m.new value) t.new (store_of m.new io)) }
+    ensures raises { IfErr result (λ fault. IfRaise fault (λ c. (io : Io) →
+        run m.old.rows (nodes.convert who conversion (value_in m.old operand.now)) (store_of m.old io) ≡ Raised c)) }
     ensures same { IfErr result (λ fault. IfRaise fault (λ c. m.new ≡ m.old)) }
     ensures kept { Keeps m.old m.new }
     ensures made { IsMadeValue m.old operand.now → IfOk result (IsOf m.new) }
@@ -59,7 +61,8 @@ pub fn convert(
 
 // The number of a pointer's address (6.3.2.3p6).
 fn exposed(m: &mut Memory, kind: IntKind, pointer: Pointer, t: &mut Touched) -> Value
-    ensures exact { (io : Io) → run m.old.rows (exposed_act kind (pointer_at pointer)) (store_of m.old io) ≡ Done (value_in m.new result) t.new (store_of m.new io) }
+    ensures exact { (io : Io) → run m.old.rows (exposed_act kind (pointer_at pointer)) (store_of m.old io) ≡ Done (value_in m.new result) t.new
+        (store_of m.new io) }
     ensures kept { Keeps m.old m.new }
     ensures made { IsOf m.new result }
 {
@@ -69,7 +72,8 @@ fn exposed(m: &mut Memory, kind: IntKind, pointer: Pointer, t: &mut Touched) -> 
 
 // The pointer that an address makes (6.3.2.3p5).
 fn found(m: &mut Memory, who: Event, addr: u64, t: &mut Touched) -> Result<Value, NoMemory>
-    ensures exact { IfOk result (λ value. AreKnown m.old → (io : Io) → run m.old.rows (found_act who addr) (store_of m.old io) ≡ Done (value_in m.new value) t.new (store_of m.new io)) }
+    ensures exact { IfOk result (λ value. AreKnown m.old → (io : Io) →
+        run m.old.rows (found_act who addr) (store_of m.old io) ≡ Done (value_in m.new value) t.new (store_of m.new io)) }
     ensures kept { Keeps m.old m.new }
     ensures made { IfOk result (IsOf m.new) }
 {

@@ -61,7 +61,9 @@ pub fn moved(
     index: i128,
     t: &mut Touched,
 ) -> Result<Pointer, Clause>
-    ensures exact { IsNear size index → IsMade m.old pointer.prov → (io : Io) → run m.old.rows (nodes.shifted m.old.rows (pointer_at pointer) (nodes.distance size subtract index)) (store_of m.old io) ≡ act_of (place_result result) t.new (store_of m.new io) }
+    ensures exact { IsNear size index → IsMade m.old pointer.prov → (io : Io) → run m.old.rows
+        (nodes.shifted m.old.rows (pointer_at pointer) (nodes.distance size subtract index)) (store_of m.old io) ≡ act_of (place_result result) t.new
+        (store_of m.new io) }
     ensures same { OnErr result (m.new ≡ m.old) }
     ensures kept { Keeps m.old m.new }
     ensures made { IsMade m.old pointer.prov → IfOk result (λ p. IsMade m.new p.prov) }
@@ -71,7 +73,8 @@ pub fn moved(
 
 // A pointer that moves so many bytes within its object (6.5.6p8).
 fn shifted(m: &mut Memory, pointer: Pointer, by: i128, t: &mut Touched) -> Result<Pointer, Clause>
-    ensures exact { IsMade m.old pointer.prov → (io : Io) → run m.old.rows (nodes.shifted m.old.rows (pointer_at pointer) by) (store_of m.old io) ≡ act_of (place_result result) t.new (store_of m.new io) }
+    ensures exact { IsMade m.old pointer.prov → (io : Io) → run m.old.rows (nodes.shifted m.old.rows (pointer_at pointer) by) (store_of m.old io) ≡ act_of
+        (place_result result) t.new (store_of m.new io) }
     ensures same { OnErr result (m.new ≡ m.old) }
     ensures kept { Keeps m.old m.new }
     ensures made { IsMade m.old pointer.prov → IfOk result (λ p. IsMade m.new p.prov) }
@@ -90,7 +93,8 @@ pub fn member(
     offset: u64,
     t: &mut Touched,
 ) -> Result<Pointer, Clause>
-    ensures exact { IsMade m.old pointer.prov → (io : Io) → run m.old.rows (nodes.member m.old.rows offset (pointer_at pointer)) (store_of m.old io) ≡ act_of (place_result result) t.new (store_of m.new io) }
+    ensures exact { IsMade m.old pointer.prov → (io : Io) → run m.old.rows (nodes.member m.old.rows offset (pointer_at pointer)) (store_of m.old io) ≡ act_of
+        (place_result result) t.new (store_of m.new io) }
     ensures same { OnErr result (m.new ≡ m.old) }
     ensures kept { Keeps m.old m.new }
     ensures made { IsMade m.old pointer.prov → IfOk result (λ p. IsMade m.new p.prov) }
@@ -116,7 +120,9 @@ pub fn distance(
     size: u64,
     t: &mut Touched,
 ) -> Result<Value, Clause>
-    ensures exact { IsMade m.old left.prov → IsMade m.old right.prov → (io : Io) → run m.old.rows (nodes.difference size (pointer_at left) (pointer_at right)) (store_of m.old io) ≡ act_of (value_result m.new result) t.new (store_of m.new io) }
+    ensures exact { IsMade m.old left.prov → IsMade m.old right.prov → (io : Io) →
+        run m.old.rows (nodes.difference size (pointer_at left) (pointer_at right)) (store_of m.old io) ≡ act_of (value_result m.new result) t.new
+        (store_of m.new io) }
     ensures same { OnErr result (m.new ≡ m.old) }
     ensures kept { Keeps m.old m.new }
     ensures made { IfOk result (IsOf m.new) }
@@ -134,7 +140,9 @@ pub fn related(
     right: &Value,
     t: &mut Touched,
 ) -> Result<Value, Clause>
-    ensures exact { IsMadeValue m.old left.now → IsMadeValue m.old right.now → (io : Io) → run m.old.rows (nodes.relational op pointers (value_in m.old left.now) (value_in m.old right.now)) (store_of m.old io) ≡ act_of (value_result m.new result) t.new (store_of m.new io) }
+    ensures exact { IsMadeValue m.old left.now → IsMadeValue m.old right.now → (io : Io) → run m.old.rows
+        (nodes.relational op pointers (value_in m.old left.now) (value_in m.old right.now)) (store_of m.old io) ≡ act_of (value_result m.new result) t.new
+        (store_of m.new io) }
     ensures same { OnErr result (m.new ≡ m.old) }
     ensures kept { Keeps m.old m.new }
     ensures made { IfOk result (IsOf m.new) }
@@ -159,7 +167,8 @@ fn pointers_related(
     right: Pointer,
     t: &mut Touched,
 ) -> Result<Value, Clause>
-    ensures exact { IsMade m.old left.prov → IsMade m.old right.prov → (io : Io) → run m.old.rows (less_act op (pointer_at left) (pointer_at right)) (store_of m.old io) ≡ act_of (value_result m.new result) t.new (store_of m.new io) }
+    ensures exact { IsMade m.old left.prov → IsMade m.old right.prov → (io : Io) →
+        run m.old.rows (less_act op (pointer_at left) (pointer_at right)) (store_of m.old io) ≡ act_of (value_result m.new result) t.new (store_of m.new io) }
     ensures same { OnErr result (m.new ≡ m.old) }
     ensures kept { Keeps m.old m.new }
     ensures made { IfOk result (IsOf m.new) }
@@ -192,9 +201,13 @@ pub fn changed(
     t: &mut Touched,
     spare: &mut Touched,
 ) -> Result<(Value, Value), MemFault>
-    ensures exact { IfOk result (λ both. CanChange m.old place → IsNearChange change operand → (old : Bool) (io : Io) → run m.old.rows (nodes.update_value m.old.rows who change old (type_of ty.now) (pointer_at place) operand) (store_of m.old io) ≡ Done (given_back old (value_in m.new both.0) (value_in m.new both.1)) t.new (store_of m.new io)) }
-    ensures raises { IfErr result (λ fault. IfRaise fault (λ c. CanChange m.old place → IsNearChange change operand → (old : Bool) (io : Io) → run m.old.rows (nodes.update_value m.old.rows who change old (type_of ty.now) (pointer_at place) operand) (store_of m.old io) ≡ Raised c)) }
-    ensures after { IfOk result (λ both. CanChange m.old place → IsNearChange change operand → (io : Io) → value_in m.new both.1 ≡ nodes.changed change (value_in m.new both.0) operand) }
+    ensures exact { IfOk result (λ both. CanChange m.old place → IsNearChange change operand → (old : Bool) (io : Io) →
+        run m.old.rows (nodes.update_value m.old.rows who change old (type_of ty.now) (pointer_at place) operand) (store_of m.old io) ≡ Done
+        (given_back old (value_in m.new both.0) (value_in m.new both.1)) t.new (store_of m.new io)) }
+    ensures raises { IfErr result (λ fault. IfRaise fault (λ c. CanChange m.old place → IsNearChange change operand → (old : Bool) (io : Io) →
+        run m.old.rows (nodes.update_value m.old.rows who change old (type_of ty.now) (pointer_at place) operand) (store_of m.old io) ≡ Raised c)) }
+    ensures after { IfOk result (λ both. CanChange m.old place → IsNearChange change operand → (io : Io) →
+        value_in m.new both.1 ≡ nodes.changed change (value_in m.new both.0) operand) }
     ensures kept { Keeps m.old m.new }
     ensures made { IfOk result (λ both. IsSound m.old → IsOf m.new both.0 × IsOf m.new both.1) }
 {
@@ -215,8 +228,11 @@ fn changed_integer(
     operand: i128,
     t: &mut Touched,
 ) -> Result<(Value, Value), MemFault>
-    ensures exact { IfOk result (λ both. HasCell m.old place.prov → (who : Event) (ty : CType) (old : Bool) (io : Io) → run m.old.rows (nodes.update_value m.old.rows who (change.Integer op kind work) old ty (pointer_at place) operand) (store_of m.old io) ≡ Done (given_back old (value_in m.new both.0) (value_in m.new both.1)) t.new (store_of m.new io)) }
-    ensures raises { IfErr result (λ fault. IfRaise fault (λ c. HasCell m.old place.prov → (who : Event) (ty : CType) (old : Bool) (io : Io) → run m.old.rows (nodes.update_value m.old.rows who (change.Integer op kind work) old ty (pointer_at place) operand) (store_of m.old io) ≡ Raised c)) }
+    ensures exact { IfOk result (λ both. HasCell m.old place.prov → (who : Event) (ty : CType) (old : Bool) (io : Io) →
+        run m.old.rows (nodes.update_value m.old.rows who (change.Integer op kind work) old ty (pointer_at place) operand) (store_of m.old io) ≡ Done
+        (given_back old (value_in m.new both.0) (value_in m.new both.1)) t.new (store_of m.new io)) }
+    ensures raises { IfErr result (λ fault. IfRaise fault (λ c. HasCell m.old place.prov → (who : Event) (ty : CType) (old : Bool) (io : Io) →
+        run m.old.rows (nodes.update_value m.old.rows who (change.Integer op kind work) old ty (pointer_at place) operand) (store_of m.old io) ≡ Raised c)) }
     ensures after { IfOk result (λ both. value_in m.new both.1 ≡ nodes.changed (change.Integer op kind work) (value_in m.new both.0) operand) }
     ensures kept { Keeps m.old m.new }
     ensures made { IfOk result (λ both. IsOf m.new both.0 × IsOf m.new both.1) }
@@ -239,9 +255,14 @@ fn changed_pointer(
     t: &mut Touched,
     spare: &mut Touched,
 ) -> Result<(Value, Value), MemFault>
-    ensures exact { IfOk result (λ both. CanChange m.old place → IsNear size operand → (old : Bool) (io : Io) → run m.old.rows (nodes.update_value m.old.rows who (change.Pointer size subtract) old (type_of ty.now) (pointer_at place) operand) (store_of m.old io) ≡ Done (given_back old (value_in m.new both.0) (value_in m.new both.1)) t.new (store_of m.new io)) }
-    ensures raises { IfErr result (λ fault. IfRaise fault (λ c. CanChange m.old place → IsNear size operand → (old : Bool) (io : Io) → run m.old.rows (nodes.update_value m.old.rows who (change.Pointer size subtract) old (type_of ty.now) (pointer_at place) operand) (store_of m.old io) ≡ Raised c)) }
-    ensures after { IfOk result (λ both. CanChange m.old place → IsNear size operand → (io : Io) → value_in m.new both.1 ≡ nodes.changed (change.Pointer size subtract) (value_in m.new both.0) operand) }
+    ensures exact { IfOk result (λ both. CanChange m.old place → IsNear size operand → (old : Bool) (io : Io) →
+        run m.old.rows (nodes.update_value m.old.rows who (change.Pointer size subtract) old (type_of ty.now) (pointer_at place) operand)
+        (store_of m.old io) ≡ Done (given_back old (value_in m.new both.0) (value_in m.new both.1)) t.new (store_of m.new io)) }
+    ensures raises { IfErr result (λ fault. IfRaise fault (λ c. CanChange m.old place → IsNear size operand → (old : Bool) (io : Io) →
+        run m.old.rows (nodes.update_value m.old.rows who (change.Pointer size subtract) old (type_of ty.now) (pointer_at place) operand)
+        (store_of m.old io) ≡ Raised c)) }
+    ensures after { IfOk result (λ both. CanChange m.old place → IsNear size operand → (io : Io) →
+        value_in m.new both.1 ≡ nodes.changed (change.Pointer size subtract) (value_in m.new both.0) operand) }
     ensures kept { Keeps m.old m.new }
     ensures made { IfOk result (λ both. IsSound m.old → IsOf m.new both.0 × IsOf m.new both.1) }
 {
@@ -266,8 +287,11 @@ fn pointer_there(
     place: Pointer,
     t: &mut Touched,
 ) -> Result<Pointer, MemFault>
-    ensures exact { IfOk result (λ p. HasCell m.old place.prov → AreKnown m.old → (io : Io) → run m.old.rows (nodes.load m.old.rows who access.Pointer (type_of ty.now) (pointer_at place)) (store_of m.old io) ≡ Done (pointer_value (pointer_at p)) t.new (store_of m.new io)) }
-    ensures raises { IfErr result (λ fault. IfRaise fault (λ c. (io : Io) → run m.old.rows (nodes.load m.old.rows who access.Pointer (type_of ty.now) (pointer_at place)) (store_of m.old io) ≡ Raised c)) }
+    ensures exact { IfOk result (λ p. HasCell m.old place.prov → AreKnown m.old → (io : Io) →
+        run m.old.rows (nodes.load m.old.rows who access.Pointer (type_of ty.now) (pointer_at place)) (store_of m.old io) ≡ Done
+        (pointer_value (pointer_at p)) t.new (store_of m.new io)) }
+    ensures raises { IfErr result (λ fault. IfRaise fault (λ c. (io : Io) →
+        run m.old.rows (nodes.load m.old.rows who access.Pointer (type_of ty.now) (pointer_at place)) (store_of m.old io) ≡ Raised c)) }
     ensures made { IfOk result (λ p. IsSound m.old → IsMade m.new p.prov) }
     ensures rows { m.new.rows ≡ m.old.rows }
     ensures kept { Keeps m.old m.new }

@@ -50,8 +50,11 @@ pub fn load(
     place: Pointer,
     t: &mut Touched,
 ) -> Result<Value, MemFault>
-    ensures exact { IfOk result (λ value. HasCell m.old place.prov → AreKnown m.old → AreTagged m.old → (io : Io) → run m.old.rows (nodes.load m.old.rows who access (type_of ty.now) (pointer_at place)) (store_of m.old io) ≡ Done (value_in m.new value) t.new (store_of m.new io)) }
-    ensures raises { IfErr result (λ fault. IfRaise fault (λ c. (io : Io) → run m.old.rows (nodes.load m.old.rows who access (type_of ty.now) (pointer_at place)) (store_of m.old io) ≡ Raised c)) }
+    ensures exact { IfOk result (λ value. HasCell m.old place.prov → AreKnown m.old → AreTagged m.old → (io : Io) →
+        run m.old.rows (nodes.load m.old.rows who access (type_of ty.now) (pointer_at place)) (store_of m.old io) ≡ Done (value_in m.new value) t.new
+        (store_of m.new io)) }
+    ensures raises { IfErr result (λ fault. IfRaise fault (λ c. (io : Io) →
+        run m.old.rows (nodes.load m.old.rows who access (type_of ty.now) (pointer_at place)) (store_of m.old io) ≡ Raised c)) }
     ensures same { IfErr result (λ fault. IfRaise fault (λ c. m.new ≡ m.old)) }
     ensures kept { Keeps m.old m.new }
     ensures made { IfOk result (λ value. IsSound m.old → AreTagged m.old → IsOf m.new value) }
@@ -70,8 +73,10 @@ fn load_integer(
     place: Pointer,
     t: &mut Touched,
 ) -> Result<Value, MemFault>
-    ensures exact { IfOk result (λ value. HasCell m.old place.prov → (io : Io) → run m.old.rows (integer_act m.old.rows kind (pointer_at place)) (store_of m.old io) ≡ Done (value_in m.new value) t.new (store_of m.new io)) }
-    ensures raises { IfErr result (λ fault. IfRaise fault (λ c. (io : Io) → run m.old.rows (integer_act m.old.rows kind (pointer_at place)) (store_of m.old io) ≡ Raised c)) }
+    ensures exact { IfOk result (λ value. HasCell m.old place.prov → (io : Io) →
+        run m.old.rows (integer_act m.old.rows kind (pointer_at place)) (store_of m.old io) ≡ Done (value_in m.new value) t.new (store_of m.new io)) }
+    ensures raises { IfErr result (λ fault. IfRaise fault (λ c. (io : Io) →
+        run m.old.rows (integer_act m.old.rows kind (pointer_at place)) (store_of m.old io) ≡ Raised c)) }
     ensures same { IfErr result (λ fault. IfRaise fault (λ c. m.new ≡ m.old)) }
     ensures kept { Keeps m.old m.new }
     ensures made { IfOk result (IsOf m.new) }
@@ -87,8 +92,11 @@ fn load_pointer(
     place: Pointer,
     t: &mut Touched,
 ) -> Result<Value, MemFault>
-    ensures exact { IfOk result (λ value. HasCell m.old place.prov → AreKnown m.old → (io : Io) → run m.old.rows (pointer_act m.old.rows who (type_of ty.now) (pointer_at place)) (store_of m.old io) ≡ Done (value_in m.new value) t.new (store_of m.new io)) }
-    ensures raises { IfErr result (λ fault. IfRaise fault (λ c. (io : Io) → run m.old.rows (pointer_act m.old.rows who (type_of ty.now) (pointer_at place)) (store_of m.old io) ≡ Raised c)) }
+    ensures exact { IfOk result (λ value. HasCell m.old place.prov → AreKnown m.old → (io : Io) →
+        run m.old.rows (pointer_act m.old.rows who (type_of ty.now) (pointer_at place)) (store_of m.old io) ≡ Done (value_in m.new value) t.new
+        (store_of m.new io)) }
+    ensures raises { IfErr result (λ fault. IfRaise fault (λ c. (io : Io) →
+        run m.old.rows (pointer_act m.old.rows who (type_of ty.now) (pointer_at place)) (store_of m.old io) ≡ Raised c)) }
     ensures same { IfErr result (λ fault. IfRaise fault (λ c. m.new ≡ m.old)) }
     ensures kept { Keeps m.old m.new }
     ensures made { IfOk result (λ value. IsSound m.old → IsOf m.new value) }
@@ -102,8 +110,11 @@ fn load_function(
     place: Pointer,
     t: &mut Touched,
 ) -> Result<Value, MemFault>
-    ensures exact { IfOk result (λ value. HasCell m.old place.prov → (io : Io) → run m.old.rows (function_act m.old.rows (type_of ty.now) (pointer_at place)) (store_of m.old io) ≡ Done (value_in m.new value) t.new (store_of m.new io)) }
-    ensures raises { IfErr result (λ fault. IfRaise fault (λ c. (io : Io) → run m.old.rows (function_act m.old.rows (type_of ty.now) (pointer_at place)) (store_of m.old io) ≡ Raised c)) }
+    ensures exact { IfOk result (λ value. HasCell m.old place.prov → (io : Io) →
+        run m.old.rows (function_act m.old.rows (type_of ty.now) (pointer_at place)) (store_of m.old io) ≡ Done (value_in m.new value) t.new
+        (store_of m.new io)) }
+    ensures raises { IfErr result (λ fault. IfRaise fault (λ c. (io : Io) →
+        run m.old.rows (function_act m.old.rows (type_of ty.now) (pointer_at place)) (store_of m.old io) ≡ Raised c)) }
     ensures same { IfErr result (λ fault. IfRaise fault (λ c. m.new ≡ m.old)) }
     ensures kept { Keeps m.old m.new }
     ensures made { IfOk result (IsOf m.new) }
@@ -119,8 +130,10 @@ fn load_whole(
     place: Pointer,
     t: &mut Touched,
 ) -> Result<Value, MemFault>
-    ensures exact { IfOk result (λ value. HasCell m.old place.prov → AreTagged m.old → (io : Io) → run m.old.rows (whole_act m.old.rows size align (pointer_at place)) (store_of m.old io) ≡ Done (value_in m.new value) t.new (store_of m.new io)) }
-    ensures raises { IfErr result (λ fault. IfRaise fault (λ c. (io : Io) → run m.old.rows (whole_act m.old.rows size align (pointer_at place)) (store_of m.old io) ≡ Raised c)) }
+    ensures exact { IfOk result (λ value. HasCell m.old place.prov → AreTagged m.old → (io : Io) →
+        run m.old.rows (whole_act m.old.rows size align (pointer_at place)) (store_of m.old io) ≡ Done (value_in m.new value) t.new (store_of m.new io)) }
+    ensures raises { IfErr result (λ fault. IfRaise fault (λ c. (io : Io) →
+        run m.old.rows (whole_act m.old.rows size align (pointer_at place)) (store_of m.old io) ≡ Raised c)) }
     ensures same { IfErr result (λ fault. IfRaise fault (λ c. m.new ≡ m.old)) }
     ensures kept { Keeps m.old m.new }
     ensures made { IfOk result (λ value. IsSound m.old → AreTagged m.old → IsOf m.new value) }
@@ -139,8 +152,10 @@ pub fn part(
     offset: u64,
     t: &mut Touched,
 ) -> Result<Value, MemFault>
-    ensures exact { IfOk result (λ value. AreKnown m.old → (io : Io) → run m.old.rows (nodes.part_of who offset access (value_in m.old whole.now)) (store_of m.old io) ≡ Done (value_in m.new value) t.new (store_of m.new io)) }
-    ensures raises { IfErr result (λ fault. IfRaise fault (λ c. (io : Io) → run m.old.rows (nodes.part_of who offset access (value_in m.old whole.now)) (store_of m.old io) ≡ Raised c)) }
+    ensures exact { IfOk result (λ value. AreKnown m.old → (io : Io) → run m.old.rows (nodes.part_of who offset access (value_in m.old whole.now))
+        (store_of m.old io) ≡ Done (value_in m.new value) t.new (store_of m.new io)) }
+    ensures raises { IfErr result (λ fault. IfRaise fault (λ c. (io : Io) →
+        run m.old.rows (nodes.part_of who offset access (value_in m.old whole.now)) (store_of m.old io) ≡ Raised c)) }
     ensures same { IfErr result (λ fault. IfRaise fault (λ c. m.new ≡ m.old)) }
     ensures kept { Keeps m.old m.new }
     ensures made { IfOk result (λ value. IsSound m.old → IsOf m.old whole.now → IsOf m.new value) }
@@ -167,8 +182,10 @@ fn part_integer(
     offset: u64,
     t: &mut Touched,
 ) -> Result<Value, MemFault>
-    ensures exact { IfOk result (λ value. (io : Io) → run m.old.rows (integer_part kind (part_bytes offset (bytes_of_kind kind) (seen m.old block.now.cells))) (store_of m.old io) ≡ Done (value_in m.new value) t.new (store_of m.new io)) }
-    ensures raises { IfErr result (λ fault. IfRaise fault (λ c. (io : Io) → run m.old.rows (integer_part kind (part_bytes offset (bytes_of_kind kind) (seen m.old block.now.cells))) (store_of m.old io) ≡ Raised c)) }
+    ensures exact { IfOk result (λ value. (io : Io) → run m.old.rows (integer_part kind (part_bytes offset (bytes_of_kind kind) (seen m.old block.now.cells)))
+        (store_of m.old io) ≡ Done (value_in m.new value) t.new (store_of m.new io)) }
+    ensures raises { IfErr result (λ fault. IfRaise fault (λ c. (io : Io) →
+        run m.old.rows (integer_part kind (part_bytes offset (bytes_of_kind kind) (seen m.old block.now.cells))) (store_of m.old io) ≡ Raised c)) }
     ensures same { IfErr result (λ fault. IfRaise fault (λ c. m.new ≡ m.old)) }
     ensures kept { Keeps m.old m.new }
     ensures made { IfOk result (IsOf m.new) }
@@ -183,8 +200,10 @@ fn part_function(
     offset: u64,
     t: &mut Touched,
 ) -> Result<Value, MemFault>
-    ensures exact { IfOk result (λ value. (io : Io) → run m.old.rows (function_part (part_bytes offset 8 (seen m.old block.now.cells))) (store_of m.old io) ≡ Done (value_in m.new value) t.new (store_of m.new io)) }
-    ensures raises { IfErr result (λ fault. IfRaise fault (λ c. (io : Io) → run m.old.rows (function_part (part_bytes offset 8 (seen m.old block.now.cells))) (store_of m.old io) ≡ Raised c)) }
+    ensures exact { IfOk result (λ value. (io : Io) → run m.old.rows (function_part (part_bytes offset 8 (seen m.old block.now.cells)))
+        (store_of m.old io) ≡ Done (value_in m.new value) t.new (store_of m.new io)) }
+    ensures raises { IfErr result (λ fault. IfRaise fault (λ c. (io : Io) →
+        run m.old.rows (function_part (part_bytes offset 8 (seen m.old block.now.cells))) (store_of m.old io) ≡ Raised c)) }
     ensures same { IfErr result (λ fault. IfRaise fault (λ c. m.new ≡ m.old)) }
     ensures kept { Keeps m.old m.new }
     ensures made { IfOk result (IsOf m.new) }
@@ -204,8 +223,11 @@ pub fn store(
     value: &Value,
     t: &mut Touched,
 ) -> Result<(), Clause>
-    ensures exact { OnOk result (CanStore m.old place value.now → (ty : CType) → SeesAs m.old via access ty → (io : Io) → run m.old.rows (nodes.put m.old.rows initializing access ty (pointer_at place) (value_in m.old value.now)) (store_of m.old io) ≡ Done Nothing t.new (store_of m.new io)) }
-    ensures raises { IfErr result (λ c. CanStore m.old place value.now → (ty : CType) → SeesAs m.old via access ty → (io : Io) → run m.old.rows (nodes.put m.old.rows initializing access ty (pointer_at place) (value_in m.old value.now)) (store_of m.old io) ≡ Raised c) }
+    ensures exact { OnOk result (CanStore m.old place value.now → (ty : CType) → SeesAs m.old via access ty → (io : Io) →
+        run m.old.rows (nodes.put m.old.rows initializing access ty (pointer_at place) (value_in m.old value.now)) (store_of m.old io) ≡ Done Nothing t.new
+        (store_of m.new io)) }
+    ensures raises { IfErr result (λ c. CanStore m.old place value.now → (ty : CType) → SeesAs m.old via access ty → (io : Io) →
+        run m.old.rows (nodes.put m.old.rows initializing access ty (pointer_at place) (value_in m.old value.now)) (store_of m.old io) ≡ Raised c) }
     ensures kept { IsNumbered (length m.old.types) via → IsSound m.old → IsOf m.old value.now → Keeps m.old m.new }
 {
     t.clear();
@@ -234,8 +256,12 @@ fn store_number(
     number: i128,
     t: &mut Touched,
 ) -> Result<(), Clause>
-    ensures exact { OnOk result (HasCell m.old place.prov → (seen : Seen) → Sees m.old via seen → (io : Io) → run m.old.rows (acts.store m.old.rows initializing seen (bytes_of_kind kind) place.addr place.prov (int_bytes kind number)) (store_of m.old io) ≡ Done tt t.new (store_of m.new io)) }
-    ensures raises { IfErr result (λ c. (seen : Seen) → Sees m.old via seen → (io : Io) → run m.old.rows (acts.store m.old.rows initializing seen (bytes_of_kind kind) place.addr place.prov (int_bytes kind number)) (store_of m.old io) ≡ Raised c) }
+    ensures exact { OnOk result (HasCell m.old place.prov → (seen : Seen) → Sees m.old via seen → (io : Io) →
+        run m.old.rows (acts.store m.old.rows initializing seen (bytes_of_kind kind) place.addr place.prov (int_bytes kind number))
+        (store_of m.old io) ≡ Done tt t.new (store_of m.new io)) }
+    ensures raises { IfErr result (λ c. (seen : Seen) → Sees m.old via seen → (io : Io) →
+        run m.old.rows (acts.store m.old.rows initializing seen (bytes_of_kind kind) place.addr place.prov (int_bytes kind number))
+        (store_of m.old io) ≡ Raised c) }
     ensures kept { IsNumbered (length m.old.types) via → Keeps m.old m.new }
 {
     m.store_int(
@@ -258,8 +284,12 @@ fn store_pointer(
     pointer: Pointer,
     t: &mut Touched,
 ) -> Result<(), Clause>
-    ensures exact { AreNamed m.old → IsMade m.old pointer.prov → OnOk result (HasCell m.old place.prov → (seen : Seen) → Sees m.old via seen → (io : Io) → run m.old.rows (acts.store m.old.rows initializing seen 8 place.addr place.prov (pointer_bytes 8 0 pointer.prov pointer.addr)) (store_of m.old io) ≡ Done tt t.new (store_of m.new io)) }
-    ensures raises { AreNamed m.old → IsMade m.old pointer.prov → IfErr result (λ c. (seen : Seen) → Sees m.old via seen → (io : Io) → run m.old.rows (acts.store m.old.rows initializing seen 8 place.addr place.prov (pointer_bytes 8 0 pointer.prov pointer.addr)) (store_of m.old io) ≡ Raised c) }
+    ensures exact { AreNamed m.old → IsMade m.old pointer.prov → OnOk result (HasCell m.old place.prov → (seen : Seen) → Sees m.old via seen → (io : Io) →
+        run m.old.rows (acts.store m.old.rows initializing seen 8 place.addr place.prov (pointer_bytes 8 0 pointer.prov pointer.addr))
+        (store_of m.old io) ≡ Done tt t.new (store_of m.new io)) }
+    ensures raises { AreNamed m.old → IsMade m.old pointer.prov → IfErr result (λ c. (seen : Seen) → Sees m.old via seen → (io : Io) →
+        run m.old.rows (acts.store m.old.rows initializing seen 8 place.addr place.prov (pointer_bytes 8 0 pointer.prov pointer.addr))
+        (store_of m.old io) ≡ Raised c) }
     ensures kept { IsNumbered (length m.old.types) via → IsSound m.old → IsMade m.old pointer.prov → Keeps m.old m.new }
 {
     m.store_ptr(
@@ -282,8 +312,11 @@ fn store_function(
     addr: u64,
     t: &mut Touched,
 ) -> Result<(), Clause>
-    ensures exact { OnOk result (HasCell m.old place.prov → (seen : Seen) → Sees m.old via seen → (io : Io) → run m.old.rows (acts.store m.old.rows initializing seen 8 place.addr place.prov (number_bytes 8 addr)) (store_of m.old io) ≡ Done tt t.new (store_of m.new io)) }
-    ensures raises { IfErr result (λ c. (seen : Seen) → Sees m.old via seen → (io : Io) → run m.old.rows (acts.store m.old.rows initializing seen 8 place.addr place.prov (number_bytes 8 addr)) (store_of m.old io) ≡ Raised c) }
+    ensures exact { OnOk result (HasCell m.old place.prov → (seen : Seen) → Sees m.old via seen → (io : Io) →
+        run m.old.rows (acts.store m.old.rows initializing seen 8 place.addr place.prov (number_bytes 8 addr)) (store_of m.old io) ≡ Done tt t.new
+        (store_of m.new io)) }
+    ensures raises { IfErr result (λ c. (seen : Seen) → Sees m.old via seen → (io : Io) →
+        run m.old.rows (acts.store m.old.rows initializing seen 8 place.addr place.prov (number_bytes 8 addr)) (store_of m.old io) ≡ Raised c) }
     ensures kept { IsNumbered (length m.old.types) via → Keeps m.old m.new }
 {
     m.store_int(
@@ -308,8 +341,11 @@ fn store_value(
     t: &mut Touched,
 ) -> Result<(), Clause>
     requires { t.old ≡ [] }
-    ensures exact { OnOk result (HasCell m.old place.prov → (io : Io) → run m.old.rows (nodes.put_whole m.old.rows initializing size align (pointer_at place) (value_in m.old value.now)) (store_of m.old io) ≡ Done Nothing t.new (store_of m.new io)) }
-    ensures raises { IfErr result (λ c. HasCell m.old place.prov → (io : Io) → run m.old.rows (nodes.put_whole m.old.rows initializing size align (pointer_at place) (value_in m.old value.now)) (store_of m.old io) ≡ Raised c) }
+    ensures exact { OnOk result (HasCell m.old place.prov → (io : Io) → run m.old.rows
+        (nodes.put_whole m.old.rows initializing size align (pointer_at place) (value_in m.old value.now)) (store_of m.old io) ≡ Done Nothing t.new
+        (store_of m.new io)) }
+    ensures raises { IfErr result (λ c. HasCell m.old place.prov → (io : Io) →
+        run m.old.rows (nodes.put_whole m.old.rows initializing size align (pointer_at place) (value_in m.old value.now)) (store_of m.old io) ≡ Raised c) }
     ensures kept { IsOf m.old value.now → Keeps m.old m.new }
 {
     let Value::Block(block) = value else {
@@ -385,7 +421,8 @@ fn add_filling(
 }
 
 fn content(alloc: Global, m: &Memory, places: &Places, content: &Content) -> Result<Block, NoMemory>
-    ensures bytes { AreNamed m.now → CanHold m.now places.now content.now → IfOk result (λ b. seen m.now b.cells ≡ content_bytes m.now.rows (content_of content.now)) }
+    ensures bytes { AreNamed m.now → CanHold m.now places.now content.now →
+        IfOk result (λ b. seen m.now b.cells ≡ content_bytes m.now.rows (content_of content.now)) }
     ensures known { AreNamed m.now → CanHold m.now places.now content.now → IfOk result (λ b. CellsKnown (length m.now.origins) b.cells) }
     ensures tagged { AreNamed m.now → CanHold m.now places.now content.now → IfOk result (λ b. CellsTagged (length m.now.types) b.cells) }
 {
@@ -451,8 +488,10 @@ pub fn fill(
     t: &mut Touched,
     spare: &mut Touched,
 ) -> Result<(), MemFault>
-    ensures exact { OnOk result (IsMade m.old object.prov → (cs : List Filled) → AreFillings m.old fillings.now cs → (io : Io) → run m.old.rows (nodes.fill m.old.rows (pointer_at object) cs) (store_of m.old io) ≡ Done Nothing t.new (store_of m.new io)) }
-    ensures raises { IfErr result (λ fault. IfRaise fault (λ c. IsMade m.old object.prov → (cs : List Filled) → AreFillings m.old fillings.now cs → (io : Io) → run m.old.rows (nodes.fill m.old.rows (pointer_at object) cs) (store_of m.old io) ≡ Raised c)) }
+    ensures exact { OnOk result (IsMade m.old object.prov → (cs : List Filled) → AreFillings m.old fillings.now cs → (io : Io) →
+        run m.old.rows (nodes.fill m.old.rows (pointer_at object) cs) (store_of m.old io) ≡ Done Nothing t.new (store_of m.new io)) }
+    ensures raises { IfErr result (λ fault. IfRaise fault (λ c. IsMade m.old object.prov → (cs : List Filled) → AreFillings m.old fillings.now cs → (io : Io) →
+        run m.old.rows (nodes.fill m.old.rows (pointer_at object) cs) (store_of m.old io) ≡ Raised c)) }
     ensures kept { AreOf m.old fillings.now → Keeps m.old m.new }
 {
     t.clear();
@@ -470,9 +509,11 @@ fn fill_one(
     t: &mut Touched,
     spare: &mut Touched,
 ) -> Result<(), MemFault>
-    ensures exact { OnOk result (IsMade m.old object.prov → (io : Io) → run m.old.rows (filling_act m.old filling.now (pointer_at object)) (store_of m.old io) ≡ Done tt spare.new (store_of m.new io)) }
+    ensures exact { OnOk result (IsMade m.old object.prov → (io : Io) →
+        run m.old.rows (filling_act m.old filling.now (pointer_at object)) (store_of m.old io) ≡ Done tt spare.new (store_of m.new io)) }
     ensures items { OnOk result (t.new ≡ t.old ++ spare.new) }
-    ensures raises { IfErr result (λ fault. IfRaise fault (λ c. (io : Io) → run m.old.rows (filling_act m.old filling.now (pointer_at object)) (store_of m.old io) ≡ Raised c)) }
+    ensures raises { IfErr result (λ fault. IfRaise fault (λ c. (io : Io) →
+        run m.old.rows (filling_act m.old filling.now (pointer_at object)) (store_of m.old io) ≡ Raised c)) }
     ensures rest { record m.new { objects = []; cells = [] } ≡ record m.old { objects = []; cells = [] } }
     ensures made { (p : Prov) → IsMade m.old p → IsMade m.new p }
     ensures kept { CellsKnown (length m.old.origins) filling.now.bytes.cells → CellsTagged (length m.old.types) filling.now.bytes.cells → Keeps m.old m.new }

@@ -16,7 +16,8 @@ ghost use Rattle.run_layout.specs.InRange.{IsRange, IsChoice};
 ghost use Rattle.run_layout.specs.AtOnce.{chosen_of, Lists};
 ghost use Rattle.run_layout.specs.Choices.{Goes, IsChoiceOf, MakesChoice, ChoosesAt};
 ghost use Rattle.run_layout.specs.Fitting.{AccessFits, RootFits, NodesFit, TreeFits, AreFit};
-ghost use Rattle.run_layout.specs.EventActs.{head_at, pointed, first_type, later_types, seen, last_of, rest_of, GoesBy, room_of, change_access, IsValue, Stores, IsEffect, Calls, IsBody, IsAct, ends_with, IsDue, AreEntries, AreGrown};
+ghost use Rattle.run_layout.specs.EventActs.{head_at, pointed, first_type, later_types, seen, last_of, rest_of, GoesBy, room_of, change_access, IsValue};
+ghost use Rattle.run_layout.specs.EventActs.{Stores, IsEffect, Calls, IsBody, IsAct, ends_with, IsDue, AreEntries, AreGrown};
 
 use crate::choices::{chosen, chosen_at_once, is_choice, operand_number};
 use crate::draft::Draft;
@@ -87,7 +88,8 @@ impl<'p> Draft<'p> {
         terms: &[Core],
         nodes: &[NodeInfo<'p>],
     ) -> Result<Vec<Listed<'p>>, NoMemory>
-        ensures listed { IfOk result (λ es. entries_of es.items ≡ flat_of (length nodes.now) (slice_get terms.now (length self.old.expressions.laid.all.items))) }
+        ensures listed { IfOk result (λ es. entries_of es.items ≡ flat_of (length nodes.now)
+            (slice_get terms.now (length self.old.expressions.laid.all.items))) }
         ensures objects { OnOk result (self.new.function.objects.first.items ≡ self.old.function.objects.first.items) }
         ensures kept { OnOk result (self.new.expressions.laid ≡ self.old.expressions.laid) }
         ensures fit { (p : ProgramOf) → NodesFit p nodes.now → AreFit p self.old.expressions.tables → OnOk result (AreFit p self.new.expressions.tables) }
@@ -116,7 +118,8 @@ impl<'p> Draft<'p> {
         ensures fit { (p : ProgramOf) → AreFit p self.old.expressions.tables → OnOk result (AreFit p self.new.expressions.tables) }
         ensures grown { OnOk result (AreGrown self.old.expressions.tables self.new.expressions.tables) }
         ensures within { IfOk result (IsRange (length self.new.expressions.tables.chosen.items)) }
-        ensures chosen { (firsts : List ℕ) (parent : Option ℕ) → AreNoted firsts nodes.now → IsAt nodes.now number parent root.now → IfOk result (λ r. Lists self.new.expressions.tables.chosen.items r (chosen_of firsts root.now number)) }
+        ensures chosen { (firsts : List ℕ) (parent : Option ℕ) → AreNoted firsts nodes.now → IsAt nodes.now number parent root.now →
+            IfOk result (λ r. Lists self.new.expressions.tables.chosen.items r (chosen_of firsts root.now number)) }
     {
         let mut chosen = Vec::new(self.alloc);
         chosen_at_once(root, number, nodes, &mut chosen)?;
@@ -136,7 +139,8 @@ impl<'p> Draft<'p> {
         ensures kept { OnOk result (self.new.expressions.laid ≡ self.old.expressions.laid) }
         ensures fit { (p : ProgramOf) → NodesFit p nodes.now → AreFit p self.old.expressions.tables → OnOk result (AreFit p self.new.expressions.tables) }
         ensures grown { OnOk result (AreGrown self.old.expressions.tables self.new.expressions.tables) }
-        ensures due { AreEntries self.old.function.objects.first.items self.old.expressions.tables nodes.now entries.old.items → OnOk result (AreEntries self.new.function.objects.first.items self.new.expressions.tables nodes.now entries.new.items) }
+        ensures due { AreEntries self.old.function.objects.first.items self.old.expressions.tables nodes.now entries.old.items →
+            OnOk result (AreEntries self.new.function.objects.first.items self.new.expressions.tables nodes.now entries.new.items) }
     {
         match core {
             Core::Pure(_) => Ok(()),
@@ -171,12 +175,14 @@ impl<'p> Draft<'p> {
         nodes: &[NodeInfo<'p>],
         entries: &mut Vec<Listed<'p>>,
     ) -> Result<(), NoMemory>
-        ensures listing { OnOk result (entries_of entries.new.items ≡ entries_of entries.old.items ++ continuation node operand (flat (length nodes.now) (term_of core.now))) }
+        ensures listing { OnOk result (entries_of entries.new.items ≡ entries_of entries.old.items ++ continuation node operand
+            (flat (length nodes.now) (term_of core.now))) }
         ensures objects { OnOk result (self.new.function.objects.first.items ≡ self.old.function.objects.first.items) }
         ensures kept { OnOk result (self.new.expressions.laid ≡ self.old.expressions.laid) }
         ensures fit { (p : ProgramOf) → NodesFit p nodes.now → AreFit p self.old.expressions.tables → OnOk result (AreFit p self.new.expressions.tables) }
         ensures grown { OnOk result (AreGrown self.old.expressions.tables self.new.expressions.tables) }
-        ensures due { AreEntries self.old.function.objects.first.items self.old.expressions.tables nodes.now entries.old.items → OnOk result (AreEntries self.new.function.objects.first.items self.new.expressions.tables nodes.now entries.new.items) }
+        ensures due { AreEntries self.old.function.objects.first.items self.old.expressions.tables nodes.now entries.old.items →
+            OnOk result (AreEntries self.new.function.objects.first.items self.new.expressions.tables nodes.now entries.new.items) }
     {
         let at = entries.len();
         let first = Listed::Operand {
@@ -253,7 +259,8 @@ impl<'p> Draft<'p> {
         ensures kept { OnOk result (self.new.expressions.laid ≡ self.old.expressions.laid) }
         ensures fit { (p : ProgramOf) → NodesFit p nodes.now → AreFit p self.old.expressions.tables → OnOk result (AreFit p self.new.expressions.tables) }
         ensures grown { OnOk result (AreGrown self.old.expressions.tables self.new.expressions.tables) }
-        ensures due { AreEntries self.old.function.objects.first.items self.old.expressions.tables nodes.now entries.old.items → OnOk result (AreEntries self.new.function.objects.first.items self.new.expressions.tables nodes.now entries.new.items) }
+        ensures due { AreEntries self.old.function.objects.first.items self.old.expressions.tables nodes.now entries.old.items →
+            OnOk result (AreEntries self.new.function.objects.first.items self.new.expressions.tables nodes.now entries.new.items) }
     {
         let Some(info) = nodes.get(number as usize) else {
             return Ok(());
@@ -274,10 +281,13 @@ impl<'p> Draft<'p> {
         ensures place { IfOk result (λ d. d.place ≡ place number kind) }
         ensures objects { OnOk result (self.new.function.objects.first.items ≡ self.old.function.objects.first.items) }
         ensures kept { OnOk result (self.new.expressions.laid ≡ self.old.expressions.laid) }
-        ensures fit { (p : ProgramOf) → RootFits p info.entry.tree.now → AreFit p self.old.expressions.tables → OnOk result (AreFit p self.new.expressions.tables) }
+        ensures fit { (p : ProgramOf) → RootFits p info.entry.tree.now → AreFit p self.old.expressions.tables →
+            OnOk result (AreFit p self.new.expressions.tables) }
         ensures grown { OnOk result (AreGrown self.old.expressions.tables self.new.expressions.tables) }
-        ensures due { IfOk result (λ d. AreNoted self.old.function.objects.first.items nodes.now → slice_get nodes.now number ≡ Some info.entry → IsDue self.old.function.objects.first.items self.new.expressions.tables (length nodes.now) d info.entry) }
-        ensures choice { (firsts : List ℕ) → AreNoted firsts nodes.now → IfOk result (λ d. ChoosesAt firsts self.new.expressions.tables nodes.now number info.entry d.place.kind d.choice) }
+        ensures due { IfOk result (λ d. AreNoted self.old.function.objects.first.items nodes.now → slice_get nodes.now number ≡ Some info.entry →
+            IsDue self.old.function.objects.first.items self.new.expressions.tables (length nodes.now) d info.entry) }
+        ensures choice { (firsts : List ℕ) → AreNoted firsts nodes.now →
+            IfOk result (λ d. ChoosesAt firsts self.new.expressions.tables nodes.now number info.entry d.place.kind d.choice) }
     {
         let tree = info.tree;
         let operands = operands(self.alloc, nodes, tree, number)?;
@@ -304,9 +314,11 @@ impl<'p> Draft<'p> {
     ) -> Result<Act<'p>, NoMemory>
         ensures objects { OnOk result (self.new.function.objects.first.items ≡ self.old.function.objects.first.items) }
         ensures kept { OnOk result (self.new.expressions.laid ≡ self.old.expressions.laid) }
-        ensures fit { (p : ProgramOf) → RootFits p info.entry.tree.now → AreFit p self.old.expressions.tables → OnOk result (AreFit p self.new.expressions.tables) }
+        ensures fit { (p : ProgramOf) → RootFits p info.entry.tree.now → AreFit p self.old.expressions.tables →
+            OnOk result (AreFit p self.new.expressions.tables) }
         ensures grown { OnOk result (AreGrown self.old.expressions.tables self.new.expressions.tables) }
-        ensures act { IfOk result (λ a. IsAct self.old.function.objects.first.items self.new.expressions.tables info.entry.initializer (head_at (out-Typed info.entry.tree.now).node) (seen info.entry.tree.now operands.now info.entry.operand room) kind a) }
+        ensures act { IfOk result (λ a. IsAct self.old.function.objects.first.items self.new.expressions.tables info.entry.initializer
+            (head_at (out-Typed info.entry.tree.now).node) (seen info.entry.tree.now operands.now info.entry.operand room) kind a) }
     {
         match kind {
             Kind::Val => Ok(value_act(info.tree, info.operand, room, operands)),
@@ -327,7 +339,8 @@ impl<'p> Draft<'p> {
         ensures kept { self.new.expressions.laid ≡ self.old.expressions.laid }
         ensures fit { (p : ProgramOf) → AreFit p self.old.expressions.tables → OnOk result (AreFit p self.new.expressions.tables) }
         ensures grown { OnOk result (AreGrown self.old.expressions.tables self.new.expressions.tables) }
-        ensures choice { (firsts : List ℕ) → AreNoted firsts nodes.now → IfOk result (ChoosesAt firsts self.new.expressions.tables nodes.now number info.entry kind) }
+        ensures choice { (firsts : List ℕ) → AreNoted firsts nodes.now →
+            IfOk result (ChoosesAt firsts self.new.expressions.tables nodes.now number info.entry kind) }
     {
         match kind {
             Kind::Val => self.choice(info, number, nodes),
@@ -346,7 +359,8 @@ impl<'p> Draft<'p> {
         ensures kept { self.new.expressions.laid ≡ self.old.expressions.laid }
         ensures fit { (p : ProgramOf) → AreFit p self.old.expressions.tables → OnOk result (AreFit p self.new.expressions.tables) }
         ensures grown { OnOk result (AreGrown self.old.expressions.tables self.new.expressions.tables) }
-        ensures choice { (firsts : List ℕ) → AreNoted firsts nodes.now → IfOk result (MakesChoice firsts self.new.expressions.tables nodes.now number info.entry) }
+        ensures choice { (firsts : List ℕ) → AreNoted firsts nodes.now →
+            IfOk result (MakesChoice firsts self.new.expressions.tables nodes.now number info.entry) }
     {
         let Some(parent) = info.parent else {
             return Ok(None);
@@ -374,7 +388,8 @@ impl<'p> Draft<'p> {
         ensures fit { (p : ProgramOf) → AreFit p self.old.expressions.tables → OnOk result (AreFit p self.new.expressions.tables) }
         ensures grown { OnOk result (AreGrown self.old.expressions.tables self.new.expressions.tables) }
         ensures within { IfOk result (IsChoice (length self.new.expressions.tables.chosen.items)) }
-        ensures choice { (firsts : List ℕ) → AreNoted firsts nodes.now → slice_get nodes.now node ≡ Some above.now → IfOk result (IsChoiceOf firsts self.new.expressions.tables node above.now test) }
+        ensures choice { (firsts : List ℕ) → AreNoted firsts nodes.now → slice_get nodes.now node ≡ Some above.now →
+            IfOk result (IsChoiceOf firsts self.new.expressions.tables node above.now test) }
     {
         let yes = self.way(above, node, true, nodes)?;
         let no = self.way(above, node, false, nodes)?;
@@ -398,7 +413,8 @@ impl<'p> Draft<'p> {
         ensures fit { (p : ProgramOf) → AreFit p self.old.expressions.tables → OnOk result (AreFit p self.new.expressions.tables) }
         ensures grown { OnOk result (AreGrown self.old.expressions.tables self.new.expressions.tables) }
         ensures within { IfOk result (λ w. IsRange (length self.new.expressions.tables.chosen.items) w.chosen) }
-        ensures goes { (firsts : List ℕ) → AreNoted firsts nodes.now → slice_get nodes.now number ≡ Some above.now → IfOk result (Goes firsts self.new.expressions.tables number above.now truth) }
+        ensures goes { (firsts : List ℕ) → AreNoted firsts nodes.now → slice_get nodes.now number ≡ Some above.now →
+            IfOk result (Goes firsts self.new.expressions.tables number above.now truth) }
     {
         let operand = chosen(&above.tree.node, truth);
         let none = Range { first: 0, count: 0 };
@@ -429,7 +445,8 @@ impl<'p> Draft<'p> {
         ensures kept { OnOk result (self.new.expressions.laid ≡ self.old.expressions.laid) }
         ensures fit { (p : ProgramOf) → RootFits p tree.now → AreFit p self.old.expressions.tables → OnOk result (AreFit p self.new.expressions.tables) }
         ensures grown { OnOk result (AreGrown self.old.expressions.tables self.new.expressions.tables) }
-        ensures act { (own : OperandOf) → IfOk result (λ a. IsEffect self.old.function.objects.first.items self.new.expressions.tables (head_at (out-Typed tree.now).node) (seen tree.now operands.now own room) a) }
+        ensures act { (own : OperandOf) → IfOk result (λ a. IsEffect self.old.function.objects.first.items self.new.expressions.tables
+            (head_at (out-Typed tree.now).node) (seen tree.now operands.now own room) a) }
     {
         match &tree.node {
             Node::Assign {
@@ -463,9 +480,11 @@ impl<'p> Draft<'p> {
     ) -> Result<Act<'p>, NoMemory>
         ensures objects { OnOk result (self.new.function.objects.first.items ≡ self.old.function.objects.first.items) }
         ensures kept { OnOk result (self.new.expressions.laid ≡ self.old.expressions.laid) }
-        ensures fit { (p : ProgramOf) → AccessFits access (pointed (first_type (type_of (out-Typed tree.now).ty) (out-Typed tree.now).children)) → AreFit p self.old.expressions.tables → OnOk result (AreFit p self.new.expressions.tables) }
+        ensures fit { (p : ProgramOf) → AccessFits access (pointed (first_type (type_of (out-Typed tree.now).ty) (out-Typed tree.now).children)) →
+            AreFit p self.old.expressions.tables → OnOk result (AreFit p self.new.expressions.tables) }
         ensures grown { OnOk result (AreGrown self.old.expressions.tables self.new.expressions.tables) }
-        ensures act { IfOk result (λ a. Stores self.new.expressions.tables access initializing (pointed (first_type (type_of (out-Typed tree.now).ty) (out-Typed tree.now).children)) place value a) }
+        ensures act { IfOk result (λ a. Stores self.new.expressions.tables access initializing
+            (pointed (first_type (type_of (out-Typed tree.now).ty) (out-Typed tree.now).children)) place value a) }
     {
         let store = self.expressions.add_store(StoreCode {
             access,
@@ -489,7 +508,8 @@ impl<'p> Draft<'p> {
         ensures kept { OnOk result (self.new.expressions.laid ≡ self.old.expressions.laid) }
         ensures fit { (p : ProgramOf) → AreFit p self.old.expressions.tables → OnOk result (AreFit p self.new.expressions.tables) }
         ensures grown { OnOk result (AreGrown self.old.expressions.tables self.new.expressions.tables) }
-        ensures act { (own : OperandOf) (room : ℕ) → IfOk result (λ a. IsBody self.new.expressions.tables initializer (head_at (out-Typed tree.now).node) (seen tree.now operands.now own room) a) }
+        ensures act { (own : OperandOf) (room : ℕ) → IfOk result (λ a. IsBody self.new.expressions.tables initializer (head_at (out-Typed tree.now).node)
+            (seen tree.now operands.now own room) a) }
     {
         match &tree.node {
             Node::Call { .. } => self.call(tree, operands),

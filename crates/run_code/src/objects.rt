@@ -74,7 +74,8 @@ impl<'p> Draft<'p> {
         ensures fit { (p : ProgramOf) → AreFit p self.old.expressions.tables → OnOk result (AreFit p self.new.expressions.tables) }
         ensures function { OnOk result (self.new.function ≡ self.old.function) }
         ensures blocks { OnOk result (self.new.expressions.tables.blocks.items ≡ self.old.expressions.tables.blocks.items) }
-        ensures added { IfOk result (λ r. AddsObjects tags.now (map qualified_of (out-Block block.now).objects) self.old.expressions.tables self.new.expressions.tables r.0 r.1) }
+        ensures added { IfOk result (λ r. AddsObjects tags.now
+            (map qualified_of (out-Block block.now).objects) self.old.expressions.tables self.new.expressions.tables r.0 r.1) }
     {
         let first = next_number(&self.expressions.tables.objects)?;
         let mut created = 0;
@@ -109,7 +110,8 @@ impl<'p> Draft<'p> {
     pub fn survey(&mut self, tags: &Tags, body: &'p Body) -> Result<(), NoMemory>
         ensures kept { OnOk result (self.new.expressions.laid ≡ self.old.expressions.laid) }
         ensures fit { (p : ProgramOf) → AreFit p self.old.expressions.tables → OnOk result (AreFit p self.new.expressions.tables) }
-        ensures blocks { OnOk result (AddsBlocks tags.now 0 (rows_of body.now) self.old.expressions.tables self.old.function self.new.expressions.tables self.new.function) }
+        ensures blocks { OnOk result (AddsBlocks tags.now 0
+            (rows_of body.now) self.old.expressions.tables self.old.function self.new.expressions.tables self.new.function) }
     {
         match body {
             Body::Block(inner) => self.survey_block(tags, inner, 0),
@@ -146,7 +148,8 @@ impl<'p> Draft<'p> {
     fn survey_start(&mut self, tags: &Tags, start: &'p ForStart) -> Result<(), NoMemory>
         ensures kept { OnOk result (self.new.expressions.laid ≡ self.old.expressions.laid) }
         ensures fit { (p : ProgramOf) → AreFit p self.old.expressions.tables → OnOk result (AreFit p self.new.expressions.tables) }
-        ensures blocks { OnOk result (AddsBlocks tags.now 0 (start_rows start.now) self.old.expressions.tables self.old.function self.new.expressions.tables self.new.function) }
+        ensures blocks { OnOk result (AddsBlocks tags.now 0
+            (start_rows start.now) self.old.expressions.tables self.old.function self.new.expressions.tables self.new.function) }
     {
         match start {
             ForStart::Declared(block) => self.survey_block(tags, block, 0),
@@ -159,7 +162,8 @@ impl<'p> Draft<'p> {
     fn survey_entry(&mut self, tags: &Tags, entry: &'p Entry) -> Result<(), NoMemory>
         ensures kept { OnOk result (self.new.expressions.laid ≡ self.old.expressions.laid) }
         ensures fit { (p : ProgramOf) → AreFit p self.old.expressions.tables → OnOk result (AreFit p self.new.expressions.tables) }
-        ensures blocks { OnOk result (AddsBlocks tags.now 0 (entry_rows entry.now) self.old.expressions.tables self.old.function self.new.expressions.tables self.new.function) }
+        ensures blocks { OnOk result (AddsBlocks tags.now 0
+            (entry_rows entry.now) self.old.expressions.tables self.old.function self.new.expressions.tables self.new.function) }
     {
         match entry {
             Entry::Statement(body) => self.survey(tags, body),
@@ -176,7 +180,8 @@ impl<'p> Draft<'p> {
     ) -> Result<(), NoMemory>
         ensures kept { OnOk result (self.new.expressions.laid ≡ self.old.expressions.laid) }
         ensures fit { (p : ProgramOf) → AreFit p self.old.expressions.tables → OnOk result (AreFit p self.new.expressions.tables) }
-        ensures blocks { OnOk result (AddsBlocks tags.now arguments (rows_of_block block.now) self.old.expressions.tables self.old.function self.new.expressions.tables self.new.function) }
+        ensures blocks { OnOk result (AddsBlocks tags.now arguments
+            (rows_of_block block.now) self.old.expressions.tables self.old.function self.new.expressions.tables self.new.function) }
     {
         self.add_block(tags, block, arguments)?;
         for entry in block.entries.as_slice() {

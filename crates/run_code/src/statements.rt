@@ -41,11 +41,15 @@ impl<'p> Draft<'p> {
     ) -> Result<Range, NoMemory>
         requires { passed ≤ length roots.now }
         ensures listed { AreOfTerms terms.now self.old.expressions.laid → OnOk result (AreOfTerms terms.now self.new.expressions.laid) }
-        ensures order { OnOk result (roots_in self.new.expressions.laid.all.items ≡ roots_in self.old.expressions.laid.all.items ++ drop passed (map (λ root. root.now) roots.now)) }
-        ensures fit { (p : ProgramOf) → All (TreeFits p) (drop passed (map (λ root. root.now) roots.now)) → AreFit p self.old.expressions.tables → OnOk result (AreFit p self.new.expressions.tables) }
+        ensures order { OnOk result (roots_in self.new.expressions.laid.all.items ≡ roots_in self.old.expressions.laid.all.items ++ drop passed
+            (map (λ root. root.now) roots.now)) }
+        ensures fit { (p : ProgramOf) → All (TreeFits p) (drop passed (map (λ root. root.now) roots.now)) → AreFit p self.old.expressions.tables →
+            OnOk result (AreFit p self.new.expressions.tables) }
         ensures grown { OnOk result (AreGrown self.old.expressions.tables self.new.expressions.tables) }
-        ensures range { IfOk result (λ r. (r.first ≡ length self.old.expressions.laid.all.items) × (r.count ≡ length (drop passed (map (λ root. root.now) roots.now)))) }
-        ensures added { OnOk result (AddsExpressions self.old.function.objects.first.items (drop passed (map (λ root. root.now) roots.now)) self.new.expressions.tables self.old.expressions.laid self.new.expressions.laid) }
+        ensures range { IfOk result (λ r. (r.first ≡ length self.old.expressions.laid.all.items)
+            × (r.count ≡ length (drop passed (map (λ root. root.now) roots.now)))) }
+        ensures added { OnOk result (AddsExpressions self.old.function.objects.first.items
+            (drop passed (map (λ root. root.now) roots.now)) self.new.expressions.tables self.old.expressions.laid self.new.expressions.laid) }
     {
         let first = next_number(&self.expressions.laid.all)?;
         let (_, rest) = roots.split_at(passed);
@@ -65,13 +69,16 @@ impl<'p> Draft<'p> {
     ) -> Result<FunctionCode, NoMemory>
         ensures listed { AreOfTerms terms.now self.old.expressions.laid → OnOk result (AreOfTerms terms.now self.new.expressions.laid) }
         ensures order { OnOk result (roots_in self.new.expressions.laid.all.items ≡ roots_in self.old.expressions.laid.all.items ++ block_trees body.now) }
-        ensures numbers { OnOk result (map (λ root. root.now) numbers.new.roots.items ≡ map (λ root. root.now) numbers.old.roots.items ++ block_trees body.now) }
+        ensures numbers { OnOk result (map (λ root. root.now) numbers.new.roots.items ≡ map
+            (λ root. root.now) numbers.old.roots.items ++ block_trees body.now) }
         ensures grows { OnOk result (Grows numbers.old numbers.new) }
-        ensures fit { (p : ProgramOf) → All (TreeFits p) (block_trees body.now) → AreFit p self.old.expressions.tables → OnOk result (AreFit p self.new.expressions.tables) }
+        ensures fit { (p : ProgramOf) → All (TreeFits p) (block_trees body.now) → AreFit p self.old.expressions.tables →
+            OnOk result (AreFit p self.new.expressions.tables) }
         ensures body { IfOk result (λ code. IsStatement numbers.new (body_form.Block body.now) code.body) }
         ensures grown { OnOk result (AreGrown self.old.expressions.tables self.new.expressions.tables) }
         ensures more { OnOk result (IsMore self.old.expressions.laid self.new.expressions.laid) }
-        ensures blocks { IfOk result (λ code. HasBlocks tags.now (length (out-FuncTy function.now.ty).params) (rows_of_block body.now) self.new.expressions.tables code) }
+        ensures blocks { IfOk result (λ code. HasBlocks tags.now (length (out-FuncTy function.now.ty).params)
+            (rows_of_block body.now) self.new.expressions.tables code) }
         ensures expressions { IfOk result (λ code. HasExpressions body.now self.new.expressions.tables self.new.expressions.laid code.expressions) }
     {
         self.function = start_function(self.alloc);
@@ -116,7 +123,8 @@ pub fn code_of<'p>(
     // So they are those of the terms, where what is defined is defined by a block.
     ensures trees { AreInBlocks program.now.functions → IfOk result (λ code. map tree_of (roots_in code.expressions.items) ≡ program_trees program.now) }
     // The listing of each is that of its tree, where the terms are elaborate's and the nodes have the operands that their operators take.
-    ensures listed { AreInBlocks program.now.functions → AreTermsOf program.now terms.now → EachFormed (program_trees program.now) → IfOk result (λ code. ListsTrees code) }
+    ensures listed { AreInBlocks program.now.functions → AreTermsOf program.now terms.now → EachFormed (program_trees program.now) →
+        IfOk result (λ code. ListsTrees code) }
     // Each function that is defined by a block has its code, and no other has.
     ensures functions { IfOk result (HaveCode program.now.functions) }
     // The statements are those of the functions, in which numbers stand for these full expressions.

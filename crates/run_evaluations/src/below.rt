@@ -27,11 +27,13 @@ impl Evaluations {
         loose: usize,
     ) -> Result<Option<Found>, NoMemory>
         ensures conflict { IfOk result ItemsConflict }
-        ensures none { size (tree_of order.entry.root.now) < 2 ^ 32 → LooseKept self.now.segments.items self.now.events.items self.now.items.items self.now.loose.items loose →
+        ensures none { size (tree_of order.entry.root.now) < 2 ^ 32 →
+            LooseKept self.now.segments.items self.now.events.items self.now.items.items self.now.loose.items loose →
             IfOk result (λ r. IfNone r ((k : ℕ) → own ≤ k → k < length self.now.events.items →
             NoneListed under.entry.map.now (taken_in order.entry.taken.now) (tree_of order.entry.root.now)
             self.now.events.items self.now.items.items self.now.loose.items loose k)) }
-        ensures first { size (tree_of order.entry.root.now) < 2 ^ 32 → LooseKept self.now.segments.items self.now.events.items self.now.items.items self.now.loose.items loose →
+        ensures first { size (tree_of order.entry.root.now) < 2 ^ 32 →
+            LooseKept self.now.segments.items self.now.events.items self.now.items.items self.now.loose.items loose →
             IfOk result (IsFirstOf under.entry.frames.now (IsOfPair under.entry.frames.now under.entry.map.now
             (expression_in (slice_get self.now.levels.items (length self.now.levels.items - 1))) self.now.events.items self.now.items.items
             (AreListed (taken_in order.entry.taken.now) (tree_of order.entry.root.now) self.now.events.items self.now.loose.items own loose))) }
@@ -50,11 +52,13 @@ impl Evaluations {
         loose: usize,
     ) -> Result<Option<Found>, NoMemory>
         ensures conflict { IfOk result ItemsConflict }
-        ensures none { size (tree_of order.entry.root.now) < 2 ^ 32 → LooseKept self.now.segments.items self.now.events.items self.now.items.items self.now.loose.items loose →
+        ensures none { size (tree_of order.entry.root.now) < 2 ^ 32 →
+            LooseKept self.now.segments.items self.now.events.items self.now.items.items self.now.loose.items loose →
             IfOk result (λ r. IfNone r ((k : ℕ) → own ≤ k → k < length self.now.events.items →
             NoneListed under.entry.map.now (taken_in order.entry.taken.now) (tree_of order.entry.root.now)
             self.now.events.items self.now.items.items self.now.loose.items loose k)) }
-        ensures first { size (tree_of order.entry.root.now) < 2 ^ 32 → LooseKept self.now.segments.items self.now.events.items self.now.items.items self.now.loose.items loose →
+        ensures first { size (tree_of order.entry.root.now) < 2 ^ 32 →
+            LooseKept self.now.segments.items self.now.events.items self.now.items.items self.now.loose.items loose →
             IfOk result (IsFirstOf under.entry.frames.now (IsOfPair under.entry.frames.now under.entry.map.now
             (expression_in (slice_get self.now.levels.items (length self.now.levels.items - 1))) self.now.events.items self.now.items.items
             (AreListed (taken_in order.entry.taken.now) (tree_of order.entry.root.now) self.now.events.items self.now.loose.items own loose))) }
@@ -76,10 +80,12 @@ impl Evaluations {
         loose: usize,
     ) -> Result<Option<Found>, NoMemory>
         ensures conflict { IfOk result ItemsConflict }
-        ensures none { size (tree_of order.entry.root.now) < 2 ^ 32 → LooseKept self.now.segments.items self.now.events.items self.now.items.items self.now.loose.items loose →
+        ensures none { size (tree_of order.entry.root.now) < 2 ^ 32 →
+            LooseKept self.now.segments.items self.now.events.items self.now.items.items self.now.loose.items loose →
             IfOk result (λ r. IfNone r (NoneListed under.entry.map.now (taken_in order.entry.taken.now) (tree_of order.entry.root.now)
             self.now.events.items self.now.items.items self.now.loose.items loose at)) }
-        ensures first { size (tree_of order.entry.root.now) < 2 ^ 32 → LooseKept self.now.segments.items self.now.events.items self.now.items.items self.now.loose.items loose →
+        ensures first { size (tree_of order.entry.root.now) < 2 ^ 32 →
+            LooseKept self.now.segments.items self.now.events.items self.now.items.items self.now.loose.items loose →
             IfOk result (IsFirstOf under.entry.frames.now (IsOfPair under.entry.frames.now under.entry.map.now
             (expression_in (slice_get self.now.levels.items (length self.now.levels.items - 1))) self.now.events.items self.now.items.items
             (AreListedWith (taken_in order.entry.taken.now) (tree_of order.entry.root.now) self.now.events.items self.now.loose.items at loose))) }
@@ -113,7 +119,8 @@ impl Evaluations {
         ensures none { size (tree_of order.entry.root.now) < 2 ^ 32 → IfOk result (λ r. IfNone r
             (NoneListed under.entry.map.now (taken_in order.entry.taken.now) (tree_of order.entry.root.now)
             self.now.events.items self.now.items.items self.now.loose.items loose event)) }
-        ensures first { size (tree_of order.entry.root.now) < 2 ^ 32 → IfOk result (IsFirstOf under.entry.frames.now (IsOfPair under.entry.frames.now under.entry.map.now
+        ensures first { size (tree_of order.entry.root.now) < 2 ^ 32 →
+            IfOk result (IsFirstOf under.entry.frames.now (IsOfPair under.entry.frames.now under.entry.map.now
             (expression_in (slice_get self.now.levels.items (length self.now.levels.items - 1))) self.now.events.items self.now.items.items
             (AreListedWith (taken_in order.entry.taken.now) (tree_of order.entry.root.now) self.now.events.items self.now.loose.items event loose))) }
     {
@@ -133,9 +140,11 @@ impl Evaluations {
         i: usize,
     ) -> Result<Option<Found>, NoMemory>
         ensures conflict { IfOk result ItemsConflict }
-        ensures none { size (tree_of order.entry.root.now) < 2 ^ 32 → IfOk result (λ r. r ≡ None → IsClean under.entry.map.now (taken_in order.entry.taken.now) (tree_of order.entry.root.now)
+        ensures none { size (tree_of order.entry.root.now) < 2 ^ 32 →
+            IfOk result (λ r. r ≡ None → IsClean under.entry.map.now (taken_in order.entry.taken.now) (tree_of order.entry.root.now)
             self.now.events.items self.now.items.items event (slice_get self.now.loose.items i)) }
-        ensures first { size (tree_of order.entry.root.now) < 2 ^ 32 → IfOk result (IsFirstOf under.entry.frames.now (IsOfPair under.entry.frames.now under.entry.map.now
+        ensures first { size (tree_of order.entry.root.now) < 2 ^ 32 →
+            IfOk result (IsFirstOf under.entry.frames.now (IsOfPair under.entry.frames.now under.entry.map.now
             (expression_in (slice_get self.now.levels.items (length self.now.levels.items - 1))) self.now.events.items self.now.items.items
             (IsListedAt (taken_in order.entry.taken.now) (tree_of order.entry.root.now) self.now.events.items self.now.loose.items event i))) }
     {
@@ -154,7 +163,8 @@ impl Evaluations {
         other: usize,
     ) -> Result<Option<Found>, NoMemory>
         ensures conflict { IfOk result ItemsConflict }
-        ensures none { size (tree_of order.entry.root.now) < 2 ^ 32 → IfOk result (λ r. r ≡ None → IsClean under.entry.map.now (taken_in order.entry.taken.now) (tree_of order.entry.root.now)
+        ensures none { size (tree_of order.entry.root.now) < 2 ^ 32 →
+            IfOk result (λ r. r ≡ None → IsClean under.entry.map.now (taken_in order.entry.taken.now) (tree_of order.entry.root.now)
             self.now.events.items self.now.items.items event (Some other)) }
         ensures first { size (tree_of order.entry.root.now) < 2 ^ 32 → IfOk result (IsFirstOf under.entry.frames.now
             (λ f. (is_apart_below (taken_in order.entry.taken.now) (tree_of order.entry.root.now) (slice_get self.now.events.items event)

@@ -234,7 +234,8 @@ impl Evaluations {
         ensures lows { (g : ℕ) → loose_start_of (slice_get self.new.segments.items g) ≡ loose_start_of (slice_get self.old.segments.items g) }
         ensures others { (g : ℕ) → suc g < length self.old.segments.items → slice_get self.new.segments.items g ≡ slice_get self.old.segments.items g }
         ensures nodes { (g : ℕ) → node_of (slice_get self.new.segments.items g) ≡ node_of (slice_get self.old.segments.items g) }
-        ensures below { (f : Box Foot Global) → loose_foot_of (slice_get self.new.segments.items (length self.old.segments.items - 1)) ≡ Some f → foot ≡ Some f }
+        ensures below { (f : Box Foot Global) → loose_foot_of (slice_get self.new.segments.items (length self.old.segments.items - 1)) ≡ Some f →
+            foot ≡ Some f }
     {
         if let Some(segment) = self.segments.last_mut() {
             segment.loose_foot = foot;

@@ -20,7 +20,8 @@ ghost use Rattle.run_state.specs.Stands.{StandsTables};
 ghost use Rattle.run_answers.specs.Acts.{either_truth, filled_from, given_by, script_in, stored_by, is_body_act, AreGiven, IsGiven};
 ghost use Rattle.run_answers.specs.Calling.{CallsNumbered};
 ghost use Rattle.run_answers.specs.Opens.{Opens};
-ghost use Rattle.run_answers.specs.Performs.{gives_value, kept_room, is_pointer_act, CanAct, CanPerform, CanPut, ChangesOnly, Does, Effects, Performs, Puts, TouchesMemory, TouchesSpare};
+ghost use Rattle.run_answers.specs.Performs.{gives_value, kept_room, is_pointer_act, CanAct, CanPerform, CanPut, ChangesOnly, Does, Effects, Performs, Puts};
+ghost use Rattle.run_answers.specs.Performs.{TouchesMemory, TouchesSpare};
 
 use crate::frames::{call, initialize};
 use c_typed::{Access, Change, Conversion, EqOp, RelOp, UnOp};
@@ -46,10 +47,12 @@ fn number(value: bool) -> Value
 #[inline(always)]
 pub fn perform(machine: &mut Machine, act: &Act, event: Event) -> Result<Outcome, Fault>
     requires named { IsNamed machine.old.code.now.tables act.now }
-    ensures exact { (rows : List Row) → CanPerform rows machine.old → AreGiven machine.old event act.now → is_body_act act.now ≡ false → Performs rows machine.old machine.new event act.now result }
+    ensures exact { (rows : List Row) → CanPerform rows machine.old → AreGiven machine.old event act.now → is_body_act act.now ≡ false →
+        Performs rows machine.old machine.new event act.now result }
     ensures changes { is_body_act act.now ≡ false → ChangesOnly machine.old machine.new event.node act.now }
     ensures effect { is_body_act act.now ≡ false → gives_value act.now ≡ false → machine.new.values ≡ machine.old.values }
-    ensures rows { (rows : List Row) → CanPerform rows machine.old → AreGiven machine.old event act.now → is_body_act act.now ≡ false → OnErr result (RowsStay machine.old.memory.rows machine.new.memory.rows) }
+    ensures rows { (rows : List Row) → CanPerform rows machine.old → AreGiven machine.old event act.now → is_body_act act.now ≡ false →
+        OnErr result (RowsStay machine.old.memory.rows machine.new.memory.rows) }
     ensures bodies { Opens machine.old act.now event machine.new result }
     ensures calls { (number : ℕ) → act.now ≡ acts.Call number → CallsNumbered number machine.old event machine.new result }
 {
@@ -123,7 +126,8 @@ fn loaded(
     place: &Operand,
     event: Event,
 ) -> Result<Outcome, Fault>
-    ensures exact { CanAct machine.old → AreGiven machine.old event (acts.Load access.now ty.entry place.now) → Does machine.old machine.new event (acts.Load access.now ty.entry place.now) result }
+    ensures exact { CanAct machine.old → AreGiven machine.old event (acts.Load access.now ty.entry place.now) →
+        Does machine.old machine.new event (acts.Load access.now ty.entry place.now) result }
     ensures changes { ChangesOnly machine.old machine.new event.node (acts.Load access.now ty.entry place.now) }
     ensures rows { OnErr result (RowsStay machine.old.memory.rows machine.new.memory.rows) }
 {
@@ -143,7 +147,8 @@ fn loaded_integer(
     place: &Operand,
     event: Event,
 ) -> Result<Outcome, Fault>
-    ensures exact { CanAct machine.old → AreGiven machine.old event (acts.Load (accesses.Integer kind) ty.entry place.now) → Does machine.old machine.new event (acts.Load (accesses.Integer kind) ty.entry place.now) result }
+    ensures exact { CanAct machine.old → AreGiven machine.old event (acts.Load (accesses.Integer kind) ty.entry place.now) →
+        Does machine.old machine.new event (acts.Load (accesses.Integer kind) ty.entry place.now) result }
     ensures changes { ChangesOnly machine.old machine.new event.node (acts.Load (accesses.Integer kind) ty.entry place.now) }
     ensures rows { OnErr result (RowsStay machine.old.memory.rows machine.new.memory.rows) }
 {
@@ -167,7 +172,9 @@ fn integer_at(
     place: Pointer,
     event: Event,
 ) -> Result<Outcome, Fault>
-    ensures exact { CanAct machine.old → HasCell machine.old.memory place.prov → (a : ActOf) → kept_room a ≡ None → script_in machine.old.memory.rows machine.old event a ≡ integer_act machine.old.memory.rows kind (pointer_at place) → Does machine.old machine.new event a result }
+    ensures exact { CanAct machine.old → HasCell machine.old.memory place.prov → (a : ActOf) → kept_room a ≡ None →
+        script_in machine.old.memory.rows machine.old event a ≡ integer_act machine.old.memory.rows kind (pointer_at place) →
+        Does machine.old machine.new event a result }
     ensures changes { (a : ActOf) → ChangesOnly machine.old machine.new event.node a }
     ensures rows { OnErr result (RowsStay machine.old.memory.rows machine.new.memory.rows) }
 {
@@ -185,7 +192,8 @@ fn loaded_pointer(
     place: &Operand,
     event: Event,
 ) -> Result<Outcome, Fault>
-    ensures exact { CanAct machine.old → AreGiven machine.old event (acts.Load accesses.Pointer ty.entry place.now) → Does machine.old machine.new event (acts.Load accesses.Pointer ty.entry place.now) result }
+    ensures exact { CanAct machine.old → AreGiven machine.old event (acts.Load accesses.Pointer ty.entry place.now) →
+        Does machine.old machine.new event (acts.Load accesses.Pointer ty.entry place.now) result }
     ensures changes { ChangesOnly machine.old machine.new event.node (acts.Load accesses.Pointer ty.entry place.now) }
     ensures rows { OnErr result (RowsStay machine.old.memory.rows machine.new.memory.rows) }
 {
@@ -206,7 +214,8 @@ fn loaded_value(
     place: &Operand,
     event: Event,
 ) -> Result<Outcome, Fault>
-    ensures exact { CanAct machine.old → AreGiven machine.old event (acts.Load access.now ty.entry place.now) → Does machine.old machine.new event (acts.Load access.now ty.entry place.now) result }
+    ensures exact { CanAct machine.old → AreGiven machine.old event (acts.Load access.now ty.entry place.now) →
+        Does machine.old machine.new event (acts.Load access.now ty.entry place.now) result }
     ensures changes { ChangesOnly machine.old machine.new event.node (acts.Load access.now ty.entry place.now) }
     ensures rows { OnErr result (RowsStay machine.old.memory.rows machine.new.memory.rows) }
 {
@@ -219,7 +228,8 @@ fn loaded_value(
 
 #[inline(never)]
 fn same(machine: &mut Machine, operand: &Operand, event: Event) -> Result<Outcome, Fault>
-    ensures exact { CanAct machine.old → AreGiven machine.old event (acts.Same operand.now) → Does machine.old machine.new event (acts.Same operand.now) result }
+    ensures exact { CanAct machine.old → AreGiven machine.old event (acts.Same operand.now) →
+        Does machine.old machine.new event (acts.Same operand.now) result }
     ensures changes { ChangesOnly machine.old machine.new event.node (acts.Same operand.now) }
     ensures rows { OnErr result (RowsStay machine.old.memory.rows machine.new.memory.rows) }
 {
@@ -237,7 +247,8 @@ fn arithmetic(
     right: &Operand,
     event: Event,
 ) -> Result<Outcome, Fault>
-    ensures exact { CanAct machine.old → AreGiven machine.old event (acts.Binary op kind left.now right.now) → Does machine.old machine.new event (acts.Binary op kind left.now right.now) result }
+    ensures exact { CanAct machine.old → AreGiven machine.old event (acts.Binary op kind left.now right.now) →
+        Does machine.old machine.new event (acts.Binary op kind left.now right.now) result }
     ensures changes { ChangesOnly machine.old machine.new event.node (acts.Binary op kind left.now right.now) }
     ensures rows { OnErr result (RowsStay machine.old.memory.rows machine.new.memory.rows) }
 {
@@ -256,7 +267,8 @@ fn converted(
     operand: &Operand,
     event: Event,
 ) -> Result<Outcome, Fault>
-    ensures exact { CanAct machine.old → AreGiven machine.old event (acts.Convert conversion operand.now) → Does machine.old machine.new event (acts.Convert conversion operand.now) result }
+    ensures exact { CanAct machine.old → AreGiven machine.old event (acts.Convert conversion operand.now) →
+        Does machine.old machine.new event (acts.Convert conversion operand.now) result }
     ensures changes { ChangesOnly machine.old machine.new event.node (acts.Convert conversion operand.now) }
     ensures rows { OnErr result (RowsStay machine.old.memory.rows machine.new.memory.rows) }
 {
@@ -273,7 +285,8 @@ fn converted_integer(
     operand: &Operand,
     event: Event,
 ) -> Result<Outcome, Fault>
-    ensures exact { CanAct machine.old → AreGiven machine.old event (acts.Convert (conversions.Integer kind) operand.now) → Does machine.old machine.new event (acts.Convert (conversions.Integer kind) operand.now) result }
+    ensures exact { CanAct machine.old → AreGiven machine.old event (acts.Convert (conversions.Integer kind) operand.now) →
+        Does machine.old machine.new event (acts.Convert (conversions.Integer kind) operand.now) result }
     ensures changes { ChangesOnly machine.old machine.new event.node (acts.Convert (conversions.Integer kind) operand.now) }
     ensures rows { OnErr result (RowsStay machine.old.memory.rows machine.new.memory.rows) }
 {
@@ -290,7 +303,8 @@ fn converted_value(
     operand: &Operand,
     event: Event,
 ) -> Result<Outcome, Fault>
-    ensures exact { CanAct machine.old → AreGiven machine.old event (acts.Convert conversion operand.now) → Does machine.old machine.new event (acts.Convert conversion operand.now) result }
+    ensures exact { CanAct machine.old → AreGiven machine.old event (acts.Convert conversion operand.now) →
+        Does machine.old machine.new event (acts.Convert conversion operand.now) result }
     ensures changes { ChangesOnly machine.old machine.new event.node (acts.Convert conversion operand.now) }
     ensures rows { OnErr result (RowsStay machine.old.memory.rows machine.new.memory.rows) }
 {
@@ -308,7 +322,8 @@ fn unary_value(
     operand: &Operand,
     event: Event,
 ) -> Result<Outcome, Fault>
-    ensures exact { CanAct machine.old → AreGiven machine.old event (acts.Unary op operand.now) → Does machine.old machine.new event (acts.Unary op operand.now) result }
+    ensures exact { CanAct machine.old → AreGiven machine.old event (acts.Unary op operand.now) →
+        Does machine.old machine.new event (acts.Unary op operand.now) result }
     ensures changes { ChangesOnly machine.old machine.new event.node (acts.Unary op operand.now) }
     ensures rows { OnErr result (RowsStay machine.old.memory.rows machine.new.memory.rows) }
 {
@@ -321,7 +336,8 @@ fn unary_value(
 // The acts on pointers. Lists and isolated initializers have no value.
 #[inline(always)]
 fn pointer_act(machine: &mut Machine, act: &Act, event: Event) -> Result<Outcome, Fault>
-    ensures exact { CanAct machine.old → AreGiven machine.old event act.now → is_pointer_act act.now ≡ true → Does machine.old machine.new event act.now result }
+    ensures exact { CanAct machine.old → AreGiven machine.old event act.now → is_pointer_act act.now ≡ true →
+        Does machine.old machine.new event act.now result }
     ensures changes { ChangesOnly machine.old machine.new event.node act.now }
     ensures rows { OnErr result (RowsStay machine.old.memory.rows machine.new.memory.rows) }
 {
@@ -357,7 +373,8 @@ fn move_by(
     index: &Operand,
     event: Event,
 ) -> Result<Outcome, Fault>
-    ensures exact { CanAct machine.old → AreGiven machine.old event (acts.Move size subtract pointer.now index.now) → Does machine.old machine.new event (acts.Move size subtract pointer.now index.now) result }
+    ensures exact { CanAct machine.old → AreGiven machine.old event (acts.Move size subtract pointer.now index.now) →
+        Does machine.old machine.new event (acts.Move size subtract pointer.now index.now) result }
     ensures changes { ChangesOnly machine.old machine.new event.node (acts.Move size subtract pointer.now index.now) }
     ensures rows { OnErr result (RowsStay machine.old.memory.rows machine.new.memory.rows) }
 {
@@ -376,7 +393,8 @@ fn member_of(
     pointer: &Operand,
     event: Event,
 ) -> Result<Outcome, Fault>
-    ensures exact { CanAct machine.old → AreGiven machine.old event (acts.Member offset pointer.now) → Does machine.old machine.new event (acts.Member offset pointer.now) result }
+    ensures exact { CanAct machine.old → AreGiven machine.old event (acts.Member offset pointer.now) →
+        Does machine.old machine.new event (acts.Member offset pointer.now) result }
     ensures changes { ChangesOnly machine.old machine.new event.node (acts.Member offset pointer.now) }
     ensures rows { OnErr result (RowsStay machine.old.memory.rows machine.new.memory.rows) }
 {
@@ -395,7 +413,8 @@ fn distance_between(
     right: &Operand,
     event: Event,
 ) -> Result<Outcome, Fault>
-    ensures exact { CanAct machine.old → AreGiven machine.old event (acts.Distance size left.now right.now) → Does machine.old machine.new event (acts.Distance size left.now right.now) result }
+    ensures exact { CanAct machine.old → AreGiven machine.old event (acts.Distance size left.now right.now) →
+        Does machine.old machine.new event (acts.Distance size left.now right.now) result }
     ensures changes { ChangesOnly machine.old machine.new event.node (acts.Distance size left.now right.now) }
     ensures rows { OnErr result (RowsStay machine.old.memory.rows machine.new.memory.rows) }
 {
@@ -417,7 +436,8 @@ fn relation(
     right: &Operand,
     event: Event,
 ) -> Result<Outcome, Fault>
-    ensures exact { CanAct machine.old → AreGiven machine.old event (acts.Related op pointers left.now right.now) → Does machine.old machine.new event (acts.Related op pointers left.now right.now) result }
+    ensures exact { CanAct machine.old → AreGiven machine.old event (acts.Related op pointers left.now right.now) →
+        Does machine.old machine.new event (acts.Related op pointers left.now right.now) result }
     ensures changes { ChangesOnly machine.old machine.new event.node (acts.Related op pointers left.now right.now) }
     ensures rows { OnErr result (RowsStay machine.old.memory.rows machine.new.memory.rows) }
 {
@@ -436,7 +456,8 @@ fn pointer_relation(
     right: &Operand,
     event: Event,
 ) -> Result<Outcome, Fault>
-    ensures exact { CanAct machine.old → AreGiven machine.old event (acts.Related op true left.now right.now) → Does machine.old machine.new event (acts.Related op true left.now right.now) result }
+    ensures exact { CanAct machine.old → AreGiven machine.old event (acts.Related op true left.now right.now) →
+        Does machine.old machine.new event (acts.Related op true left.now right.now) result }
     ensures changes { ChangesOnly machine.old machine.new event.node (acts.Related op true left.now right.now) }
     ensures rows { OnErr result (RowsStay machine.old.memory.rows machine.new.memory.rows) }
 {
@@ -458,7 +479,8 @@ fn integer_relation(
     right: &Operand,
     event: Event,
 ) -> Result<Outcome, Fault>
-    ensures exact { CanAct machine.old → AreGiven machine.old event (acts.Related op false left.now right.now) → Does machine.old machine.new event (acts.Related op false left.now right.now) result }
+    ensures exact { CanAct machine.old → AreGiven machine.old event (acts.Related op false left.now right.now) →
+        Does machine.old machine.new event (acts.Related op false left.now right.now) result }
     ensures changes { ChangesOnly machine.old machine.new event.node (acts.Related op false left.now right.now) }
     ensures rows { OnErr result (RowsStay machine.old.memory.rows machine.new.memory.rows) }
 {
@@ -488,7 +510,8 @@ fn equality(
     right: &Operand,
     event: Event,
 ) -> Result<Outcome, Fault>
-    ensures exact { CanAct machine.old → AreGiven machine.old event (acts.Equal op left.now right.now) → Does machine.old machine.new event (acts.Equal op left.now right.now) result }
+    ensures exact { CanAct machine.old → AreGiven machine.old event (acts.Equal op left.now right.now) →
+        Does machine.old machine.new event (acts.Equal op left.now right.now) result }
     ensures changes { ChangesOnly machine.old machine.new event.node (acts.Equal op left.now right.now) }
     ensures rows { OnErr result (RowsStay machine.old.memory.rows machine.new.memory.rows) }
 {
@@ -508,7 +531,8 @@ fn part_of(
     whole: &Operand,
     event: Event,
 ) -> Result<Outcome, Fault>
-    ensures exact { CanAct machine.old → AreGiven machine.old event (acts.Part offset access.now whole.now) → Does machine.old machine.new event (acts.Part offset access.now whole.now) result }
+    ensures exact { CanAct machine.old → AreGiven machine.old event (acts.Part offset access.now whole.now) →
+        Does machine.old machine.new event (acts.Part offset access.now whole.now) result }
     ensures changes { ChangesOnly machine.old machine.new event.node (acts.Part offset access.now whole.now) }
     ensures rows { OnErr result (RowsStay machine.old.memory.rows machine.new.memory.rows) }
 {
@@ -536,7 +560,8 @@ fn logical(
     second: &Operand,
     event: Event,
 ) -> Result<Outcome, Fault>
-    ensures exact { CanAct machine.old → AreGiven machine.old event (acts.Logical either first.now second.now) → Does machine.old machine.new event (acts.Logical either first.now second.now) result }
+    ensures exact { CanAct machine.old → AreGiven machine.old event (acts.Logical either first.now second.now) →
+        Does machine.old machine.new event (acts.Logical either first.now second.now) result }
     ensures changes { ChangesOnly machine.old machine.new event.node (acts.Logical either first.now second.now) }
     ensures rows { OnErr result (RowsStay machine.old.memory.rows machine.new.memory.rows) }
 {
@@ -546,7 +571,8 @@ fn logical(
 }
 
 fn logical_truth(machine: &Machine, either: bool, first: &Operand, second: &Operand) -> bool
-    ensures { IsGiven machine.now first.now → (model.truth (given_by machine.now first.now) ≡ not either → IsGiven machine.now second.now) → result ≡ either_truth either (model.truth (given_by machine.now first.now)) (model.truth (given_by machine.now second.now)) }
+    ensures { IsGiven machine.now first.now → (model.truth (given_by machine.now first.now) ≡ not either → IsGiven machine.now second.now) →
+        result ≡ either_truth either (model.truth (given_by machine.now first.now)) (model.truth (given_by machine.now second.now)) }
 {
     if either {
         machine.truth(*first) || machine.truth(*second)
@@ -563,7 +589,8 @@ fn selected(
     no: &Operand,
     event: Event,
 ) -> Result<Outcome, Fault>
-    ensures exact { CanAct machine.old → AreGiven machine.old event (acts.Selected test.now yes.now no.now) → Does machine.old machine.new event (acts.Selected test.now yes.now no.now) result }
+    ensures exact { CanAct machine.old → AreGiven machine.old event (acts.Selected test.now yes.now no.now) →
+        Does machine.old machine.new event (acts.Selected test.now yes.now no.now) result }
     ensures changes { ChangesOnly machine.old machine.new event.node (acts.Selected test.now yes.now no.now) }
     ensures rows { OnErr result (RowsStay machine.old.memory.rows machine.new.memory.rows) }
 {
@@ -577,7 +604,8 @@ fn selected(
 // What the body of a call has left is the call's value.
 #[inline(never)]
 fn answered(machine: &mut Machine, discarded: bool, event: Event) -> Result<Outcome, Fault>
-    ensures exact { CanAct machine.old → AreGiven machine.old event (acts.Answer discarded) → Does machine.old machine.new event (acts.Answer discarded) result }
+    ensures exact { CanAct machine.old → AreGiven machine.old event (acts.Answer discarded) →
+        Does machine.old machine.new event (acts.Answer discarded) result }
     ensures changes { ChangesOnly machine.old machine.new event.node (acts.Answer discarded) }
     ensures rows { OnErr result (RowsStay machine.old.memory.rows machine.new.memory.rows) }
 {
@@ -613,7 +641,8 @@ fn update(
     operand: &Operand,
     room: u32,
 ) -> Result<Outcome, Fault>
-    ensures exact { CanAct machine.old → AreGiven machine.old event (acts.Change change old ty.entry place.now operand.now room) → Does machine.old machine.new event (acts.Change change old ty.entry place.now operand.now room) result }
+    ensures exact { CanAct machine.old → AreGiven machine.old event (acts.Change change old ty.entry place.now operand.now room) →
+        Does machine.old machine.new event (acts.Change change old ty.entry place.now operand.now room) result }
     ensures changes { ChangesOnly machine.old machine.new event.node (acts.Change change old ty.entry place.now operand.now room) }
     ensures rows { OnErr result (RowsStay machine.old.memory.rows machine.new.memory.rows) }
 {
@@ -662,9 +691,12 @@ fn store_value(
     place: &Operand,
     value: &Operand,
 ) -> Result<Outcome, Fault>
-    ensures exact { CanAct machine.old → StandsTables machine.old → IsGiven machine.old place.now → IsGiven machine.old value.now → Effects machine.old machine.new (stored_by machine.old.memory.rows (slice_get machine.old.code.now.tables.stores.items number) (model.pointer_of (given_by machine.old place.now)) (given_by machine.old value.now)) result }
+    ensures exact { CanAct machine.old → StandsTables machine.old → IsGiven machine.old place.now → IsGiven machine.old value.now →
+        Effects machine.old machine.new (stored_by machine.old.memory.rows (slice_get machine.old.code.now.tables.stores.items number)
+        (model.pointer_of (given_by machine.old place.now)) (given_by machine.old value.now)) result }
     ensures rest { TouchesMemory machine.old machine.new }
-    ensures rows { CanAct machine.old → StandsTables machine.old → IsGiven machine.old place.now → IsGiven machine.old value.now → OnErr result (RowsStay machine.old.memory.rows machine.new.memory.rows) }
+    ensures rows { CanAct machine.old → StandsTables machine.old → IsGiven machine.old place.now → IsGiven machine.old value.now →
+        OnErr result (RowsStay machine.old.memory.rows machine.new.memory.rows) }
 {
     let place = machine.pointer(*place);
     match *value {
@@ -681,9 +713,12 @@ fn store_room(
     place: Pointer,
     room: u32,
 ) -> Result<Outcome, Fault>
-    ensures exact { CanAct machine.old → StandsTables machine.old → IsMade machine.old.memory place.prov → IsGiven machine.old (operands.Done room) → Effects machine.old machine.new (stored_by machine.old.memory.rows (slice_get machine.old.code.now.tables.stores.items number) (pointer_at place) (given_by machine.old (operands.Done room))) result }
+    ensures exact { CanAct machine.old → StandsTables machine.old → IsMade machine.old.memory place.prov → IsGiven machine.old (operands.Done room) →
+        Effects machine.old machine.new (stored_by machine.old.memory.rows (slice_get machine.old.code.now.tables.stores.items number) (pointer_at place)
+        (given_by machine.old (operands.Done room))) result }
     ensures rest { TouchesMemory machine.old machine.new }
-    ensures rows { CanAct machine.old → StandsTables machine.old → IsMade machine.old.memory place.prov → IsGiven machine.old (operands.Done room) → OnErr result (RowsStay machine.old.memory.rows machine.new.memory.rows) }
+    ensures rows { CanAct machine.old → StandsTables machine.old → IsMade machine.old.memory place.prov → IsGiven machine.old (operands.Done room) →
+        OnErr result (RowsStay machine.old.memory.rows machine.new.memory.rows) }
 {
     let found = target_of(machine, number)?;
     let (target, via) = found;
@@ -710,9 +745,12 @@ fn store_quiet(
     place: Pointer,
     value: &Operand,
 ) -> Result<Outcome, Fault>
-    ensures exact { CanAct machine.old → StandsTables machine.old → IsMade machine.old.memory place.prov → IsGiven machine.old value.now → Effects machine.old machine.new (stored_by machine.old.memory.rows (slice_get machine.old.code.now.tables.stores.items number) (pointer_at place) (given_by machine.old value.now)) result }
+    ensures exact { CanAct machine.old → StandsTables machine.old → IsMade machine.old.memory place.prov → IsGiven machine.old value.now →
+        Effects machine.old machine.new (stored_by machine.old.memory.rows (slice_get machine.old.code.now.tables.stores.items number) (pointer_at place)
+        (given_by machine.old value.now)) result }
     ensures rest { TouchesMemory machine.old machine.new }
-    ensures rows { CanAct machine.old → StandsTables machine.old → IsMade machine.old.memory place.prov → IsGiven machine.old value.now → OnErr result (RowsStay machine.old.memory.rows machine.new.memory.rows) }
+    ensures rows { CanAct machine.old → StandsTables machine.old → IsMade machine.old.memory place.prov → IsGiven machine.old value.now →
+        OnErr result (RowsStay machine.old.memory.rows machine.new.memory.rows) }
 {
     let found = target_of(machine, number)?;
     let (target, via) = found;
@@ -739,7 +777,8 @@ pub fn put_at(
     place: Pointer,
     value: &Value,
 ) -> Result<Result<(), Clause>, NoMemory>
-    ensures exact { (rows : List Row) → CanPut rows machine.old place value.now → Puts rows machine.old machine.new (stored_by rows (slice_get machine.old.code.now.tables.stores.items number) (pointer_at place) (value_in machine.old.memory value.now)) result }
+    ensures exact { (rows : List Row) → CanPut rows machine.old place value.now → Puts rows machine.old machine.new
+        (stored_by rows (slice_get machine.old.code.now.tables.stores.items number) (pointer_at place) (value_in machine.old.memory value.now)) result }
     ensures kept { IsSound machine.old.memory → StandsTables machine.old → IsOf machine.old.memory value.now → Keeps machine.old.memory machine.new.memory }
     ensures rest { TouchesSpare machine.old machine.new }
     ensures work { machine.new.work ≡ machine.old.work }
@@ -772,9 +811,12 @@ fn fillings_of(fillings: &Vec<Items<Filling>>, number: u32) -> Result<&[Filling]
 // The effect of a List: its constant bytes go to its object.
 #[inline(never)]
 fn fill_list(machine: &mut Machine, object: &Operand, constants: u32) -> Result<Outcome, Fault>
-    ensures exact { CanAct machine.old → StandsTables machine.old → IsGiven machine.old object.now → Effects machine.old machine.new (filled_from machine.old.memory.rows (slice_get machine.old.code.now.tables.constants.items constants) (model.pointer_of (given_by machine.old object.now))) result }
+    ensures exact { CanAct machine.old → StandsTables machine.old → IsGiven machine.old object.now →
+        Effects machine.old machine.new (filled_from machine.old.memory.rows (slice_get machine.old.code.now.tables.constants.items constants)
+        (model.pointer_of (given_by machine.old object.now))) result }
     ensures rest { TouchesMemory machine.old machine.new }
-    ensures rows { CanAct machine.old → StandsTables machine.old → IsGiven machine.old object.now → OnErr result (RowsStay machine.old.memory.rows machine.new.memory.rows) }
+    ensures rows { CanAct machine.old → StandsTables machine.old → IsGiven machine.old object.now →
+        OnErr result (RowsStay machine.old.memory.rows machine.new.memory.rows) }
 {
     let object = machine.pointer(*object);
     let fillings = fillings_of(&machine.fillings, constants)?;

@@ -97,7 +97,8 @@ fn answer_of(
     event: Event,
 ) -> LibAnswer
     ensures rest { TouchesStreams machine.old machine.new }
-    ensures exact { CanCall machine.old library arguments.now → IsAnswered machine.old machine.new library event (types_seen call.now.types) arguments.now result }
+    ensures exact { CanCall machine.old library arguments.now →
+        IsAnswered machine.old machine.new library event (types_seen call.now.types) arguments.now result }
 {
     let alloc = machine.alloc;
     let types = call.types.as_slice();

@@ -146,7 +146,8 @@ impl<'p> Expressions<'p> {
         requires roomed { IsRoomedBy nodes.now rooms }
         requires counted { length nodes.now < 2 ^ 32 }
         ensures order { OnOk result (roots_in self.new.laid.all.items ≡ roots_in self.old.laid.all.items ++ root.now ∷ []) }
-        ensures listed { (terms : List CoreOf) → AreOfTerms terms self.old.laid → entries_of entries.now ≡ flat_of (size (tree_of root.now)) (slice_get terms (length self.old.laid.all.items))
+        ensures listed { (terms : List CoreOf) → AreOfTerms terms self.old.laid →
+            entries_of entries.now ≡ flat_of (size (tree_of root.now)) (slice_get terms (length self.old.laid.all.items))
             → OnOk result (AreOfTerms terms self.new.laid) }
         ensures tables { self.new.tables ≡ self.old.tables }
         ensures added { (firsts : List ℕ) → AreNodes firsts root.now nodes.now → AreEntries firsts self.old.tables nodes.now entries.now

@@ -28,7 +28,8 @@ fn way_by(choice: &Choice, truth: bool) -> Way
 impl<'p> Code<'p> {
     /// The block of this number, with its objects; none where there are not so many.
     pub fn block(&self, number: u32) -> Option<(BlockCode, &[ObjectCode])>
-        ensures found { IfSome result (λ b. (slice_get self.now.tables.blocks.items number ≡ Some b.0) × (b.1.now ≡ part_of self.now.tables.objects.items b.0.objects)) }
+        ensures found { IfSome result (λ b. (slice_get self.now.tables.blocks.items number ≡ Some b.0)
+            × (b.1.now ≡ part_of self.now.tables.objects.items b.0.objects)) }
         ensures none { IfNone result (length self.now.tables.blocks.items ≤ number) }
         ensures stores { IfSome result (λ b. All (IsObject (length self.now.tables.stores.items)) b.1.now) }
     {
@@ -38,7 +39,8 @@ impl<'p> Code<'p> {
 
     /// The full expression of this number, with what is chosen as it begins; none where there are not so many.
     pub fn expression(&self, number: u32) -> Option<(&Expression<'p>, &[(u32, u32)])>
-        ensures found { IfSome result (λ e. (slice_get self.now.expressions.items number ≡ Some e.0.now) × (e.1.now ≡ part_of self.now.tables.chosen.items e.0.now.chosen)) }
+        ensures found { IfSome result (λ e. (slice_get self.now.expressions.items number ≡ Some e.0.now)
+            × (e.1.now ≡ part_of self.now.tables.chosen.items e.0.now.chosen)) }
         ensures none { IfNone result (length self.now.expressions.items ≤ number) }
     {
         let expression = self.expressions.get(number as usize)?;

@@ -1,6 +1,7 @@
 // Laws of listings, and of the cursor in them.
 ghost use Rattle.run_listing.specs.Straight.{ListsTree, HasEntries, PartsAtEvent, PartsAlike, PartsFurther};
-ghost use Rattle.run_listing.specs.Cursor.{NextIsCanonical, PassedIsDone, PermitsPicks, StandsAtBegin, StandsBehind, StandsAtStart, StandsAtEnd, TakesByDone, PermitsByDone};
+ghost use Rattle.run_listing.specs.Cursor.{NextIsCanonical, PassedIsDone, PermitsPicks, StandsAtBegin, StandsBehind, StandsAtStart, StandsAtEnd, TakesByDone};
+ghost use Rattle.run_listing.specs.Cursor.{PermitsByDone};
 
 use elaborate::law_faithful;
 use run_layout::law_listing;

@@ -1,5 +1,6 @@
 // The control steps (6.8).
-ghost use Rattle.std.specs.Prelude.{◌≡◌, ◌≢◌, ◌∷◌, ◌+◌, ◌-◌, ◌^◌, true, false, min, ℕ, ℤ, Bool, Option, None, Some, length, slice_get, IfOk, IfSome, OnOk, option_map};
+ghost use Rattle.std.specs.Prelude.{◌≡◌, ◌≢◌, ◌∷◌, ◌+◌, ◌-◌, ◌^◌, true, false, min, ℕ, ℤ, Bool, Option, None, Some, length, slice_get, IfOk, IfSome, OnOk};
+ghost use Rattle.std.specs.Prelude.{option_map};
 ghost use Rattle.c_types.specs.Shapes.{form_of};
 ghost use Rattle.run_control.specs.Moves.{moved};
 ghost use Rattle.c_model.specs.Control.{Break_here, moved_in, ready_work};

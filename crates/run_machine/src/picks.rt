@@ -1,5 +1,6 @@
 // Which pick is the canonical one, which are permitted, and what an event completes.
-ghost use Rattle.std.specs.Prelude.{◌≡◌, ◌≢◌, ◌+◌, ◌-◌, ◌<◌, ◌^◌, ◌∷◌, ◌==◌, min, false, true, [], length, is_some, ℕ, List, Option, Some, slice_get, IfOk, IfSome, IfNone, OnOk, if◌then◌else◌};
+ghost use Rattle.std.specs.Prelude.{◌≡◌, ◌≢◌, ◌+◌, ◌-◌, ◌<◌, ◌^◌, ◌∷◌, ◌==◌, min, false, true, [], length, is_some, ℕ, List, Option, Some, slice_get, IfOk};
+ghost use Rattle.std.specs.Prelude.{IfSome, IfNone, OnOk, if◌then◌else◌};
 ghost use Rattle.c_typed.specs.declared.tree.Place.{Place as PlaceOf};
 ghost use Rattle.c_typed.specs.Tree.{tree_of, size};
 ghost use Rattle.c_typed.specs.Order.{has, Taken};
@@ -25,7 +26,8 @@ ghost use Rattle.run_answers.specs.Rows.{GrowsByControl, GrowsNext};
 ghost use Rattle.run_answers.specs.Starting.{AnswersNextBody, AnswersNextCall};
 ghost use Rattle.run_answers.specs.Straying.{Reaches, TakesSo};
 ghost use Rattle.run_answers.specs.Taking.{AnswersNext};
-ghost use Rattle.run_answers.specs.Picks.{top_of, ahead_part, passed_part, kept_of, at_cursor, ByOrder, ComesNext, Decides, Follows, IsPick, IsStep, Permits, Refuses, Strays, Takes};
+ghost use Rattle.run_answers.specs.Picks.{top_of, ahead_part, passed_part, kept_of, at_cursor, ByOrder, ComesNext, Decides, Follows, IsPick, IsStep, Permits};
+ghost use Rattle.run_answers.specs.Picks.{Refuses, Strays, Takes};
 
 use crate::control::control_step;
 use crate::events::take_event;
@@ -190,7 +192,8 @@ fn strayed<'m>(machine: &'m Machine) -> Result<&'m Done, NoMemory>
 
 // The events that the cursor has passed.
 fn passed_events(machine: &Machine, stage: Stage) -> Result<Done, NoMemory>
-    ensures { IfOk result (λ done. (b : BegunOf) × (top_of machine.now ≡ Some b) × ((p : PlaceOf) → done_in done p ≡ has (events_of (taken_in b.taken) (passed_part machine.now stage)) p)) }
+    ensures { IfOk result (λ done. (b : BegunOf) × (top_of machine.now ≡ Some b)
+        × ((p : PlaceOf) → done_in done p ≡ has (events_of (taken_in b.taken) (passed_part machine.now stage)) p)) }
 {
     let code = machine.code;
     let begun = opened(machine)?;

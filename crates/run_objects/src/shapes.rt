@@ -5,7 +5,8 @@ ghost use Rattle.c_types.specs.Types.{type_of};
 ghost use Rattle.c_types.specs.Shapes.{form_of, forms_of, put_of, none};
 ghost use Rattle.c_types.specs.Layout.{number_in};
 ghost use Rattle.program_view.specs.Objects.{form_of_type, form_with, forms_by};
-ghost use Rattle.run_objects.specs.Opened.{single_of, tag_in, is_placed, opened_form, before, entered, remaining, contribution, open_work, work, IsRoomy, AreRoomy};
+ghost use Rattle.run_objects.specs.Opened.{single_of, tag_in, is_placed, opened_form, before, entered, remaining, contribution, open_work, work, IsRoomy};
+ghost use Rattle.run_objects.specs.Opened.{AreRoomy};
 
 use c_types::{Placed, Shape, Tags, Ty, copied};
 use layout::{offset_of, size};
@@ -147,7 +148,8 @@ fn place_member(
 ) -> Result<(), NoMemory>
     requires own { IsRoomy tags.now current }
     requires others { AreRoomy tags.now opened.old }
-    ensures placed { OnOk result (before (map put_of parts.new) (remaining tags.now opened.new none) ≡ before (map put_of parts.old) (contribution tags.now current (remaining tags.now opened.old none))) }
+    ensures placed { OnOk result (before (map put_of parts.new) (remaining tags.now opened.new none) ≡ before (map put_of parts.old)
+        (contribution tags.now current (remaining tags.now opened.old none))) }
     ensures roomy { OnOk result (AreRoomy tags.now opened.new) }
     ensures less { OnOk result (work tags.now opened.new < open_work tags.now current + work tags.now opened.old) }
 {

@@ -10,7 +10,8 @@ ghost use Rattle.prov_memory.specs.Sound.{IsSound};
 ghost use Rattle.prov_memory.specs.Tags.{AreTagged};
 ghost use Rattle.run_acts.specs.Standing.{StartStands, program_name};
 ghost use Rattle.run_acts.specs.Starting.{ArePlaced};
-ghost use Rattle.run_state.specs.Begins.{AreBytesWhere, BeginsAsDefined, HoldsGiven, IsBodyOf, IsFirst, IsGivenIn, IsNamed, IsNamedVia, KeepsLabels, StartsMain};
+ghost use Rattle.run_state.specs.Begins.{AreBytesWhere, BeginsAsDefined, HoldsGiven, IsBodyOf, IsFirst, IsGivenIn, IsNamed, IsNamedVia, KeepsLabels};
+ghost use Rattle.run_state.specs.Begins.{StartsMain};
 ghost use Rattle.run_state.specs.Begins.{CountsAsDefined, IsUnstarted, SeesMain};
 ghost use Rattle.run_state.specs.Stands.{AreEach};
 

@@ -284,7 +284,8 @@ impl<'p, 'c> Machine<'p, 'c> {
     }
 
     pub fn local_name(&self, object: u32) -> Result<ObjName, NoMemory>
-        ensures { IfOk result (λ name. (l : LocalOf) × (slice_get self.now.locals.items (min (self.now.top.locals + object) (2 ^ 64 - 1)) ≡ Some l) × (l.name ≡ name)) }
+        ensures { IfOk result (λ name. (l : LocalOf) × (slice_get self.now.locals.items (min (self.now.top.locals + object) (2 ^ 64 - 1)) ≡ Some l)
+            × (l.name ≡ name)) }
     {
         let at = self.top.locals.saturating_add(object as usize);
         match self.locals.get(at) {

@@ -150,7 +150,8 @@ fn tested<'p>(
     numbers: &mut Numbers<'p>,
 ) -> Result<Round, NoMemory>
     ensures grows { OnOk result (Grows numbers.old numbers.new) }
-    ensures order { OnOk result (map (λ t. t.now) numbers.new.roots.items ≡ map (λ t. t.now) numbers.old.roots.items ++ (full_trees test.now ++ body_trees body.now)) }
+    ensures order { OnOk result (map (λ t. t.now) numbers.new.roots.items ≡ map (λ t. t.now) numbers.old.roots.items ++
+        (full_trees test.now ++ body_trees body.now)) }
     ensures round { IfOk result (λ r. IsRound numbers.new (Some test.now) None body.now r) }
 {
     let test = full(test, numbers)?;
@@ -171,7 +172,8 @@ fn round<'p>(
     numbers: &mut Numbers<'p>,
 ) -> Result<Round, NoMemory>
     ensures grows { OnOk result (Grows numbers.old numbers.new) }
-    ensures order { OnOk result (map (λ t. t.now) numbers.new.roots.items ≡ map (λ t. t.now) numbers.old.roots.items ++ (option_trees test.now ++ (option_trees step.now ++ body_trees body.now))) }
+    ensures order { OnOk result (map (λ t. t.now) numbers.new.roots.items ≡ map (λ t. t.now) numbers.old.roots.items ++
+        (option_trees test.now ++ (option_trees step.now ++ body_trees body.now))) }
     ensures round { IfOk result (λ r. IsRound numbers.new test.now step.now body.now r) }
 {
     let test = optional(test, numbers)?;

@@ -132,7 +132,8 @@ fn first_beside_bodies(
 
 /// The event, where it is ready and no body.
 fn beside(root: &Typed, event: Option<Place>, taken: &Taken, done: &Done) -> Option<Place>
-    ensures { nodes_of (tree_of root.now) < 2 ^ 32 → result ≡ first_place (is_free_beside (tree_of root.now) (taken_in taken.now) (done_in done.now)) (listed event) }
+    ensures { nodes_of (tree_of root.now) < 2 ^ 32 → result ≡ first_place (is_free_beside (tree_of root.now) (taken_in taken.now) (done_in done.now))
+        (listed event) }
 {
     let event = event?;
     if !is_body(event.kind) && is_free(root, event, taken, done) {
@@ -144,7 +145,8 @@ fn beside(root: &Typed, event: Option<Place>, taken: &Taken, done: &Done) -> Opt
 
 /// The first event of the node that is ready and no body.
 fn own_beside(root: &Typed, class: Class, node: u32, taken: &Taken, done: &Done) -> Option<Place>
-    ensures { nodes_of (tree_of root.now) < 2 ^ 32 → result ≡ first_place (is_free_beside (tree_of root.now) (taken_in taken.now) (done_in done.now)) (own_events node class) }
+    ensures { nodes_of (tree_of root.now) < 2 ^ 32 → result ≡ first_place (is_free_beside (tree_of root.now) (taken_in taken.now) (done_in done.now))
+        (own_events node class) }
 {
     let (first, second) = own_events(class, node);
     match beside(root, first, taken, done) {

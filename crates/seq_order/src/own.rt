@@ -81,7 +81,8 @@ pub fn own_hindrance(
     taken: &Taken,
     done: &Done,
 ) -> Option<Place>
-    ensures { size (tree_of root.now) < 2 ^ 32 → result ≡ first_place (hinders (tree_of root.now) (taken_in taken.now) (done_in done.now) p) (own_events node class) }
+    ensures { size (tree_of root.now) < 2 ^ 32 → result ≡ first_place (hinders (tree_of root.now) (taken_in taken.now) (done_in done.now) p)
+        (own_events node class) }
 {
     let (first, second) = own_events(class, node);
     match hindrance(root, first, p, taken, done) {

@@ -58,7 +58,8 @@ fn is_before(tree: &Typed, k: u32, u: Place, v: Place, taken: &Taken) -> bool
 /// u in an operand comes before the event of this kind of the root.
 #[cycle(value)]
 fn rises(tree: &Typed, k: u32, u: Place, kind: Kind, taken: &Taken) -> bool
-    ensures { k + size (tree_of tree.now) < 2 ^ 32 → result ≡ rises (taken_in taken.now) (class_in (tree_of tree.now)) (taken_in taken.now k) 0 (suc k) (operands (tree_of tree.now)) u kind }
+    ensures { k + size (tree_of tree.now) < 2 ^ 32 → result ≡ rises (taken_in taken.now) (class_in (tree_of tree.now)) (taken_in taken.now k) 0 (suc k)
+        (operands (tree_of tree.now)) u kind }
 {
     let Some(a) = locate(tree, k, u.node) else {
         return false;

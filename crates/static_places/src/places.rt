@@ -2,7 +2,8 @@
 ghost use Rattle.std.specs.Prelude.{◌≡◌, ◌*◌, slice_get};
 ghost use Rattle.c_typed.specs.declared.tree.Typed.{out-Typed};
 ghost use Rattle.static_places.specs.Preorder.{nodes_of};
-ghost use Rattle.static_places.specs.Fixed.{fixed_place, fixed_at, sought, constant_of, index_of, moved, indexed, stepped, size_of_base, magnitude, is_below, opposite, small_magnitude};
+ghost use Rattle.static_places.specs.Fixed.{fixed_place, fixed_at, sought, constant_of, index_of, moved, indexed, stepped, size_of_base, magnitude, is_below};
+ghost use Rattle.static_places.specs.Fixed.{opposite, small_magnitude};
 
 use crate::extents::{literal_size, slot_size};
 use c_typed::{Node, Program, Slot, Typed};

@@ -1,7 +1,8 @@
 // Objects whose address nothing takes.
 ghost use Rattle.std.specs.Prelude.{◌≡◌, map};
 ghost use Rattle.c_typed.specs.declared.tree.Slot.{Slot as SlotOf};
-ghost use Rattle.static_places.specs.Private.{same_slot, names_target, holds_address, some_holds, takes, takes_node, option_takes, body_takes, start_takes, block_takes, entry_takes, function_takes, static_holds, any_of, is_private, full_takes, defined_takes};
+ghost use Rattle.static_places.specs.Private.{same_slot, names_target, holds_address, some_holds, takes, takes_node, option_takes, body_takes, start_takes};
+ghost use Rattle.static_places.specs.Private.{block_takes, entry_takes, function_takes, static_holds, any_of, is_private, full_takes, defined_takes};
 
 use c_typed::{
     Block, Body, Constant, Content, Entry, ForStart, Function, Node, Program, Slot, Static, Target,

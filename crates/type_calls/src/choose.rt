@@ -65,7 +65,8 @@ fn with_arguments(
     designator: Typed,
     arguments: Vec<Operand>,
 ) -> Result<Items<Typed>, Refused>
-    ensures { Gives terms_of result (calls.operands (layouts tags.now) (term_of designator) variadic (params_of (map qualified_of params.now)) (map expression_of arguments.items)) }
+    ensures { Gives terms_of result (calls.operands (layouts tags.now) (term_of designator) variadic (params_of (map qualified_of params.now))
+        (map expression_of arguments.items)) }
 {
     let mut children = Items::new(alloc);
     children.push(designator)?;

@@ -1,5 +1,6 @@
 // Specifiers, declarators and static assertions, from their parts (6.7, 6.7.2 to 6.7.6, 6.7.8, 6.7.10).
-ghost use Rattle.std.specs.Prelude.{◌≡◌, ◌+◌, ◌<◌, ◌^◌, ◌<ℤ◌, ℤ, List, Bool, true, Option, Some, None, IfOk, MatchOption, map, not, ◌||◌, if◌then◌else◌, pos, int_le, reverse, drop};
+ghost use Rattle.std.specs.Prelude.{◌≡◌, ◌+◌, ◌<◌, ◌^◌, ◌<ℤ◌, ℤ, List, Bool, true, Option, Some, None, IfOk, MatchOption, map, not, ◌||◌, if◌then◌else◌, pos};
+ghost use Rattle.std.specs.Prelude.{int_le, reverse, drop};
 ghost use Rattle.std.specs.Option.{option_map, option_copied};
 ghost use Rattle.c_grammar.specs.Grammar as grammar;
 ghost use Rattle.c_lex.specs.declared.token.Word.{Word};
@@ -9,7 +10,8 @@ ghost use Rattle.typing_env.specs.Env.{Env, symbol_of};
 ghost use Rattle.typing_env.specs.Names.{meaning_in, meaning_of};
 ghost use Rattle.typing_env.specs.Seen.{SeenTag, tag_seen};
 ghost use Rattle.typing_words.specs.Tags as tags;
-ghost use Rattle.typing_words.specs.Words.{said, type_named, type_table, plain, plain_option, typedef_in, is_function_type, may_be_restricted, pointer_by, array_with, counted_array, function_with, is_lone_void};
+ghost use Rattle.typing_words.specs.Words.{said, type_named, type_table, plain, plain_option, typedef_in, is_function_type, may_be_restricted, pointer_by};
+ghost use Rattle.typing_words.specs.Words.{array_with, counted_array, function_with, is_lone_void};
 ghost use Rattle.typing_words.specs.Words as spec;
 ghost use Rattle.type_scope.specs.Known.{Naming, known_by, meaning_seen};
 ghost use Rattle.type_scope.specs.Reads.{Reads};
@@ -85,7 +87,8 @@ fn denoted(meaning: &Meaning) -> Option<&Qual>
 
 // The type that the identifier denotes, where it is a typedef name.
 fn typedef_named(state: &State, symbol: u32) -> Option<&Qual>
-    ensures { (n : Naming) → option_map qualified_of (option_copied result) ≡ typedef_in (option_map (meaning_seen n) (meaning_in (visible symbol state.now.names.ordinary))) }
+    ensures { (n : Naming) → option_map qualified_of (option_copied result) ≡ typedef_in
+        (option_map (meaning_seen n) (meaning_in (visible symbol state.now.names.ordinary))) }
 {
     match state.names.find(symbol) {
         Some(meaning) => denoted(meaning),
@@ -95,7 +98,8 @@ fn typedef_named(state: &State, symbol: u32) -> Option<&Qual>
 
 /// The type that a typedef name denotes (6.7.8p3).
 pub fn typedef_type(source: &Source<'_>, state: &State, name: u32) -> Result<Qual, TypeFault>
-    ensures { (n : Naming) (env : Env) → let here = known_by n source.now state.now env in Finds qualified_of (typedef_in (meaning_of here (symbol_of here name))) result }
+    ensures { (n : Naming) (env : Env) → let here = known_by n source.now state.now env in Finds qualified_of
+        (typedef_in (meaning_of here (symbol_of here name))) result }
 {
     match typedef_named(state, source.symbol(name)) {
         Some(qual) => copy(state, qual),
@@ -487,7 +491,9 @@ fn declare_parameter(
     qual: &Qual,
     register: bool,
 ) -> Result<(), TypeFault>
-    ensures reads { index < 2 ^ 32 → (n : Naming) (env : Env) → Reads (λ u. u) (spec.declare_parameter name index (qualified_of qual.now) register (known_by n source.now state.old env)) result (known_by n source.now state.new env) }
+    ensures reads { index < 2 ^ 32 → (n : Naming) (env : Env) → Reads (λ u. u)
+        (spec.declare_parameter name index (qualified_of qual.now) register (known_by n source.now state.old env)) result
+        (known_by n source.now state.new env) }
     ensures rest { state.new ≡ record state.old { names = state.new.names } }
 {
     match name {
@@ -515,7 +521,9 @@ pub fn parameter(
     index: usize,
     at: u32,
 ) -> Result<Qual, TypeFault>
-    ensures reads { index < 2 ^ 32 → (ws : spec.Words) → IsSaid words.now ws → (n : Naming) (env : Env) → Reads qualified_of (spec.parameter index ws param.name (qualified_of param.qual) (known_by n source.now state.old env)) result (known_by n source.now state.new env) }
+    ensures reads { index < 2 ^ 32 → (ws : spec.Words) → IsSaid words.now ws → (n : Naming) (env : Env) →
+        Reads qualified_of (spec.parameter index ws param.name (qualified_of param.qual) (known_by n source.now state.old env)) result
+        (known_by n source.now state.new env) }
     ensures rest { state.new ≡ record state.old { names = state.new.names } }
 {
     let Declared { name, qual } = param;
@@ -550,7 +558,8 @@ pub fn assertion(
     at: u32,
     message: u32,
 ) -> Result<(), TypeFault>
-    ensures { let count = strings_of (drop message source.now.list) in message + count < 2 ^ 32 → Finds (λ u. u) (literals.asserted number (literals.bytes_from source.now count message)) result }
+    ensures { let count = strings_of (drop message source.now.list) in message + count < 2 ^ 32 →
+        Finds (λ u. u) (literals.asserted number (literals.bytes_from source.now count message)) result }
 {
     if is_zero(number) {
         return Err(source.fault(at, Reason::AssertionFails));

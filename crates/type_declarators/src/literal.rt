@@ -106,8 +106,10 @@ pub fn strings(
     first: u32,
     count: u32,
 ) -> Result<Operand, TypeFault>
-    ensures reads { first + count < 2 ^ 32 → Finds expression_of (strings_as (length (state_literals state.old)) (line_in source.now.list (line_at source.now first)) (bytes_from source.now count first)) result }
-    ensures named { first + count < 2 ^ 32 → OnOk result ((bytes_at : ℕ → Option (List ℕ)) (names : List ℕ) (name : ℕ) → bytes_at name ≡ bytes_from source.now count first → HasLiterals bytes_at names state.old → HasLiterals bytes_at (names ++ name ∷ []) state.new) }
+    ensures reads { first + count < 2 ^ 32 → Finds expression_of (strings_as (length (state_literals state.old))
+        (line_in source.now.list (line_at source.now first)) (bytes_from source.now count first)) result }
+    ensures named { first + count < 2 ^ 32 → OnOk result ((bytes_at : ℕ → Option (List ℕ)) (names : List ℕ) (name : ℕ) →
+        bytes_at name ≡ bytes_from source.now count first → HasLiterals bytes_at names state.old → HasLiterals bytes_at (names ++ name ∷ []) state.new) }
     ensures rest { state.new ≡ record state.old { literals = state.new.literals } }
 {
     let bytes = literal_bytes(state.alloc, source, first, count)?;

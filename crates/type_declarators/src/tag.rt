@@ -1,5 +1,6 @@
 // Structures, unions and enumerations (6.7.2.1 to 6.7.2.3).
-ghost use Rattle.std.specs.Prelude.{◌≡◌, ◌≢◌, ℕ, ◌<◌, ◌==◌, ◌||◌, ◌∷◌, ◌++◌, [], List, length, map, slice_get, true, false, not, is_ok, if◌then◌else◌, Some, None, IfOk, IfErr, OnOk, OnErr};
+ghost use Rattle.std.specs.Prelude.{◌≡◌, ◌≢◌, ℕ, ◌<◌, ◌==◌, ◌||◌, ◌∷◌, ◌++◌, [], List, length, map, slice_get, true, false, not, is_ok, if◌then◌else◌, Some};
+ghost use Rattle.std.specs.Prelude.{None, IfOk, IfErr, OnOk, OnErr};
 ghost use Rattle.std.specs.Bool.{OnTrue, OnFalse};
 ghost use Rattle.std.specs.BTreeSet.{contains};
 ghost use Rattle.std.specs.Ordering.{nat_cmp};
@@ -82,7 +83,8 @@ fn declare_tag(
 ) -> Result<u32, NoMemory>
     ensures symbols { OnOk result ((t : TokenText) → HasSymbols t state.old → HasSymbols t state.new) }
     ensures constants { OnOk result (HasConstants state.old → HasConstants state.new) }
-    ensures known { IfOk result (λ number. (n : Naming) (env : Env) → spec.declare_tag at kind (known_by n source.now state.old env) ≡ Some (number, known_by n source.now state.new env)) }
+    ensures known { IfOk result (λ number. (n : Naming) (env : Env) →
+        spec.declare_tag at kind (known_by n source.now state.old env) ≡ Some (number, known_by n source.now state.new env)) }
     ensures rest { state.new ≡ record state.old { names = state.new.names; tags = state.new.tags; tag_rows = state.new.tag_rows } }
 {
     let number = new_tag(state, kind)?;
@@ -104,7 +106,8 @@ fn tag_or_new(
 ) -> Result<u32, TypeFault>
     ensures symbols { OnOk result ((t : TokenText) → HasSymbols t state.old → HasSymbols t state.new) }
     ensures constants { OnOk result (HasConstants state.old → HasConstants state.new) }
-    ensures reads { (n : Naming) (env : Env) → let k = known_by n source.now state.old env in Reads (λ number. number) (spec.tag_or_new at kind (tag_seen k here (symbol_of k at)) k) result (known_by n source.now state.new env) }
+    ensures reads { (n : Naming) (env : Env) → let k = known_by n source.now state.old env in Reads (λ number. number)
+        (spec.tag_or_new at kind (tag_seen k here (symbol_of k at)) k) result (known_by n source.now state.new env) }
     ensures rest { state.new ≡ record state.old { names = state.new.names; tags = state.new.tags; tag_rows = state.new.tag_rows } }
 {
     let symbol = source.symbol(at);
@@ -135,7 +138,8 @@ pub fn reference(
 ) -> Result<Ty, TypeFault>
     ensures symbols { OnOk result ((t : TokenText) → HasSymbols t state.old → HasSymbols t state.new) }
     ensures constants { OnOk result (HasConstants state.old → HasConstants state.new) }
-    ensures reads { (n : Naming) (env : Env) → Reads (λ ty. plain (type_of ty)) (spec.reference alone kind tag (known_by n source.now state.old env)) result (known_by n source.now state.new env) }
+    ensures reads { (n : Naming) (env : Env) → Reads (λ ty. plain (type_of ty)) (spec.reference alone kind tag (known_by n source.now state.old env)) result
+        (known_by n source.now state.new env) }
     ensures rest { state.new ≡ record state.old { names = state.new.names; tags = state.new.tags; tag_rows = state.new.tag_rows } }
 {
     match tag {
@@ -164,7 +168,8 @@ pub fn open(
 ) -> Result<u32, TypeFault>
     ensures symbols { OnOk result ((t : TokenText) → HasSymbols t state.old → HasSymbols t state.new) }
     ensures constants { OnOk result (HasConstants state.old → HasConstants state.new) }
-    ensures reads { (n : Naming) (env : Env) → Reads (λ number. number) (spec.open_tag kind tag (known_by n source.now state.old env)) result (known_by n source.now state.new env) }
+    ensures reads { (n : Naming) (env : Env) → Reads (λ number. number) (spec.open_tag kind tag (known_by n source.now state.old env)) result
+        (known_by n source.now state.new env) }
     ensures rest { state.new ≡ record state.old { names = state.new.names; tags = state.new.tags; tag_rows = state.new.tag_rows } }
 {
     match tag {
@@ -286,8 +291,11 @@ pub fn close(
     list: MemberList,
     at: u32,
 ) -> Result<Ty, TypeFault>
-    ensures reads { HasNames source.now (map seen.tag_seen state.old.tags) list → (n : Naming) (env : Env) → Reads (λ ty. plain (type_of ty)) (spec.close_tag kind number (map member_seen list.members) (known_by n source.now state.old env)) result (known_by n source.now state.new env) }
-    ensures symbols { OnOk result (HasNames source.now (map seen.tag_seen state.old.tags) list → HasSymbols source.now state.old → HasSymbols source.now state.new) }
+    ensures reads { HasNames source.now (map seen.tag_seen state.old.tags) list → (n : Naming) (env : Env) →
+        Reads (λ ty. plain (type_of ty)) (spec.close_tag kind number (map member_seen list.members) (known_by n source.now state.old env)) result
+        (known_by n source.now state.new env) }
+    ensures symbols { OnOk result (HasNames source.now (map seen.tag_seen state.old.tags) list → HasSymbols source.now state.old →
+        HasSymbols source.now state.new) }
     ensures constants { OnOk result (HasConstant (map seen.tag_seen state.old.tags) list → HasConstants state.old → HasConstants state.new) }
     ensures rest { state.new ≡ record state.old { tags = state.new.tags; tag_rows = state.new.tag_rows } }
 {
@@ -349,11 +357,19 @@ pub fn add_member(
     list: MemberList,
     at: u32,
 ) -> Result<MemberList, TypeFault>
-    ensures ok { IfOk result (λ l. (n : Naming) (env : Env) → IsAdded (spec.named_member member.name (qualified_of member.qual) (known_by n source.now state.now env)) (known_by n source.now state.now env) list.members l.members) }
-    ensures err { IfErr result (λ e. e ≢ fault.NoMemory → (n : Naming) (env : Env) → (at : ℕ) → member.name ≡ Some at → contains nat_cmp list.names (symbol_of (known_by n source.now state.now env) at) ≡ false → spec.named_member member.name (qualified_of member.qual) (known_by n source.now state.now env) ≡ None) }
-    ensures named { IfOk result (λ l. (at : ℕ) → member.name ≡ Some at → text_at source.now at ≢ [] → HasNames source.now (map seen.tag_seen state.now.tags) list → HasNames source.now (map seen.tag_seen state.now.tags) l) }
-    ensures constant { IfOk result (λ l. HasConstants state.now → HasConstant (map seen.tag_seen state.now.tags) list → HasConstant (map seen.tag_seen state.now.tags) l) }
-    ensures twice { IfErr result (λ e. e ≢ fault.NoMemory → (n : Naming) (env : Env) (at : ℕ) → member.name ≡ Some at → text_at source.now at ≢ [] → HasNames source.now (map seen.tag_seen state.now.tags) list → spec.named_member member.name (qualified_of member.qual) (known_by n source.now state.now env) ≢ None → IsClash (map seen.tag_seen state.now.tags) (map member_seen list.members) (record { name = text_at source.now at; qual = qualified_of member.qual })) }
+    ensures ok { IfOk result (λ l. (n : Naming) (env : Env) → IsAdded (spec.named_member member.name (qualified_of member.qual)
+        (known_by n source.now state.now env)) (known_by n source.now state.now env) list.members l.members) }
+    ensures err { IfErr result (λ e. e ≢ fault.NoMemory → (n : Naming) (env : Env) → (at : ℕ) → member.name ≡ Some at →
+        contains nat_cmp list.names (symbol_of (known_by n source.now state.now env) at) ≡ false →
+        spec.named_member member.name (qualified_of member.qual) (known_by n source.now state.now env) ≡ None) }
+    ensures named { IfOk result (λ l. (at : ℕ) → member.name ≡ Some at → text_at source.now at ≢ [] →
+        HasNames source.now (map seen.tag_seen state.now.tags) list → HasNames source.now (map seen.tag_seen state.now.tags) l) }
+    ensures constant { IfOk result (λ l. HasConstants state.now → HasConstant (map seen.tag_seen state.now.tags) list →
+        HasConstant (map seen.tag_seen state.now.tags) l) }
+    ensures twice { IfErr result (λ e. e ≢ fault.NoMemory → (n : Naming) (env : Env) (at : ℕ) → member.name ≡ Some at → text_at source.now at ≢ [] →
+        HasNames source.now (map seen.tag_seen state.now.tags) list → spec.named_member member.name (qualified_of member.qual)
+        (known_by n source.now state.now env) ≢ None → IsClash (map seen.tag_seen state.now.tags) (map member_seen list.members)
+        (record { name = text_at source.now at; qual = qualified_of member.qual })) }
 {
     let mut list = list;
     let Declared { name, qual } = member;
@@ -424,10 +440,15 @@ pub fn add_unnamed(
     list: MemberList,
     at: u32,
 ) -> Result<MemberList, TypeFault>
-    ensures ok { IfOk result (λ l. (n : Naming) (env : Env) → IsAdded (spec.unnamed_member (specs.now).base (qualified_of base) (known_by n source.now state.now env)) (known_by n source.now state.now env) list.members l.members) }
-    ensures named { IfOk result (λ l. HasSymbols source.now state.now → IsWhole (map seen.tag_seen state.now.tags) (qualified_of base).ty → HasNames source.now (map seen.tag_seen state.now.tags) list → HasNames source.now (map seen.tag_seen state.now.tags) l) }
-    ensures constant { IfOk result (λ l. HasConstants state.now → IsWhole (map seen.tag_seen state.now.tags) (qualified_of base).ty → HasConstant (map seen.tag_seen state.now.tags) list → HasConstant (map seen.tag_seen state.now.tags) l) }
-    ensures twice { IfErr result (λ e. e ≢ fault.NoMemory → spec.is_unnamed (specs.now).base ≡ true → HasSymbols source.now state.now → IsWhole (map seen.tag_seen state.now.tags) (qualified_of base).ty → HasNames source.now (map seen.tag_seen state.now.tags) list → IsClash (map seen.tag_seen state.now.tags) (map member_seen list.members) (record { name = []; qual = qualified_of base })) }
+    ensures ok { IfOk result (λ l. (n : Naming) (env : Env) → IsAdded (spec.unnamed_member (specs.now).base (qualified_of base)
+        (known_by n source.now state.now env)) (known_by n source.now state.now env) list.members l.members) }
+    ensures named { IfOk result (λ l. HasSymbols source.now state.now → IsWhole (map seen.tag_seen state.now.tags) (qualified_of base).ty →
+        HasNames source.now (map seen.tag_seen state.now.tags) list → HasNames source.now (map seen.tag_seen state.now.tags) l) }
+    ensures constant { IfOk result (λ l. HasConstants state.now → IsWhole (map seen.tag_seen state.now.tags) (qualified_of base).ty →
+        HasConstant (map seen.tag_seen state.now.tags) list → HasConstant (map seen.tag_seen state.now.tags) l) }
+    ensures twice { IfErr result (λ e. e ≢ fault.NoMemory → spec.is_unnamed (specs.now).base ≡ true → HasSymbols source.now state.now →
+        IsWhole (map seen.tag_seen state.now.tags) (qualified_of base).ty → HasNames source.now (map seen.tag_seen state.now.tags) list →
+        IsClash (map seen.tag_seen state.now.tags) (map member_seen list.members) (record { name = []; qual = qualified_of base })) }
 {
     let mut list = list;
     if !is_unnamed(specs) {
@@ -478,7 +499,8 @@ pub fn enumeration(
     tag: Option<u32>,
     at: u32,
 ) -> Result<Ty, TypeFault>
-    ensures { (n : Naming) (env : Env) → Reads (λ ty. plain (type_of ty)) (spec.enumeration_reference tag (known_by n source.now state.now env)) result (known_by n source.now state.now env) }
+    ensures { (n : Naming) (env : Env) → Reads (λ ty. plain (type_of ty)) (spec.enumeration_reference tag (known_by n source.now state.now env)) result
+        (known_by n source.now state.now env) }
 {
     match tag {
         None => Err(source.fault(at, Reason::TypeSpecifiers)),
@@ -488,7 +510,8 @@ pub fn enumeration(
 
 // The enumeration of this tag, which is complete.
 fn enumeration_named(source: &Source<'_>, state: &State, at: u32) -> Result<Ty, TypeFault>
-    ensures { (n : Naming) (env : Env) → Reads (λ ty. plain (type_of ty)) (spec.enumeration_reference (Some at) (known_by n source.now state.now env)) result (known_by n source.now state.now env) }
+    ensures { (n : Naming) (env : Env) → Reads (λ ty. plain (type_of ty)) (spec.enumeration_reference (Some at) (known_by n source.now state.now env)) result
+        (known_by n source.now state.now env) }
 {
     match state.names.find_tag(source.symbol(at), false) {
         Some(meaning) => match meaning {
@@ -520,7 +543,8 @@ fn name_enumeration(
     tag: Option<u32>,
     number: u32,
 ) -> Result<(), TypeFault>
-    ensures reads { (n : Naming) (env : Env) → Reads (λ u. u) (spec.name_enumeration tag number (known_by n source.now state.old env)) result (known_by n source.now state.new env) }
+    ensures reads { (n : Naming) (env : Env) → Reads (λ u. u) (spec.name_enumeration tag number (known_by n source.now state.old env)) result
+        (known_by n source.now state.new env) }
     ensures rest { state.new ≡ record state.old { names = state.new.names } }
 {
     let Some(tag) = tag else {
@@ -544,7 +568,8 @@ pub fn open_enumeration(
     state: &mut State,
     tag: Option<u32>,
 ) -> Result<u32, TypeFault>
-    ensures reads { (n : Naming) (env : Env) → Reads (λ number. number) (spec.open_enumeration tag (known_by n source.now state.old env)) result (known_by n source.now state.new env) }
+    ensures reads { (n : Naming) (env : Env) → Reads (λ number. number) (spec.open_enumeration tag (known_by n source.now state.old env)) result
+        (known_by n source.now state.new env) }
     ensures rest { state.new ≡ record state.old { names = state.new.names; enumerations = state.new.enumerations } }
 {
     let number = state.add_enumeration()?;
@@ -567,7 +592,8 @@ fn complete_enumeration(state: &mut State, number: u32)
 
 /// Ends it.
 pub fn close_enumeration(state: &mut State, number: u32) -> Ty
-    ensures known { (n : Naming) (t : TokenText) (env : Env) → spec.close_enumeration number (known_by n t state.old env) ≡ Some (plain (type_of result), known_by n t state.new env) }
+    ensures known { (n : Naming) (t : TokenText) (env : Env) →
+        spec.close_enumeration number (known_by n t state.old env) ≡ Some (plain (type_of result), known_by n t state.new env) }
     ensures rest { state.new ≡ record state.old { enumerations = state.new.enumerations } }
 {
     complete_enumeration(state, number);

@@ -4,7 +4,9 @@ ghost use Rattle.std.specs.Option.{option_map};
 ghost use Rattle.c_types.specs.Types.{int, type_of};
 ghost use Rattle.c_lex.specs.declared.token.Word.{Word};
 ghost use Rattle.typing_words.specs.Words.{role, is_no_word, said, type_named, type_table, pointer_by};
-ghost use Rattle.type_declarators.specs.Keywords.{added, all_added, with_type, is_type_role, stored, is_refused, none_held, Says, AreCounted, left_out, are_same, named_by, character_rows, short_rows, int_rows, long_rows, long_long_rows, integer_rows, kind_rows, truth_rows, pointer_from, part_of};
+ghost use Rattle.type_declarators.specs.Keywords.{added, all_added, with_type, is_type_role, stored, is_refused, none_held, Says, AreCounted, left_out};
+ghost use Rattle.type_declarators.specs.Keywords.{are_same, named_by, character_rows, short_rows, int_rows, long_rows, long_long_rows, integer_rows, kind_rows};
+ghost use Rattle.type_declarators.specs.Keywords.{truth_rows, pointer_from, part_of};
 
 use c_lex::Word;
 use c_types::{IntKind, Ty};

@@ -40,7 +40,8 @@ use ub_base::NoMemory;
 
 // An object with static storage is used (6.9p3).
 fn note_object(state: &mut State, slot: Slot, qual: &Qual, line: u32)
-    ensures { (n : Namings) (t : TokenText) (off : Bool) (before : List Use) (env : Env) → Tells n t off before state.old env → Tells n t off before state.new (spec.using (spec.use_of_object (slot_seen n.objects slot) (qualified_of qual.now).ty) env) }
+    ensures { (n : Namings) (t : TokenText) (off : Bool) (before : List Use) (env : Env) → Tells n t off before state.old env →
+        Tells n t off before state.new (spec.using (spec.use_of_object (slot_seen n.objects slot) (qualified_of qual.now).ty) env) }
 {
     match slot {
         Slot::Static(number) => state.use_object(number, &qual.ty, line),
@@ -56,8 +57,10 @@ fn object_operand(
     register: bool,
     line: u32,
 ) -> Result<Operand, TypeFault>
-    ensures told { (n : Namings) (t : TokenText) (off : Bool) (before : List Use) (env : Env) → Tells n t off before state.old env → Tells n t off before state.new (spec.using (spec.use_of_object (slot_seen n.objects slot) (qualified_of qual).ty) env) }
-    ensures made { (n : Namings) → let q = qualified_of qual in Finds (operand_seen n) (Some (as_place register (leaf_term (shape.Obj (slot_seen n.objects slot)) (pointer q.constant q.ty) line))) result }
+    ensures told { (n : Namings) (t : TokenText) (off : Bool) (before : List Use) (env : Env) → Tells n t off before state.old env →
+        Tells n t off before state.new (spec.using (spec.use_of_object (slot_seen n.objects slot) (qualified_of qual).ty) env) }
+    ensures made { (n : Namings) → let q = qualified_of qual in Finds (operand_seen n)
+        (Some (as_place register (leaf_term (shape.Obj (slot_seen n.objects slot)) (pointer q.constant q.ty) line))) result }
 {
     note_object(state, slot, &qual, line);
     let ty = Ty::Pointer(Shared::new(state.alloc, qual)?);
@@ -66,8 +69,10 @@ fn object_operand(
 
 // A function, which is used (6.9p3).
 fn function_operand(state: &mut State, number: u32, ty: Ty, line: u32) -> Result<Operand, TypeFault>
-    ensures told { (n : Namings) (t : TokenText) (off : Bool) (before : List Use) (env : Env) → Tells n t off before state.old env → Tells n t off before state.new (spec.using (spec.use_of_function number) env) }
-    ensures made { (n : Namings) → Finds (operand_seen n) (Some (record { tree = leaf_term (shape.Func number) (pointer false (type_of ty)) line; form = form.Designator; line = line })) result }
+    ensures told { (n : Namings) (t : TokenText) (off : Bool) (before : List Use) (env : Env) → Tells n t off before state.old env →
+        Tells n t off before state.new (spec.using (spec.use_of_function number) env) }
+    ensures made { (n : Namings) → Finds (operand_seen n) (Some (record
+        { tree = leaf_term (shape.Func number) (pointer false (type_of ty)) line; form = form.Designator; line = line })) result }
 {
     state.use_function(number, line);
     let target = Qual {
@@ -117,7 +122,8 @@ fn copied_meaning(alloc: Global, meaning: &Meaning) -> Result<NameMeaning, NoMem
 /// An identifier: an object, a function or an enumeration constant that is in scope (6.5.1p2, 6.7.2.2p3).
 #[inline(never)]
 pub fn named(source: &Source<'_>, state: &mut State, at: u32) -> Result<Operand, TypeFault>
-    ensures operand { (n : Namings) (env : Env) → Follows (operand_seen n) (λ _. Unit {0}) (spec.named at (known_by n.objects source.now state.old env)) result }
+    ensures operand { (n : Namings) (env : Env) → Follows (operand_seen n) (λ _. Unit {0})
+        (spec.named at (known_by n.objects source.now state.old env)) result }
     ensures reads { ReadsAs operand_seen source.now state.old state.new (λ _. spec.named at) result }
 {
     let line = source.line(at);
@@ -177,7 +183,8 @@ pub fn unary(state: &State, op: UnaryOp, a: Operand, line: u32) -> Result<Operan
 
 // Of one added or taken away.
 fn step_of(op: PostOp) -> BinOp
-    ensures { (x : Expression) (tags : Layouts) (consts : ℕ → Bool) (line : ℕ) → spec.postfix op x tags consts line ≡ assignments.incremented tags consts result x line }
+    ensures { (x : Expression) (tags : Layouts) (consts : ℕ → Bool) (line : ℕ) →
+        spec.postfix op x tags consts line ≡ assignments.incremented tags consts result x line }
 {
     match op {
         PostOp::Increment => BinOp::Add,
@@ -288,7 +295,8 @@ pub fn binary(
 }
 
 fn operator_of(op: AssignOp) -> Option<BinOp>
-    ensures { (x y : Expression) (tags : Layouts) (consts : ℕ → Bool) (line : ℕ) → spec.assigned op x y tags consts line ≡ assigned_by result x y tags consts line }
+    ensures { (x y : Expression) (tags : Layouts) (consts : ℕ → Bool) (line : ℕ) →
+        spec.assigned op x y tags consts line ≡ assigned_by result x y tags consts line }
 {
     match op {
         AssignOp::Plain => None,
@@ -347,7 +355,8 @@ pub fn assignment(
     b: Operand,
     line: u32,
 ) -> Result<Operand, TypeFault>
-    ensures { (n : Namings) → Finds (operand_seen n) (spec.assigned op (operand_seen n a) (operand_seen n b) (layouts_in state.now) (has_constant state.now) line) result }
+    ensures { (n : Namings) → Finds (operand_seen n) (spec.assigned op (operand_seen n a) (operand_seen n b) (layouts_in state.now)
+        (has_constant state.now) line) result }
 {
     let made = assignment_made(state, operator_of(op), a, b, line);
     placed_unless(line, Reason::NotModifiable, assignment_reason(op), made)
@@ -362,7 +371,8 @@ pub fn conditional(
     c: Operand,
     line: u32,
 ) -> Result<Operand, TypeFault>
-    ensures { (n : Namings) → Finds (operand_seen n) (choices.chosen (layouts_in state.now) (operand_seen n a) (operand_seen n b) (operand_seen n c) line) result }
+    ensures { (n : Namings) → Finds (operand_seen n) (choices.chosen (layouts_in state.now) (operand_seen n a) (operand_seen n b)
+        (operand_seen n c) line) result }
 {
     let reason = if is_void(&a) {
         Reason::ConditionalTest
@@ -390,7 +400,8 @@ pub fn call(
     arguments: Vec<Operand>,
     line: u32,
 ) -> Result<Operand, TypeFault>
-    ensures { (n : Namings) → Finds (operand_seen n) (calls.called (layouts_in state.now) (operand_seen n designator) (map (operand_seen n) arguments.items) line) result }
+    ensures { (n : Namings) → Finds (operand_seen n) (calls.called (layouts_in state.now) (operand_seen n designator)
+        (map (operand_seen n) arguments.items) line) result }
 {
     let reason = if is_void(&designator) {
         Reason::CalledType
@@ -459,7 +470,8 @@ fn operand_type(a: &Operand) -> Option<&Ty>
 /// `sizeof E`: of a complete object type (6.5.3.4p1).
 #[inline(never)]
 pub fn size_of_operand(state: &State, a: Operand, line: u32) -> Result<Operand, TypeFault>
-    ensures { (n : Namings) → let ty = spec.operand_type (operand_seen n a).form (type_at (operand_seen n a).tree) in Finds (operand_seen n) (measured_by line (λ e. e.size) (if_found ty (extent_of state.now))) result }
+    ensures { (n : Namings) → let ty = spec.operand_type (operand_seen n a).form (type_at (operand_seen n a).tree) in Finds (operand_seen n)
+        (measured_by line (λ e. e.size) (if_found ty (extent_of state.now))) result }
 {
     match operand_type(&a) {
         Some(ty) => size_of_type(state, ty, line),
@@ -541,7 +553,8 @@ pub fn enumeration_constant(
     value: Option<i128>,
     before: Option<i32>,
 ) -> Result<i32, TypeFault>
-    ensures reads { (n : Naming) (env : Env) → Reads (λ z. z) (spec.enumerated at value before (known_by n source.now state.old env)) result (known_by n source.now state.new env) }
+    ensures reads { (n : Naming) (env : Env) → Reads (λ z. z) (spec.enumerated at value before (known_by n source.now state.old env)) result
+        (known_by n source.now state.new env) }
     ensures rest { state.new ≡ record state.old { names = state.new.names } }
 {
     let Some(number) = enumerator(value, before) else {

@@ -1,7 +1,8 @@
 // Whether a type is within the limits.
 ghost use Rattle.std.specs.Prelude.{◌≡◌, ◌≤◌, ◌↔◌, IsTrue, map};
 ghost use Rattle.c_types.specs.Types.{type_of, qualified_of, signature_of, params_of};
-ghost use Rattle.type_limits.specs.Limits.{height_limit, parts_limit, is_within, IsWithin, TestTells, one_less, room_behind, room_behind_all, room_behind_function, found};
+ghost use Rattle.type_limits.specs.Limits.{height_limit, parts_limit, is_within, IsWithin, TestTells, one_less, room_behind, room_behind_all};
+ghost use Rattle.type_limits.specs.Limits.{room_behind_function, found};
 
 use c_types::{FuncTy, Qual, Ty};
 

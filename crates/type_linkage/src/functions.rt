@@ -90,8 +90,10 @@ fn new_row(
 
 fn add_function(state: &mut State, row: FunctionRow) -> Result<u32, NoMemory>
     ensures number { IfOk result (λ number. number ≡ vec_len state.old.functions) }
-    ensures known { OnOk result ((n : Naming) (t : TokenText) (env : Env) → known_by n t state.new env ≡ names.with_function (routine_seen row) (known_by n t state.old env)) }
-    ensures uses { OnOk result (row.used ≡ None → (n : Naming) (us : List Use) → is_used (target.Function (vec_len state.old.functions)) us ≡ false → HasUses n state.old us → HasUses n state.new us) }
+    ensures known { OnOk result ((n : Naming) (t : TokenText) (env : Env) →
+        known_by n t state.new env ≡ names.with_function (routine_seen row) (known_by n t state.old env)) }
+    ensures uses { OnOk result (row.used ≡ None → (n : Naming) (us : List Use) → is_used (target.Function (vec_len state.old.functions)) us ≡ false →
+        HasUses n state.old us → HasUses n state.new us) }
     ensures rest { state.new ≡ record state.old { functions = state.new.functions } }
 {
     let Ok(number) = u32::try_from(state.functions.len()) else {
@@ -110,8 +112,11 @@ fn new_function(
     library: Option<LibFunc>,
 ) -> Result<u32, NoMemory>
     ensures number { IfOk result (λ number. number ≡ vec_len state.old.functions) }
-    ensures known { IfOk result (λ number. (n : Naming) (t : TokenText) (env : Env) → known_by n t state.new env ≡ names.with_link symbol internal (target.Function number) (qualified_of qual.now) (names.with_function (names.new_function (signature_of ty.now) library) (known_by n t state.old env))) }
-    ensures uses { OnOk result ((n : Naming) (us : List Use) → is_used (target.Function (vec_len state.old.functions)) us ≡ false → HasUses n state.old us → HasUses n state.new us) }
+    ensures known { IfOk result (λ number. (n : Naming) (t : TokenText) (env : Env) → known_by n t state.new env ≡ names.with_link symbol internal
+        (target.Function number) (qualified_of qual.now)
+        (names.with_function (names.new_function (signature_of ty.now) library) (known_by n t state.old env))) }
+    ensures uses { OnOk result ((n : Naming) (us : List Use) → is_used (target.Function (vec_len state.old.functions)) us ≡ false → HasUses n state.old us →
+        HasUses n state.new us) }
     ensures rest { state.new ≡ record state.old { linked = state.new.linked; functions = state.new.functions } }
 {
     let row = new_row(state.alloc, ty, internal, library)?;
@@ -146,7 +151,8 @@ fn join_row(alloc: Global, row: &mut FunctionRow, ty: &FuncTy) -> Result<(), NoM
 fn join_function(state: &mut State, number: u32, ty: &FuncTy) -> Result<(), NoMemory>
     ensures uses { OnOk result ((n : Naming) (us : List Use) → HasUses n state.old us → HasUses n state.new us) }
     ensures rest { state.new ≡ record state.old { functions = state.new.functions } }
-    ensures known { OnOk result ((n : Naming) (t : TokenText) (env : Env) → known_by n t state.new env ≡ names.changing_function number (names.further_type (signature_of ty.now)) (known_by n t state.old env)) }
+    ensures known { OnOk result ((n : Naming) (t : TokenText) (env : Env) →
+        known_by n t state.new env ≡ names.changing_function number (names.further_type (signature_of ty.now)) (known_by n t state.old env)) }
 {
     let alloc = state.alloc;
     match state.functions.get_mut(number as usize) {
@@ -165,7 +171,8 @@ fn further_function(
 ) -> Result<(), NoMemory>
     ensures uses { OnOk result ((n : Naming) (us : List Use) → HasUses n state.old us → HasUses n state.new us) }
     ensures rest { state.new ≡ record state.old { linked = state.new.linked; functions = state.new.functions } }
-    ensures known { OnOk result ((n : Naming) (t : TokenText) (env : Env) → known_by n t state.new env ≡ names.changing_function number (names.further_type (signature_of ty.now)) (names.with_further symbol (qualified_of qual.now) (known_by n t state.old env))) }
+    ensures known { OnOk result ((n : Naming) (t : TokenText) (env : Env) → known_by n t state.new env ≡ names.changing_function number
+        (names.further_type (signature_of ty.now)) (names.with_further symbol (qualified_of qual.now) (known_by n t state.old env))) }
 {
     note_type(state, symbol, qual)?;
     join_function(state, number, ty)
@@ -173,7 +180,8 @@ fn further_function(
 
 fn bind_function(state: &mut State, symbol: u32, number: u32, seen: Qual) -> Result<(), NoMemory>
     ensures rest { state.new ≡ record state.old { names = state.new.names } }
-    ensures known { OnOk result ((n : Naming) (t : TokenText) (env : Env) → known_by n t state.new env ≡ names.bound symbol (a_function number (qualified_of seen).ty) (known_by n t state.old env)) }
+    ensures known { OnOk result ((n : Naming) (t : TokenText) (env : Env) →
+        known_by n t state.new env ≡ names.bound symbol (a_function number (qualified_of seen).ty) (known_by n t state.old env)) }
 {
     let meaning = Meaning::Function {
         number,
@@ -191,9 +199,14 @@ fn function_number(
     linkage: Linkage,
     library: Option<LibFunc>,
 ) -> Result<u32, TypeFault>
-    ensures uses { OnOk result ((n : Naming) (us : List Use) → is_used (target.Function (vec_len state.old.functions)) us ≡ false → HasUses n state.old us → HasUses n state.new us) }
+    ensures uses { OnOk result ((n : Naming) (us : List Use) → is_used (target.Function (vec_len state.old.functions)) us ≡ false → HasUses n state.old us →
+        HasUses n state.new us) }
     ensures rest { state.new ≡ record state.old { names = state.new.names; linked = state.new.linked; functions = state.new.functions } }
-    ensures reads { (n : Naming) → IsOneToOne n → (env : Env) → library ≡ names.library_of (names.is_internal (given_of linkage) (option_map (linked_seen n) (prior_in state.old (symbol_in source.now (slice_get source.now.list at))))) (text_at source.now at) → names.fits_library (signature_of ty.now) library ≡ true → Reads (λ number. number) (names.declare_function at (signature_of ty.now) (given_of linkage) (known_by n source.now state.old env)) result (known_by n source.now state.new env) }
+    ensures reads { (n : Naming) → IsOneToOne n → (env : Env) → library ≡ names.library_of
+        (names.is_internal (given_of linkage) (option_map (linked_seen n) (prior_in state.old (symbol_in source.now (slice_get source.now.list at)))))
+        (text_at source.now at) → names.fits_library (signature_of ty.now) library ≡ true →
+        Reads (λ number. number) (names.declare_function at (signature_of ty.now) (given_of linkage) (known_by n source.now state.old env)) result
+        (known_by n source.now state.new env) }
 {
     let qual = function_qual(state.alloc, ty)?;
     let found = match redeclared(state, source, at, &qual, linkage) {
@@ -226,9 +239,11 @@ pub fn declare_function(
     ty: FuncTy,
     linkage: Linkage,
 ) -> Result<u32, TypeFault>
-    ensures uses { OnOk result ((n : Naming) (us : List Use) → is_used (target.Function (vec_len state.old.functions)) us ≡ false → HasUses n state.old us → HasUses n state.new us) }
+    ensures uses { OnOk result ((n : Naming) (us : List Use) → is_used (target.Function (vec_len state.old.functions)) us ≡ false → HasUses n state.old us →
+        HasUses n state.new us) }
     ensures rest { state.new ≡ record state.old { names = state.new.names; linked = state.new.linked; functions = state.new.functions } }
-    ensures reads { (n : Naming) → IsOneToOne n → (env : Env) → Reads (λ number. number) (names.declare_function at (signature_of ty) (given_of linkage) (known_by n source.now state.old env)) result (known_by n source.now state.new env) }
+    ensures reads { (n : Naming) → IsOneToOne n → (env : Env) → Reads (λ number. number)
+        (names.declare_function at (signature_of ty) (given_of linkage) (known_by n source.now state.old env)) result (known_by n source.now state.new env) }
 {
     let internal = is_internal(linkage, prior(state, source.symbol(at)));
     let library = library_of(source.spelling(at), internal);

@@ -12,7 +12,8 @@ ghost use Rattle.typing_env.specs.Names.{meaning_in};
 ghost use Rattle.type_scope.specs.Known.{Naming, known_by, meaning_seen, linked_seen, target_seen};
 ghost use Rattle.type_scope.specs.Reads.{Reads};
 ghost use Rattle.type_scope.specs.Objects.{IsOneToOne};
-ghost use Rattle.type_linkage.specs.Linkage.{given_of, held_target, target_held, if_held, entity_in, prior_in, redeclared_seen, function_qualified, signature_in, one_more_type};
+ghost use Rattle.type_linkage.specs.Linkage.{given_of, held_target, target_held, if_held, entity_in, prior_in, redeclared_seen, function_qualified};
+ghost use Rattle.type_linkage.specs.Linkage.{signature_in, one_more_type};
 
 use c_typed::{Slot, Target};
 use c_types::{
@@ -239,7 +240,8 @@ pub fn is_known(found: Option<&Linked>) -> bool
 
 // Whether no declaration of this scope stands in its way (6.7p3).
 fn may_redeclare(state: &State, symbol: u32, prior: Option<&Linked>) -> bool
-    ensures { result ≡ (not (is_some (meaning_in (at_depth state.now.names.depth (visible symbol state.now.names.ordinary)))) || is_some (option_copied prior.entry)) }
+    ensures { result ≡ (not (is_some (meaning_in (at_depth state.now.names.depth (visible symbol state.now.names.ordinary)))) || is_some
+        (option_copied prior.entry)) }
 {
     !state.is_taken(symbol) || is_known(prior)
 }
@@ -256,7 +258,8 @@ fn agrees(qual: &Qual, entity: Option<&Linked>) -> bool
 
 // The composite with the type of a meaning.
 fn composite_with(alloc: Global, qual: &Qual, meaning: Option<&Meaning>) -> Result<Qual, NoMemory>
-    ensures { (n : Naming) → IfOk result (λ q. qualified_of q ≡ names.composite_with (qualified_of qual.now) (names.type_visible (option_map (meaning_seen n) (option_copied meaning.entry)))) }
+    ensures { (n : Naming) → IfOk result (λ q. qualified_of q ≡ names.composite_with (qualified_of qual.now)
+        (names.type_visible (option_map (meaning_seen n) (option_copied meaning.entry)))) }
 {
     match meaning {
         Some(
@@ -277,7 +280,8 @@ fn composite_with(alloc: Global, qual: &Qual, meaning: Option<&Meaning>) -> Resu
 // The type that the identifier has from here on: the composite with that of the visible declaration, where that has linkage
 // (6.2.7p4).
 fn type_seen(state: &State, symbol: u32, qual: &Qual, linked: bool) -> Result<Qual, NoMemory>
-    ensures { (n : Naming) → IfOk result (λ q. qualified_of q ≡ names.type_seen (qualified_of qual.now) (option_map (meaning_seen n) (meaning_in (visible symbol state.now.names.ordinary))) linked) }
+    ensures { (n : Naming) → IfOk result (λ q. qualified_of q ≡ names.type_seen (qualified_of qual.now)
+        (option_map (meaning_seen n) (meaning_in (visible symbol state.now.names.ordinary))) linked) }
 {
     if linked {
         composite_with(state.alloc, qual, state.names.find(symbol))
@@ -319,7 +323,8 @@ fn known_target(state: &State, symbol: u32) -> Option<Target>
 
 // Which rule a declaration of this type breaks, if it breaks one.
 fn broken_rule(state: &State, symbol: u32, qual: &Qual, linkage: Linkage) -> Option<Reason>
-    ensures { (n : Naming) → IsOneToOne n → (t : TokenText) (env : Env) → is_some result ≡ not (names.may_stand (qualified_of qual.now) (given_of linkage) symbol (known_by n t state.now env)) }
+    ensures { (n : Naming) → IsOneToOne n → (t : TokenText) (env : Env) →
+        is_some result ≡ not (names.may_stand (qualified_of qual.now) (given_of linkage) symbol (known_by n t state.now env)) }
 {
     let prior = prior(state, symbol);
     let entity = entity(state, symbol);
@@ -342,9 +347,11 @@ pub fn redeclared(
     qual: &Qual,
     linkage: Linkage,
 ) -> Result<Found, TypeFault>
-    ensures reads { (n : Naming) → IsOneToOne n → (env : Env) → Reads (redeclared_seen n state.now) (names.redeclared at (qualified_of qual.now) (given_of linkage) (known_by n source.now state.now env)) result (known_by n source.now state.now env) }
+    ensures reads { (n : Naming) → IsOneToOne n → (env : Env) → Reads (redeclared_seen n state.now)
+        (names.redeclared at (qualified_of qual.now) (given_of linkage) (known_by n source.now state.now env)) result (known_by n source.now state.now env) }
     ensures symbol { IfOk result (λ r. r.symbol ≡ symbol_in source.now (slice_get source.now.list at)) }
-    ensures internal { (n : Naming) → IfOk result (λ r. r.internal ≡ names.is_internal (given_of linkage) (option_map (linked_seen n) (prior_in state.now r.symbol))) }
+    ensures internal { (n : Naming) → IfOk result (λ r. r.internal ≡ names.is_internal (given_of linkage)
+        (option_map (linked_seen n) (prior_in state.now r.symbol))) }
     ensures target { IfOk result (λ r. r.target ≡ option_map (λ l. l.target) (entity_in state.now r.symbol)) }
 {
     let symbol = source.symbol(at);
@@ -380,7 +387,8 @@ fn further_row(alloc: Global, known: &Linked, qual: &Qual) -> Result<Option<Link
 
 // Notes the type of a further declaration of the identifier.
 pub fn note_type(state: &mut State, symbol: u32, qual: &Qual) -> Result<(), NoMemory>
-    ensures known { OnOk result ((n : Naming) (t : TokenText) (env : Env) → known_by n t state.new env ≡ names.with_further symbol (qualified_of qual.now) (known_by n t state.old env)) }
+    ensures known { OnOk result ((n : Naming) (t : TokenText) (env : Env) →
+        known_by n t state.new env ≡ names.with_further symbol (qualified_of qual.now) (known_by n t state.old env)) }
     ensures rest { state.new ≡ record state.old { linked = state.new.linked } }
 {
     let Some(known) = entity(state, symbol) else {
@@ -401,7 +409,8 @@ pub fn link(
     internal: bool,
     qual: &Qual,
 ) -> Result<(), NoMemory>
-    ensures known { OnOk result ((n : Naming) (t : TokenText) (env : Env) → known_by n t state.new env ≡ names.with_link symbol internal (target_seen n target) (qualified_of qual.now) (known_by n t state.old env)) }
+    ensures known { OnOk result ((n : Naming) (t : TokenText) (env : Env) →
+        known_by n t state.new env ≡ names.with_link symbol internal (target_seen n target) (qualified_of qual.now) (known_by n t state.old env)) }
     ensures rest { state.new ≡ record state.old { linked = state.new.linked } }
 {
     let alloc = state.alloc;
@@ -417,7 +426,8 @@ pub fn link(
 
 // Declares the identifier in this scope, or gives the declaration there this meaning.
 pub fn bind(state: &mut State, symbol: u32, meaning: Meaning) -> Result<(), NoMemory>
-    ensures known { OnOk result ((n : Naming) (t : TokenText) (env : Env) → known_by n t state.new env ≡ names.bound symbol (meaning_seen n meaning) (known_by n t state.old env)) }
+    ensures known { OnOk result ((n : Naming) (t : TokenText) (env : Env) →
+        known_by n t state.new env ≡ names.bound symbol (meaning_seen n meaning) (known_by n t state.old env)) }
     ensures rest { state.new ≡ record state.old { names = state.new.names } }
 {
     if state.is_taken(symbol) {

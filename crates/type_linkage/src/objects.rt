@@ -46,16 +46,22 @@ fn put_object_type(state: &mut State, number: u32, qual: Qual)
 // Gives the object this type.
 fn set_object_type(state: &mut State, number: u32, qual: Qual)
     ensures rest { state.new ≡ record state.old { objects = state.new.objects } }
-    ensures rows { (n : Naming) → IsOneToOne n → (env : Env) → HasObjects n state.old env → HasObjects n state.new (names.changing_object (n number) (λ o. record o { qual = qualified_of qual }) env) }
+    ensures rows { (n : Naming) → IsOneToOne n → (env : Env) → HasObjects n state.old env →
+        HasObjects n state.new (names.changing_object (n number) (λ o. record o { qual = qualified_of qual }) env) }
     ensures uses { (n : Naming) (us : List Use) → HasUses n state.old us → HasUses n state.new us }
 {
     put_object_type(state, number, qual);
 }
 
 fn new_object(state: &mut State, symbol: u32, qual: &Qual, internal: bool) -> Result<u32, NoMemory>
-    ensures known { IfOk result (λ number. (n : Naming) (t : TokenText) (env : Env) → known_by n t state.new env ≡ names.with_link symbol internal (target_seen n (target.Static number)) (qualified_of qual.now) (known_by n t state.old env)) }
-    ensures rows { IfOk result (λ number. (n : Naming) → IsOneToOne n → (env : Env) (at : ℕ) → HasObjects n state.old env → names.object_named at env.objects ≡ None → n number ≡ at → HasObjects n state.new (names.with_object (names.new_object at (qualified_of qual.now)) env)) }
-    ensures uses { IfOk result (λ number. (n : Naming) (us : List Use) → HasPlaces state.old → is_used (target.Static (n number)) us ≡ false → HasUses n state.old us → HasUses n state.new us) }
+    ensures known { IfOk result (λ number. (n : Naming) (t : TokenText) (env : Env) →
+        known_by n t state.new env ≡ names.with_link symbol internal (target_seen n (target.Static number)) (qualified_of qual.now)
+        (known_by n t state.old env)) }
+    ensures rows { IfOk result (λ number. (n : Naming) → IsOneToOne n → (env : Env) (at : ℕ) → HasObjects n state.old env →
+        names.object_named at env.objects ≡ None → n number ≡ at →
+        HasObjects n state.new (names.with_object (names.new_object at (qualified_of qual.now)) env)) }
+    ensures uses { IfOk result (λ number. (n : Naming) (us : List Use) → HasPlaces state.old → is_used (target.Static (n number)) us ≡ false →
+        HasUses n state.old us → HasUses n state.new us) }
     ensures rest { state.new ≡ record state.old { linked = state.new.linked; objects = state.new.objects; declared = state.new.declared } }
 {
     let alloc = state.alloc;
@@ -72,8 +78,10 @@ fn further_object(
     qual: &Qual,
     seen: &Qual,
 ) -> Result<(), NoMemory>
-    ensures known { OnOk result ((n : Naming) (t : TokenText) (env : Env) → known_by n t state.new env ≡ names.with_further symbol (qualified_of qual.now) (known_by n t state.old env)) }
-    ensures rows { OnOk result ((n : Naming) → IsOneToOne n → (env : Env) → env.depth ≡ state.old.names.depth → HasObjects n state.old env → HasObjects n state.new (names.file_type (n number) (qualified_of seen.now) env)) }
+    ensures known { OnOk result ((n : Naming) (t : TokenText) (env : Env) →
+        known_by n t state.new env ≡ names.with_further symbol (qualified_of qual.now) (known_by n t state.old env)) }
+    ensures rows { OnOk result ((n : Naming) → IsOneToOne n → (env : Env) → env.depth ≡ state.old.names.depth → HasObjects n state.old env →
+        HasObjects n state.new (names.file_type (n number) (qualified_of seen.now) env)) }
     ensures uses { OnOk result ((n : Naming) (us : List Use) → HasUses n state.old us → HasUses n state.new us) }
     ensures rest { state.new ≡ record state.old { linked = state.new.linked; objects = state.new.objects } }
 {
@@ -86,7 +94,8 @@ fn further_object(
 }
 
 fn bind_object(state: &mut State, symbol: u32, number: u32, seen: Qual) -> Result<(), NoMemory>
-    ensures known { OnOk result ((n : Naming) (t : TokenText) (env : Env) → known_by n t state.new env ≡ names.bound symbol (an_object (slot.Static (n number)) (qualified_of seen) false) (known_by n t state.old env)) }
+    ensures known { OnOk result ((n : Naming) (t : TokenText) (env : Env) →
+        known_by n t state.new env ≡ names.bound symbol (an_object (slot.Static (n number)) (qualified_of seen) false) (known_by n t state.old env)) }
     ensures rest { state.new ≡ record state.old { names = state.new.names } }
 {
     let meaning = Meaning::Object {
@@ -105,9 +114,13 @@ fn object_number(
     qual: &Qual,
     linkage: Linkage,
 ) -> Result<u32, TypeFault>
-    ensures reads { (n : Naming) → IsOneToOne n → IsNamed n source.now at state.old result → (env : Env) → IsKnown n source.now state.old env → Follows n (IsKnown n source.now state.new) (names.declare_object at (qualified_of qual.now) (given_of linkage) env) result }
-    ensures rows { (n : Naming) → IsOneToOne n → IsNamed n source.now at state.old result → (env : Env) → IsKnown n source.now state.old env → HasObjects n state.old env → names.object_named at env.objects ≡ None → Follows n (HasObjects n state.new) (names.declare_object at (qualified_of qual.now) (given_of linkage) env) result }
-    ensures uses { OnOk result ((n : Naming) → IsNamed n source.now at state.old result → (us : List Use) → HasPlaces state.old → is_used (target.Static at) us ≡ false → HasUses n state.old us → HasUses n state.new us) }
+    ensures reads { (n : Naming) → IsOneToOne n → IsNamed n source.now at state.old result → (env : Env) → IsKnown n source.now state.old env →
+        Follows n (IsKnown n source.now state.new) (names.declare_object at (qualified_of qual.now) (given_of linkage) env) result }
+    ensures rows { (n : Naming) → IsOneToOne n → IsNamed n source.now at state.old result → (env : Env) → IsKnown n source.now state.old env →
+        HasObjects n state.old env → names.object_named at env.objects ≡ None →
+        Follows n (HasObjects n state.new) (names.declare_object at (qualified_of qual.now) (given_of linkage) env) result }
+    ensures uses { OnOk result ((n : Naming) → IsNamed n source.now at state.old result → (us : List Use) → HasPlaces state.old →
+        is_used (target.Static at) us ≡ false → HasUses n state.old us → HasUses n state.new us) }
     ensures rest { state.new ≡ record state.old { names = state.new.names; linked = state.new.linked; objects = state.new.objects; declared = state.new.declared } }
 {
     let found = match redeclared(state, source, at, qual, linkage) {
@@ -140,9 +153,13 @@ pub fn declare_object(
     qual: Qual,
     linkage: Linkage,
 ) -> Result<u32, TypeFault>
-    ensures reads { (n : Naming) → IsOneToOne n → IsNamed n source.now at state.old result → (env : Env) → IsKnown n source.now state.old env → Follows n (IsKnown n source.now state.new) (names.declare_object at (qualified_of qual) (given_of linkage) env) result }
-    ensures rows { (n : Naming) → IsOneToOne n → IsNamed n source.now at state.old result → (env : Env) → IsKnown n source.now state.old env → HasObjects n state.old env → names.object_named at env.objects ≡ None → Follows n (HasObjects n state.new) (names.declare_object at (qualified_of qual) (given_of linkage) env) result }
-    ensures uses { OnOk result ((n : Naming) → IsNamed n source.now at state.old result → (us : List Use) → HasPlaces state.old → is_used (target.Static at) us ≡ false → HasUses n state.old us → HasUses n state.new us) }
+    ensures reads { (n : Naming) → IsOneToOne n → IsNamed n source.now at state.old result → (env : Env) → IsKnown n source.now state.old env →
+        Follows n (IsKnown n source.now state.new) (names.declare_object at (qualified_of qual) (given_of linkage) env) result }
+    ensures rows { (n : Naming) → IsOneToOne n → IsNamed n source.now at state.old result → (env : Env) → IsKnown n source.now state.old env →
+        HasObjects n state.old env → names.object_named at env.objects ≡ None →
+        Follows n (HasObjects n state.new) (names.declare_object at (qualified_of qual) (given_of linkage) env) result }
+    ensures uses { OnOk result ((n : Naming) → IsNamed n source.now at state.old result → (us : List Use) → HasPlaces state.old →
+        is_used (target.Static at) us ≡ false → HasUses n state.old us → HasUses n state.new us) }
     ensures rest { state.new ≡ record state.old { names = state.new.names; linked = state.new.linked; objects = state.new.objects; declared = state.new.declared } }
 {
     object_number(state, source, at, &qual, linkage)
@@ -162,7 +179,8 @@ fn note_object_type(
     number: u32,
     qual: &Qual,
 ) -> Result<(), NoMemory>
-    ensures known { OnOk result ((n : Naming) → IsOneToOne n → (t : TokenText) (env : Env) → known_by n t state.new env ≡ names.with_further_of (target.Static (n number)) symbol (qualified_of qual.now) (known_by n t state.old env)) }
+    ensures known { OnOk result ((n : Naming) → IsOneToOne n → (t : TokenText) (env : Env) →
+        known_by n t state.new env ≡ names.with_further_of (target.Static (n number)) symbol (qualified_of qual.now) (known_by n t state.old env)) }
     ensures rest { state.new ≡ record state.old { linked = state.new.linked } }
 {
     if is_linked_object(state, symbol, number) {
@@ -179,8 +197,11 @@ pub fn complete_object(
     number: u32,
     qual: &Qual,
 ) -> Result<(), NoMemory>
-    ensures known { OnOk result ((n : Naming) → IsOneToOne n → (t : TokenText) (env : Env) → known_by n t state.new env ≡ names.renamed symbol (an_object (slot.Static (n number)) (qualified_of qual.now) false) (names.with_further_of (target.Static (n number)) symbol (qualified_of qual.now) (known_by n t state.old env))) }
-    ensures rows { OnOk result ((n : Naming) → IsOneToOne n → (env : Env) → HasObjects n state.old env → HasObjects n state.new (names.changing_object (n number) (λ o. record o { qual = qualified_of qual.now }) env)) }
+    ensures known { OnOk result ((n : Naming) → IsOneToOne n → (t : TokenText) (env : Env) →
+        known_by n t state.new env ≡ names.renamed symbol (an_object (slot.Static (n number)) (qualified_of qual.now) false)
+        (names.with_further_of (target.Static (n number)) symbol (qualified_of qual.now) (known_by n t state.old env))) }
+    ensures rows { OnOk result ((n : Naming) → IsOneToOne n → (env : Env) → HasObjects n state.old env →
+        HasObjects n state.new (names.changing_object (n number) (λ o. record o { qual = qualified_of qual.now }) env)) }
     ensures uses { OnOk result ((n : Naming) (us : List Use) → HasUses n state.old us → HasUses n state.new us) }
     ensures rest { state.new ≡ record state.old { names = state.new.names; linked = state.new.linked; objects = state.new.objects } }
 {
@@ -203,9 +224,12 @@ pub fn declare_local_static(
     at: u32,
     qual: Qual,
 ) -> Result<u32, TypeFault>
-    ensures reads { (n : Naming) → IsNamedOk n at result → (env : Env) → IsKnown n source.now state.old env → Follows (λ number. tt) (IsKnown n source.now state.new) (static_declared at (qualified_of qual) env) result }
-    ensures rows { (n : Naming) → IsOneToOne n → IsNamedOk n at result → (env : Env) → IsKnown n source.now state.old env → HasObjects n state.old env → names.object_named at env.objects ≡ None → Follows (λ number. tt) (HasObjects n state.new) (static_declared at (qualified_of qual) env) result }
-    ensures uses { OnOk result ((n : Naming) → IsNamedOk n at result → (us : List Use) → HasPlaces state.old → is_used (target.Static at) us ≡ false → HasUses n state.old us → HasUses n state.new us) }
+    ensures reads { (n : Naming) → IsNamedOk n at result → (env : Env) → IsKnown n source.now state.old env →
+        Follows (λ number. tt) (IsKnown n source.now state.new) (static_declared at (qualified_of qual) env) result }
+    ensures rows { (n : Naming) → IsOneToOne n → IsNamedOk n at result → (env : Env) → IsKnown n source.now state.old env → HasObjects n state.old env →
+        names.object_named at env.objects ≡ None → Follows (λ number. tt) (HasObjects n state.new) (static_declared at (qualified_of qual) env) result }
+    ensures uses { OnOk result ((n : Naming) → IsNamedOk n at result → (us : List Use) → HasPlaces state.old → is_used (target.Static at) us ≡ false →
+        HasUses n state.old us → HasUses n state.new us) }
     ensures rest { state.new ≡ record state.old { names = state.new.names; objects = state.new.objects; declared = state.new.declared; defined = state.new.defined } }
 {
     let alloc = state.alloc;

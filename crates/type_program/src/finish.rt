@@ -1,7 +1,8 @@
 // The program, once all is declared (6.9p3, 6.9p5, 6.9.2).
 ghost use Rattle.std.specs.Prelude.{IfOk};
 ghost use Rattle.std.specs.List.{All};
-ghost use Rattle.c_typed.specs.Lawful.{HasMain, MainHasType, IsExternal, LibraryIsExternal, HasBytes, LiteralsHaveBytes, StaticsAreComplete, IsNumbered, IsLawful};
+ghost use Rattle.c_typed.specs.Lawful.{HasMain, MainHasType, IsExternal, LibraryIsExternal, HasBytes, LiteralsHaveBytes, StaticsAreComplete, IsNumbered};
+ghost use Rattle.c_typed.specs.Lawful.{IsLawful};
 
 use crate::lines::{Broken, earlier, undefined};
 use crate::startup::main_of;

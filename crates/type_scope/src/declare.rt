@@ -41,7 +41,8 @@ impl State {
         at: u32,
         meaning: Meaning,
     ) -> Result<(), TypeFault>
-        ensures reads { (n : Naming) (env : Env) → Reads (λ u. u) (names.declare at (meaning_seen n meaning) (known_by n source.now self.old env)) result (known_by n source.now self.new env) }
+        ensures reads { (n : Naming) (env : Env) → Reads (λ u. u) (names.declare at (meaning_seen n meaning) (known_by n source.now self.old env)) result
+            (known_by n source.now self.new env) }
         ensures rest { self.new ≡ record self.old { names = self.new.names } }
         ensures err { OnErr result (self.new ≡ self.old) }
         ensures line { IfErr result (λ e. e ≢ fault.NoMemory → e ≡ fault.NotTyped (line_in source.now.list (line_at source.now at)) reason.DeclaredTwice) }
@@ -56,7 +57,8 @@ impl State {
 
     // Whether a declaration in this scope is that of a typedef name of this type.
     fn is_same_typedef(&self, symbol: u32, qual: &Qual) -> bool
-        ensures { (n : Naming) (t : TokenText) (env : Env) → result ≡ names.is_same_typedef (qualified_of qual.now) (names.meaning_here (known_by n t self.now env) symbol) }
+        ensures { (n : Naming) (t : TokenText) (env : Env) →
+            result ≡ names.is_same_typedef (qualified_of qual.now) (names.meaning_here (known_by n t self.now env) symbol) }
     {
         match self.names.find_here(symbol) {
             Some(meaning) => is_typedef(meaning, qual),
@@ -71,7 +73,8 @@ impl State {
         at: u32,
         qual: Qual,
     ) -> Result<(), TypeFault>
-        ensures reads { (n : Naming) (env : Env) → Reads (λ u. u) (names.declare_typedef at (qualified_of qual) (known_by n source.now self.old env)) result (known_by n source.now self.new env) }
+        ensures reads { (n : Naming) (env : Env) → Reads (λ u. u) (names.declare_typedef at (qualified_of qual) (known_by n source.now self.old env)) result
+            (known_by n source.now self.new env) }
         ensures rest { self.new ≡ record self.old { names = self.new.names } }
         ensures err { OnErr result (self.new ≡ self.old) }
         ensures line { IfErr result (λ e. e ≢ fault.NoMemory → e ≡ fault.NotTyped (line_in source.now.list (line_at source.now at)) reason.DeclaredTwice) }

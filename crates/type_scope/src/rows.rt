@@ -164,7 +164,8 @@ impl ObjectRow {
     /// Notes a use on this line, as an array of so many elements where that is known.
     pub fn use_on(&mut self, line: u32, count: Option<u64>)
         ensures rest { self.new ≡ record self.old { used = self.new.used; counted = self.new.counted } }
-        ensures uses { (t : TheTarget) (us : List Use) → IsUsedObject t us (Some self.old) → IsUsedObject t (us ++ record { target = t; count = count } ∷ []) (Some self.new) }
+        ensures uses { (t : TheTarget) (us : List Use) → IsUsedObject t us (Some self.old) →
+            IsUsedObject t (us ++ record { target = t; count = count } ∷ []) (Some self.new) }
     {
         self.used = used_on(self.used, line);
         self.counted = counted_on(self.counted, count, line);

@@ -1,5 +1,6 @@
 // All that is declared so far.
-ghost use Rattle.std.specs.Prelude.{◌≡◌, ◌≢◌, ℕ, ◌<◌, ◌≤◌, ◌∷◌, ◌++◌, [], true, false, List, Option, length, map, take, slice_get, vec_len, Some, None, IfOk, OnOk, OnErr};
+ghost use Rattle.std.specs.Prelude.{◌≡◌, ◌≢◌, ℕ, ◌<◌, ◌≤◌, ◌∷◌, ◌++◌, [], true, false, List, Option, length, map, take, slice_get, vec_len, Some, None, IfOk};
+ghost use Rattle.std.specs.Prelude.{OnOk, OnErr};
 ghost use Rattle.std.specs.List.{All};
 ghost use Rattle.c_lex.specs.TokenText.{TokenText};
 ghost use Rattle.c_types.specs.Types.{type_of};
@@ -7,7 +8,8 @@ ghost use Rattle.c_typed.specs.Lawful.{HasBytes};
 ghost use Rattle.c_typed.specs.declared.tree.Target.{Target as TheTarget};
 ghost use Rattle.c_typed.specs.declared.tree.Target.TheVariants as target;
 ghost use Rattle.typing_env.specs.Env.{Env, Object, Use, start_of};
-ghost use Rattle.typing_env.specs.Names.{entered, left_scope, kept_prototype, with_parameters, with_new_tag, with_new_enumeration, object_named, with_object, changing_object, first_of};
+ghost use Rattle.typing_env.specs.Names.{entered, left_scope, kept_prototype, with_parameters, with_new_tag, with_new_enumeration, object_named, with_object};
+ghost use Rattle.typing_env.specs.Names.{changing_object, first_of};
 ghost use Rattle.type_scope.specs.declared.rows.TagRow.{TagRow};
 ghost use Rattle.type_scope.specs.Known.{Naming, known_by, routine_seen};
 ghost use Rattle.type_scope.specs.Numbered.{literal_bytes, HasLiterals};
@@ -74,7 +76,8 @@ impl State {
     /// Nothing declared; `order` as the field says.
     pub fn new(alloc: Global, source: &Source<'_>, order: Vec<u32>) -> Result<State, NoMemory>
         ensures known { IfOk result (λ s. (n : Naming) → known_by n source.now s (start_of source.now) ≡ start_of source.now) }
-        ensures rows { IfOk result (λ s. ((k place : ℕ) → slice_get order.items k ≡ Some place → place < length order.items) → (n : Naming) → HasObjects n s (start_of source.now)) }
+        ensures rows { IfOk result (λ s. ((k place : ℕ) → slice_get order.items k ≡ Some place → place < length order.items) → (n : Naming) →
+            HasObjects n s (start_of source.now)) }
         ensures uses { IfOk result (λ s. (n : Naming) → HasUses n s []) }
         ensures evaluated { IfOk result (λ s. s.unevaluated ≡ false) }
         ensures literals { IfOk result (λ s. literal_bytes s ≡ []) }
@@ -122,7 +125,8 @@ impl State {
     /// Ends the innermost scope, that of a parameter list. Its declarations are kept for a body where `own` is true, as behind a
     /// declared name, and the list stands at file scope (6.2.1p4).
     pub fn leave_parameters(&mut self, own: bool) -> Result<(), NoMemory>
-        ensures known { OnOk result ((n : Naming) (t : TokenText) (env : Env) → known_by n t self.new env ≡ left_scope (kept_prototype own (known_by n t self.old env))) }
+        ensures known { OnOk result ((n : Naming) (t : TokenText) (env : Env) →
+            known_by n t self.new env ≡ left_scope (kept_prototype own (known_by n t self.old env))) }
         ensures rest { self.new ≡ record self.old { names = self.new.names } }
     {
         self.names.leave_parameters(self.alloc, own)
@@ -130,7 +134,8 @@ impl State {
 
     /// Begins the scope of a body, with what is kept of its parameters.
     pub fn enter_body(&mut self) -> Result<(), NoMemory>
-        ensures known { OnOk result ((n : Naming) (t : TokenText) (env : Env) → known_by n t self.new env ≡ with_parameters (entered (known_by n t self.old env))) }
+        ensures known { OnOk result ((n : Naming) (t : TokenText) (env : Env) →
+            known_by n t self.new env ≡ with_parameters (entered (known_by n t self.old env))) }
         ensures rest { self.new ≡ record self.old { names = self.new.names } }
     {
         self.names.enter_body(self.alloc)
@@ -149,7 +154,8 @@ impl State {
     /// Ends it.
     pub fn resume(&mut self, mark: Mark)
         ensures literals { literal_bytes self.new ≡ take mark.literals (literal_bytes self.old) }
-        ensures named { (bytes_at : ℕ → Option (List ℕ)) (names : List ℕ) → HasLiterals bytes_at names self.old → HasLiterals bytes_at (take mark.literals names) self.new }
+        ensures named { (bytes_at : ℕ → Option (List ℕ)) (names : List ℕ) → HasLiterals bytes_at names self.old →
+            HasLiterals bytes_at (take mark.literals names) self.new }
         ensures rest { self.new ≡ record self.old { literals = self.new.literals; unevaluated = mark.unevaluated } }
     {
         self.unevaluated = mark.unevaluated;
@@ -169,7 +175,8 @@ impl State {
     /// Forgets the literals since then.
     pub fn forget_literals(&mut self, mark: Mark)
         ensures literals { literal_bytes self.new ≡ take mark.literals (literal_bytes self.old) }
-        ensures named { (bytes_at : ℕ → Option (List ℕ)) (names : List ℕ) → HasLiterals bytes_at names self.old → HasLiterals bytes_at (take mark.literals names) self.new }
+        ensures named { (bytes_at : ℕ → Option (List ℕ)) (names : List ℕ) → HasLiterals bytes_at names self.old →
+            HasLiterals bytes_at (take mark.literals names) self.new }
         ensures rest { self.new ≡ record self.old { literals = self.new.literals } }
     {
         self.literals.truncate(mark.literals);
@@ -190,7 +197,8 @@ impl State {
     /// Forgets the literals since then but this one, which gets the first of their numbers.
     pub fn keep_literal(&mut self, mark: Mark, number: u32) -> Result<u32, NoMemory>
         ensures number { IfOk result (λ kept. mark.literals ≤ number → number < length (literal_bytes self.old) → kept ≡ mark.literals) }
-        ensures named { OnOk result (mark.literals ≤ number → (bytes_at : ℕ → Option (List ℕ)) (names : List ℕ) (name : ℕ) → slice_get names number ≡ Some name → HasLiterals bytes_at names self.old → HasLiterals bytes_at (take mark.literals names ++ name ∷ []) self.new) }
+        ensures named { OnOk result (mark.literals ≤ number → (bytes_at : ℕ → Option (List ℕ)) (names : List ℕ) (name : ℕ) →
+            slice_get names number ≡ Some name → HasLiterals bytes_at names self.old → HasLiterals bytes_at (take mark.literals names ++ name ∷ []) self.new) }
         ensures rest { self.new ≡ record self.old { literals = self.new.literals } }
     {
         if number as usize >= self.literals.len() {
@@ -216,7 +224,8 @@ impl State {
     pub fn add_literal(&mut self, bytes: Bytes) -> Result<u32, NoMemory>
         requires { HasBytes bytes }
         ensures number { IfOk result (λ number. number ≡ length (literal_bytes self.old)) }
-        ensures named { OnOk result ((bytes_at : ℕ → Option (List ℕ)) (names : List ℕ) (name : ℕ) → bytes_at name ≡ Some bytes → HasLiterals bytes_at names self.old → HasLiterals bytes_at (names ++ name ∷ []) self.new) }
+        ensures named { OnOk result ((bytes_at : ℕ → Option (List ℕ)) (names : List ℕ) (name : ℕ) → bytes_at name ≡ Some bytes →
+            HasLiterals bytes_at names self.old → HasLiterals bytes_at (names ++ name ∷ []) self.new) }
         ensures rest { self.new ≡ record self.old { literals = self.new.literals } }
     {
         self.push_literal(Literal { bytes })
@@ -225,8 +234,10 @@ impl State {
     /// A further object with static storage; the answer is its number.
     pub fn add_object(&mut self, row: ObjectRow) -> Result<u32, NoMemory>
         ensures rest { self.new ≡ record self.old { objects = self.new.objects; declared = self.new.declared } }
-        ensures rows { IfOk result (λ number. (n : Naming) → IsOneToOne n → (env : Env) (o : Object) → HasObjects n self.old env → object_named o.name env.objects ≡ None → n number ≡ o.name → IsRowOf o (Some row) → HasObjects n self.new (with_object o env)) }
-        ensures uses { IfOk result (λ number. (n : Naming) (us : List Use) → HasPlaces self.old → IsUnused row → is_used (target.Static (n number)) us ≡ false → HasUses n self.old us → HasUses n self.new us) }
+        ensures rows { IfOk result (λ number. (n : Naming) → IsOneToOne n → (env : Env) (o : Object) → HasObjects n self.old env →
+            object_named o.name env.objects ≡ None → n number ≡ o.name → IsRowOf o (Some row) → HasObjects n self.new (with_object o env)) }
+        ensures uses { IfOk result (λ number. (n : Naming) (us : List Use) → HasPlaces self.old → IsUnused row →
+            is_used (target.Static (n number)) us ≡ false → HasUses n self.old us → HasUses n self.new us) }
     {
         self.add_row(row)
     }
@@ -276,7 +287,8 @@ impl State {
     /// Notes the first definition of an object.
     pub fn define_object(&mut self, number: u32, line: u32)
         ensures rest { self.new ≡ record self.old { objects = self.new.objects; defined = self.new.defined } }
-        ensures rows { (n : Naming) → IsOneToOne n → (env : Env) (at : ℕ) → HasObjects n self.old env → HasObjects n self.new (changing_object (n number) (λ o. record o { defined = first_of o.defined at }) env) }
+        ensures rows { (n : Naming) → IsOneToOne n → (env : Env) (at : ℕ) → HasObjects n self.old env →
+            HasObjects n self.new (changing_object (n number) (λ o. record o { defined = first_of o.defined at }) env) }
         ensures uses { (n : Naming) (us : List Use) → HasUses n self.old us → HasUses n self.new us }
     {
         self.define_row(number, line);
@@ -284,7 +296,8 @@ impl State {
 
     fn define_row(&mut self, number: u32, line: u32)
         ensures rest { self.new ≡ record self.old { objects = self.new.objects; defined = self.new.defined } }
-        ensures row { (at : ℕ) (o : Object) → IsRowOf o (row_in self.old number) → IsRowOf (record o { defined = first_of o.defined at }) (row_in self.new number) }
+        ensures row { (at : ℕ) (o : Object) → IsRowOf o (row_in self.old number) →
+            IsRowOf (record o { defined = first_of o.defined at }) (row_in self.new number) }
         ensures others { (m : ℕ) → m ≢ number → row_in self.new m ≡ row_in self.old m }
         ensures places { HasPlaces self.old → HasPlaces self.new }
         ensures used { (t : TheTarget) (us : List Use) → IsUsedObject t us (row_in self.old number) → IsUsedObject t us (row_in self.new number) }
@@ -303,7 +316,8 @@ impl State {
     pub fn use_object(&mut self, number: u32, ty: &Ty, line: u32)
         ensures rest { self.new ≡ record self.old { objects = self.new.objects } }
         ensures rows { (n : Naming) (env : Env) → HasObjects n self.old env → HasObjects n self.new env }
-        ensures uses { (n : Naming) → IsOneToOne n → (us : List Use) → HasUses n self.old us → HasUses n self.new (with_use self.old.unevaluated (record { target = target.Static (n number); count = count_of (type_of ty.now) }) us) }
+        ensures uses { (n : Naming) → IsOneToOne n → (us : List Use) → HasUses n self.old us →
+            HasUses n self.new (with_use self.old.unevaluated (record { target = target.Static (n number); count = count_of (type_of ty.now) }) us) }
     {
         if self.unevaluated {
             return;
@@ -316,7 +330,8 @@ impl State {
         ensures row { (o : Object) → IsRowOf o (row_in self.old number) → IsRowOf o (row_in self.new number) }
         ensures others { (m : ℕ) → m ≢ number → row_in self.new m ≡ row_in self.old m }
         ensures places { HasPlaces self.old → HasPlaces self.new }
-        ensures used { (t : TheTarget) (us : List Use) → IsUsedObject t us (row_in self.old number) → IsUsedObject t (us ++ record { target = t; count = count } ∷ []) (row_in self.new number) }
+        ensures used { (t : TheTarget) (us : List Use) → IsUsedObject t us (row_in self.old number) →
+            IsUsedObject t (us ++ record { target = t; count = count } ∷ []) (row_in self.new number) }
     {
         if let Some(row) = self.objects.get_mut(number as usize) {
             row.use_on(line, count);
@@ -327,7 +342,8 @@ impl State {
     pub fn use_function(&mut self, number: u32, line: u32)
         ensures rest { self.new ≡ record self.old { functions = self.new.functions } }
         ensures known { (n : Naming) (t : TokenText) (env : Env) → known_by n t self.new env ≡ known_by n t self.old env }
-        ensures uses { (n : Naming) (us : List Use) → HasUses n self.old us → HasUses n self.new (with_use self.old.unevaluated (record { target = target.Function number; count = None }) us) }
+        ensures uses { (n : Naming) (us : List Use) → HasUses n self.old us →
+            HasUses n self.new (with_use self.old.unevaluated (record { target = target.Function number; count = None }) us) }
     {
         if self.unevaluated {
             return;
@@ -339,7 +355,8 @@ impl State {
         ensures rest { self.new ≡ record self.old { functions = self.new.functions } }
         ensures same { map routine_seen self.new.functions.items ≡ map routine_seen self.old.functions.items }
         ensures others { (m : ℕ) → m ≢ number → function_row_in self.new m ≡ function_row_in self.old m }
-        ensures used { (t : TheTarget) (us : List Use) → IsUsedFunction t us (function_row_in self.old number) → IsUsedFunction t (us ++ record { target = t; count = None } ∷ []) (function_row_in self.new number) }
+        ensures used { (t : TheTarget) (us : List Use) → IsUsedFunction t us (function_row_in self.old number) →
+            IsUsedFunction t (us ++ record { target = t; count = None } ∷ []) (function_row_in self.new number) }
     {
         if let Some(row) = self.functions.get_mut(number as usize) {
             row.use_on(line);

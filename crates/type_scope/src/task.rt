@@ -4,7 +4,8 @@ ghost use Rattle.c_types.specs.Types.{type_of, qualified_of};
 ghost use Rattle.typing_env.specs.Env as env;
 ghost use Rattle.typing_env.specs.Env.{no_task};
 ghost use Rattle.typing_env.specs.Tasks.{open_block, close_block, innermost, another_object, retyped_task, one_object, retyped_object};
-ghost use Rattle.type_scope.specs.Labels.{label_symbols, is_defined_label, one_symbol, place_of, has_number, label_named, label_defined, is_undefined, labels_defined, HasLabels};
+ghost use Rattle.type_scope.specs.Labels.{label_symbols, is_defined_label, one_symbol, place_of, has_number, label_named, label_defined, is_undefined};
+ghost use Rattle.type_scope.specs.Labels.{labels_defined, HasLabels};
 ghost use Rattle.type_scope.specs.Working.{task_seen, blocks_seen, block_seen};
 
 use c_types::{IntKind, Qual, Ty};

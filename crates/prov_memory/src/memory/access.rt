@@ -56,7 +56,8 @@ impl Memory {
         prov: Prov,
         len: u64,
     ) -> Result<(ObjName, Option<(Event, ObjName)>), Clause>
-        ensures found { IfOk result (λ p. (io : Io) → run self.now.rows (acts.object_of self.now.rows len addr prov) (store_of self.now io) ≡ Done p.0 (settling_items p.1) (after_settling p.1 (store_of self.now io))) }
+        ensures found { IfOk result (λ p. (io : Io) → run self.now.rows (acts.object_of self.now.rows len addr prov) (store_of self.now io) ≡ Done p.0
+            (settling_items p.1) (after_settling p.1 (store_of self.now io))) }
         ensures raises { IfErr result (λ c. (io : Io) → run self.now.rows (acts.object_of self.now.rows len addr prov) (store_of self.now io) ≡ Raised c) }
         ensures settles { IfOk result (λ p. CanSettleOf self.now prov p.1) }
     {
@@ -104,7 +105,8 @@ impl Memory {
         ensures found { IfOk result (λ found. IsReached self.old.objects found len) }
         ensures settles { IfOk result (λ found. CanSettleOf self.old prov found.settles) }
         ensures items { IfOk result (λ found. t.old ≡ [] → t.new ≡ settling_items found.settles ++ Alive found.name ∷ []) }
-        ensures exact { IfOk result (λ found. (io : Io) → run self.old.rows (acts.access self.old.rows len align addr prov) (store_of self.old io) ≡ Done (reached self.old.objects found) (settling_items found.settles ++ Alive found.name ∷ []) (after_settling found.settles (store_of self.old io))) }
+        ensures exact { IfOk result (λ found. (io : Io) → run self.old.rows (acts.access self.old.rows len align addr prov) (store_of self.old io) ≡ Done
+            (reached self.old.objects found) (settling_items found.settles ++ Alive found.name ∷ []) (after_settling found.settles (store_of self.old io))) }
         ensures raises { IfErr result (λ c. (io : Io) → run self.old.rows (acts.access self.old.rows len align addr prov) (store_of self.old io) ≡ Raised c) }
     {
         if addr == 0 {
@@ -132,7 +134,8 @@ impl Memory {
         ensures found { IfOk result (λ found. IsReached self.old.objects found len) }
         ensures settles { IfOk result (λ found. CanSettleOf self.old prov found.settles) }
         ensures items { IfOk result (λ found. t.old ≡ [] → t.new ≡ settling_items found.settles ++ Alive found.name ∷ []) }
-        ensures exact { IfOk result (λ found. (io : Io) → run self.old.rows (acts.access self.old.rows len align addr prov) (store_of self.old io) ≡ Done (reached self.old.objects found) (settling_items found.settles ++ Alive found.name ∷ []) (after_settling found.settles (store_of self.old io))) }
+        ensures exact { IfOk result (λ found. (io : Io) → run self.old.rows (acts.access self.old.rows len align addr prov) (store_of self.old io) ≡ Done
+            (reached self.old.objects found) (settling_items found.settles ++ Alive found.name ∷ []) (after_settling found.settles (store_of self.old io))) }
         ensures raises { IfErr result (λ c. (io : Io) → run self.old.rows (acts.access self.old.rows len align addr prov) (store_of self.old io) ≡ Raised c) }
     {
         let target = self.target(addr, prov, len)?;
@@ -153,8 +156,10 @@ impl Memory {
     ) -> Result<Accessed, Clause>
         ensures same { self.new ≡ self.old }
         ensures found { IfOk result (λ found. IsReachedBy self.old.objects found name settles len) }
-        ensures exact { IfOk result (λ found. (s : Store) → s.life name ≡ life_in (held_of self.old.objects name) → run self.old.rows (access_in self.old.rows len align addr name) s ≡ Done (reached self.old.objects found) (Alive name ∷ []) s) }
-        ensures raises { IfErr result (λ c. (s : Store) → s.life name ≡ life_in (held_of self.old.objects name) → run self.old.rows (access_in self.old.rows len align addr name) s ≡ Raised c) }
+        ensures exact { IfOk result (λ found. (s : Store) → s.life name ≡ life_in (held_of self.old.objects name) →
+            run self.old.rows (access_in self.old.rows len align addr name) s ≡ Done (reached self.old.objects found) (Alive name ∷ []) s) }
+        ensures raises { IfErr result (λ c. (s : Store) → s.life name ≡ life_in (held_of self.old.objects name) →
+            run self.old.rows (access_in self.old.rows len align addr name) s ≡ Raised c) }
     {
         let Some(at) = self.find(name) else {
             return Err(Clause::DeadObject);
@@ -176,7 +181,8 @@ impl Memory {
     pub(super) fn settle(&mut self, settles: Option<(Event, ObjName)>)
         ensures rest { record self.new { cells = [] } ≡ record self.old { cells = [] } }
         ensures cells { (e : Event) → has_cell self.new.cells e ≡ has_cell self.old.cells e }
-        ensures store { CanSettle self.old.cells settles → (m : Kept) → m.cells ≡ self.old.cells → (io : Io) → store_of (record m { cells = self.new.cells }) io ≡ after_settling settles (store_of m io) }
+        ensures store { CanSettle self.old.cells settles → (m : Kept) → m.cells ≡ self.old.cells → (io : Io) →
+            store_of (record m { cells = self.new.cells }) io ≡ after_settling settles (store_of m io) }
         ensures kept { Keeps self.old self.new }
     {
         if let Some((id, keep)) = settles {

@@ -13,7 +13,8 @@ ghost use Rattle.mem_spec.specs.Script.{run, Done};
 ghost use Rattle.mem_spec.specs.Store.{findable, can_find};
 ghost use Rattle.mem_spec.specs.Streams.{Io};
 ghost use Rattle.prov_memory.specs.Memory.{Kept, store_of, act_of, AreKnown};
-ghost use Rattle.prov_memory.specs.Made.{IsAddress, IsMade, AreCreated, HasMore, look_up_items, CanSettle, settling_by, settling_to, shift_settling, settling_items, after_settling, address_result};
+ghost use Rattle.prov_memory.specs.Made.{IsAddress, IsMade, AreCreated, HasMore, look_up_items, CanSettle, settling_by, settling_to, shift_settling};
+ghost use Rattle.prov_memory.specs.Made.{settling_items, after_settling, address_result};
 ghost use Rattle.prov_memory.specs.Comparing.{settling_of, both_settlings, common_settling, common_in, done_result};
 
 use super::*;
@@ -119,7 +120,8 @@ impl Memory {
 
     /// The address `by` bytes further, which must lie in the object or one past it (6.5.6p8).
     pub fn shift(&mut self, addr: u64, prov: Prov, by: i128, t: &mut Touched) -> Result<u64, Clause>
-        ensures exact { IsMade self.old prov → (io : Io) → run self.new.rows (acts.shift self.new.rows addr prov by) (store_of self.old io) ≡ act_of (address_result result) t.new (store_of self.new io) }
+        ensures exact { IsMade self.old prov → (io : Io) → run self.new.rows (acts.shift self.new.rows addr prov by) (store_of self.old io) ≡ act_of
+            (address_result result) t.new (store_of self.new io) }
         ensures same { OnErr result (self.new ≡ self.old) }
         ensures rest { record self.new { cells = [] } ≡ record self.old { cells = [] } }
         ensures made { (p : Prov) → IsMade self.old p → IsMade self.new p }
@@ -186,7 +188,9 @@ impl Memory {
         clause: Clause,
         t: &mut Touched,
     ) -> Result<(), Clause>
-        ensures exact { t.old ≡ [] → IsMade self.old a → IsMade self.old b → (io : Io) → run self.new.rows (acts.settle_common (in_common (candidates a) (candidates b)) a b clause) (store_of self.old io) ≡ act_of result t.new (store_of self.new io) }
+        ensures exact { t.old ≡ [] → IsMade self.old a → IsMade self.old b → (io : Io) →
+            run self.new.rows (acts.settle_common (in_common (candidates a) (candidates b)) a b clause) (store_of self.old io) ≡ act_of result t.new
+            (store_of self.new io) }
         ensures same { OnErr result (self.new ≡ self.old) }
         ensures rest { record self.new { cells = [] } ≡ record self.old { cells = [] } }
         ensures cells { (e : Event) → has_cell self.new.cells e ≡ has_cell self.old.cells e }
@@ -208,7 +212,8 @@ impl Memory {
         size: u64,
         t: &mut Touched,
     ) -> Result<i128, Clause>
-        ensures exact { IsMade self.old ap → IsMade self.old bp → (io : Io) → run self.new.rows (acts.diff a ap b bp size) (store_of self.old io) ≡ act_of (done_result result) t.new (store_of self.new io) }
+        ensures exact { IsMade self.old ap → IsMade self.old bp → (io : Io) →
+            run self.new.rows (acts.diff a ap b bp size) (store_of self.old io) ≡ act_of (done_result result) t.new (store_of self.new io) }
         ensures value { IfOk result (λ n. n ≡ pos (a / size) -ℤ pos (b / size)) }
         ensures same { OnErr result (self.new ≡ self.old) }
         ensures rest { record self.new { cells = [] } ≡ record self.old { cells = [] } }
@@ -234,7 +239,8 @@ impl Memory {
         bp: Prov,
         t: &mut Touched,
     ) -> Result<Ordering, Clause>
-        ensures exact { IsMade self.old ap → IsMade self.old bp → (io : Io) → run self.new.rows (acts.less ap bp) (store_of self.old io) ≡ act_of (done_result result) t.new (store_of self.new io) }
+        ensures exact { IsMade self.old ap → IsMade self.old bp → (io : Io) →
+            run self.new.rows (acts.less ap bp) (store_of self.old io) ≡ act_of (done_result result) t.new (store_of self.new io) }
         ensures value { IfOk result (λ order. order ≡ nat_cmp a b) }
         ensures same { OnErr result (self.new ≡ self.old) }
         ensures rest { record self.new { cells = [] } ≡ record self.old { cells = [] } }
@@ -251,7 +257,8 @@ impl Memory {
     /// What an integer that is cast to a pointer points to: 0 gives null, another number the exposed live objects that contain
     /// it and that have it one past.
     pub fn from_int(&mut self, who: Event, addr: u64, t: &mut Touched) -> Result<Prov, NoMemory>
-        ensures exact { IfOk result (λ prov. AreKnown self.old → (io : Io) → run self.new.rows (acts.from_int who addr) (store_of self.old io) ≡ Done prov t.new (store_of self.new io)) }
+        ensures exact { IfOk result (λ prov. AreKnown self.old → (io : Io) →
+            run self.new.rows (acts.from_int who addr) (store_of self.old io) ≡ Done prov t.new (store_of self.new io)) }
         ensures value { IfOk result (λ prov. IsMade self.new prov) }
         ensures more { HasMore self.old self.new }
         ensures made { (p : Prov) → IsMade self.old p → IsMade self.new p }
@@ -268,7 +275,8 @@ impl Memory {
         addr: u64,
         t: &mut Touched,
     ) -> Result<Prov, NoMemory>
-        ensures exact { IfOk result (λ prov. (io : Io) → run self.old.rows (acts.from_int who addr) (store_of self.old io) ≡ Done prov (look_up_items addr) (store_of self.old io)) }
+        ensures exact { IfOk result (λ prov. (io : Io) → run self.old.rows (acts.from_int who addr) (store_of self.old io) ≡ Done prov (look_up_items addr)
+            (store_of self.old io)) }
         ensures items { OnOk result (length t.old < 32 → t.new ≡ t.old ++ look_up_items addr) }
         ensures value { IfOk result (λ prov. IsMade self.new prov) }
         ensures more { HasMore self.old self.new }

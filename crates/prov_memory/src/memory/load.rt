@@ -1,5 +1,6 @@
 // Loads.
-ghost use Rattle.std.specs.Prelude.{◌≡◌, ℕ, ◌+◌, ◌<◌, ◌≤◌, ◌^◌, ◌&&◌, ◌==◌, ◌++◌, ◌∷◌, [], List, Some, Ok, Err, true, false, length, map, slice_get, option_map, IfOk, IfErr, IfSome, OnOk, OnErr};
+ghost use Rattle.std.specs.Prelude.{◌≡◌, ℕ, ◌+◌, ◌<◌, ◌≤◌, ◌^◌, ◌&&◌, ◌==◌, ◌++◌, ◌∷◌, [], List, Some, Ok, Err, true, false, length, map, slice_get};
+ghost use Rattle.std.specs.Prelude.{option_map, IfOk, IfErr, IfSome, OnOk, OnErr};
 ghost use Rattle.ub_base.specs.Names.{same_event, same_object};
 ghost use Rattle.ub_base.specs.declared.names.Item.TheVariants.{Alive, Expose, Read};
 ghost use Rattle.c_types.specs.Types.{type_of, qualified_of, pointer};
@@ -37,8 +38,10 @@ impl Memory {
         requires short { len ≤ 8 }
         requires range { from + len ≤ 2 ^ 47 }
         requires plain { plain ≡ true → (h : Held) → slice_get self.old.objects at ≡ Some h → origins_of (bytes_in self.old h from len) ≡ [] }
-        ensures shown { (h : Held) → slice_get self.old.objects at ≡ Some h → self.new ≡ record self.old { objects = uncovered_each (origins_of (bytes_in self.old h from len)) self.old.objects } }
-        ensures items { (h : Held) → slice_get self.old.objects at ≡ Some h → length t.old + 16 < 32 → t.new ≡ t.old ++ map Expose (origins_of (bytes_in self.old h from len)) }
+        ensures shown { (h : Held) → slice_get self.old.objects at ≡ Some h →
+            self.new ≡ record self.old { objects = uncovered_each (origins_of (bytes_in self.old h from len)) self.old.objects } }
+        ensures items { (h : Held) → slice_get self.old.objects at ≡ Some h → length t.old + 16 < 32 →
+            t.new ≡ t.old ++ map Expose (origins_of (bytes_in self.old h from len)) }
     {
         if !plain {
             self.show_all_pieces(at, from, len, t);
@@ -50,8 +53,10 @@ impl Memory {
     fn show_all_pieces(&mut self, at: usize, from: u64, len: u64, t: &mut Touched)
         requires short { len ≤ 8 }
         requires range { from + len ≤ 2 ^ 47 }
-        ensures shown { (h : Held) → slice_get self.old.objects at ≡ Some h → self.new ≡ record self.old { objects = uncovered_each (origins_of (bytes_in self.old h from len)) self.old.objects } }
-        ensures items { (h : Held) → slice_get self.old.objects at ≡ Some h → length t.old + 16 < 32 → t.new ≡ t.old ++ map Expose (origins_of (bytes_in self.old h from len)) }
+        ensures shown { (h : Held) → slice_get self.old.objects at ≡ Some h →
+            self.new ≡ record self.old { objects = uncovered_each (origins_of (bytes_in self.old h from len)) self.old.objects } }
+        ensures items { (h : Held) → slice_get self.old.objects at ≡ Some h → length t.old + 16 < 32 →
+            t.new ≡ t.old ++ map Expose (origins_of (bytes_in self.old h from len)) }
     {
         for offset in 0..len {
             let cell = self.cell_in(at, from + offset);
@@ -101,7 +106,8 @@ impl Memory {
         prov: Prov,
         t: &mut Touched,
     ) -> Result<i128, Clause>
-        ensures exact { IfOk result (λ value. HasCell self.old prov → (io : Io) → run self.old.rows (acts.load_int self.old.rows kind addr prov) (store_of self.old io) ≡ Done value t.new (store_of self.new io)) }
+        ensures exact { IfOk result (λ value. HasCell self.old prov → (io : Io) →
+            run self.old.rows (acts.load_int self.old.rows kind addr prov) (store_of self.old io) ≡ Done value t.new (store_of self.new io)) }
         ensures raises { IfErr result (λ c. (io : Io) → run self.old.rows (acts.load_int self.old.rows kind addr prov) (store_of self.old io) ≡ Raised c) }
         ensures same { OnErr result (self.new ≡ self.old) }
         ensures rest { record self.new { objects = []; cells = [] } ≡ record self.old { objects = []; cells = [] } }
@@ -125,8 +131,10 @@ impl Memory {
         prov: Prov,
         t: &mut Touched,
     ) -> Result<u64, Clause>
-        ensures exact { IfOk result (λ target. HasCell self.old prov → (io : Io) → run self.old.rows (acts.load_func self.old.rows (type_of ty.now) addr prov) (store_of self.old io) ≡ Done target t.new (store_of self.new io)) }
-        ensures raises { IfErr result (λ c. (io : Io) → run self.old.rows (acts.load_func self.old.rows (type_of ty.now) addr prov) (store_of self.old io) ≡ Raised c) }
+        ensures exact { IfOk result (λ target. HasCell self.old prov → (io : Io) →
+            run self.old.rows (acts.load_func self.old.rows (type_of ty.now) addr prov) (store_of self.old io) ≡ Done target t.new (store_of self.new io)) }
+        ensures raises { IfErr result (λ c. (io : Io) → run self.old.rows (acts.load_func self.old.rows (type_of ty.now) addr prov)
+            (store_of self.old io) ≡ Raised c) }
         ensures same { OnErr result (self.new ≡ self.old) }
         ensures rest { record self.new { objects = []; cells = [] } ≡ record self.old { objects = []; cells = [] } }
         ensures made { (p : Prov) → IsMade self.old p → IsMade self.new p }
@@ -191,10 +199,14 @@ impl Memory {
     ) -> Result<u64, Clause>
         requires short { len ≤ 8 }
         requires reached { IsReached self.old.objects found len }
-        ensures number { IfOk result (λ number. (h : Held) → slice_get self.old.objects found.object ≡ Some h → Ok number ≡ number_read (type_of ty.now) is_bool (option_map form_of h.declared) found.from (bytes_in self.old h found.from len)) }
-        ensures loaded { OnOk result ((h : Held) → slice_get self.old.objects found.object ≡ Some h → IsLoaded self.old self.new (origins_of (bytes_in self.old h found.from len)) found.settles) }
-        ensures items { OnOk result ((h : Held) → slice_get self.old.objects found.object ≡ Some h → length t.old + 17 < 32 → t.new ≡ (t.old ++ Read found.name found.from len ∷ []) ++ map Expose (origins_of (bytes_in self.old h found.from len))) }
-        ensures raises { IfErr result (λ c. (h : Held) → slice_get self.old.objects found.object ≡ Some h → Err c ≡ number_read (type_of ty.now) is_bool (option_map form_of h.declared) found.from (bytes_in self.old h found.from len)) }
+        ensures number { IfOk result (λ number. (h : Held) → slice_get self.old.objects found.object ≡ Some h →
+            Ok number ≡ number_read (type_of ty.now) is_bool (option_map form_of h.declared) found.from (bytes_in self.old h found.from len)) }
+        ensures loaded { OnOk result ((h : Held) → slice_get self.old.objects found.object ≡ Some h →
+            IsLoaded self.old self.new (origins_of (bytes_in self.old h found.from len)) found.settles) }
+        ensures items { OnOk result ((h : Held) → slice_get self.old.objects found.object ≡ Some h → length t.old + 17 < 32 →
+            t.new ≡ (t.old ++ Read found.name found.from len ∷ []) ++ map Expose (origins_of (bytes_in self.old h found.from len))) }
+        ensures raises { IfErr result (λ c. (h : Held) → slice_get self.old.objects found.object ≡ Some h →
+            Err c ≡ number_read (type_of ty.now) is_bool (option_map form_of h.declared) found.from (bytes_in self.old h found.from len)) }
         ensures same { OnErr result (self.new ≡ self.old) }
         ensures rest { record self.new { objects = []; cells = [] } ≡ record self.old { objects = []; cells = [] } }
         ensures made { (p : Prov) → IsMade self.old p → IsMade self.new p }
@@ -236,7 +248,8 @@ impl Memory {
     ) -> Result<u64, Clause>
         requires reached { IsReached self.now.objects found len }
         requires number { (h : Held) → slice_get self.now.objects found.object ≡ Some h → number ≡ number_if (bytes_in self.now h found.from len) }
-        ensures { (h : Held) → slice_get self.now.objects found.object ≡ Some h → result ≡ number_read (type_of ty.now) is_bool (option_map form_of h.declared) found.from (bytes_in self.now h found.from len) }
+        ensures { (h : Held) → slice_get self.now.objects found.object ≡ Some h →
+            result ≡ number_read (type_of ty.now) is_bool (option_map form_of h.declared) found.from (bytes_in self.now h found.from len) }
     {
         let Some(object) = self.objects.get(found.object) else {
             return Err(Clause::Indeterminate);
@@ -259,8 +272,11 @@ impl Memory {
         prov: Prov,
         t: &mut Touched,
     ) -> Result<Value, MemFault>
-        ensures exact { IfOk result (λ value. IfPointer value (λ a p. HasCell self.old prov → AreKnown self.old → (io : Io) → run self.old.rows (acts.load_ptr self.old.rows (type_of ty.now) who align addr prov) (store_of self.old io) ≡ Done (a, p) t.new (store_of self.new io))) }
-        ensures raises { IfErr result (λ fault. IfRaise fault (λ c. (io : Io) → run self.old.rows (acts.load_ptr self.old.rows (type_of ty.now) who align addr prov) (store_of self.old io) ≡ Raised c)) }
+        ensures exact { IfOk result (λ value. IfPointer value (λ a p. HasCell self.old prov → AreKnown self.old → (io : Io) →
+            run self.old.rows (acts.load_ptr self.old.rows (type_of ty.now) who align addr prov) (store_of self.old io) ≡ Done (a, p) t.new
+            (store_of self.new io))) }
+        ensures raises { IfErr result (λ fault. IfRaise fault (λ c. (io : Io) →
+            run self.old.rows (acts.load_ptr self.old.rows (type_of ty.now) who align addr prov) (store_of self.old io) ≡ Raised c)) }
         ensures same { IfErr result (λ fault. IfRaise fault (λ c. self.new ≡ self.old)) }
         ensures rest { record self.new { origins = []; cells = [] } ≡ record self.old { origins = []; cells = [] } }
         ensures origins { Extends self.old.origins self.new.origins }
@@ -289,7 +305,8 @@ impl Memory {
     fn pointer_seen(&self, found: Accessed) -> (Option<u64>, Option<Origin>)
         requires { IsReached self.now.objects found 8 }
         ensures number { (h : Held) → slice_get self.now.objects found.object ≡ Some h → result.0 ≡ number_if (bytes_in self.now h found.from 8) }
-        ensures pointer { (h : Held) → slice_get self.now.objects found.object ≡ Some h → named_in self.now.origins result.1 ≡ acts.pointer_in (bytes_in self.now h found.from 8) }
+        ensures pointer { (h : Held) → slice_get self.now.objects found.object ≡ Some h →
+            named_in self.now.origins result.1 ≡ acts.pointer_in (bytes_in self.now h found.from 8) }
     {
         match self.objects.get(found.object) {
             None => (None, None),
@@ -327,7 +344,8 @@ impl Memory {
     fn pieces_number(&self, cells: &[Cell], origin: Origin, from: u64) -> Option<u64>
         requires { from + 8 ≤ 2 ^ 47 }
         ensures number { IfSome result (λ number. Some number ≡ number_if (range_in self.now cells.now from 8)) }
-        ensures pieces { IfSome result (λ number. acts.are_pieces (prov_numbered self.now.origins origin.number) 0 (range_in self.now cells.now from 8) ≡ true) }
+        ensures pieces { IfSome result (λ number. acts.are_pieces (prov_numbered self.now.origins origin.number) 0
+            (range_in self.now cells.now from 8) ≡ true) }
     {
         let mut number: u64 = 0;
         for step in 0..8u64 {
@@ -427,8 +445,10 @@ impl Memory {
         number: u64,
         t: &mut Touched,
     ) -> Result<Prov, MemFault>
-        ensures exact { IfOk result (λ prov. (io : Io) → run self.old.rows (acts.pointer_or_number who (named_in self.old.origins pointer) number) (store_of self.old io) ≡ Done (number, prov) (pointer_items (named_in self.old.origins pointer) number) (store_of self.old io)) }
-        ensures raises { IfErr result (λ fault. IfRaise fault (λ c. (io : Io) → run self.old.rows (acts.pointer_or_number who (named_in self.old.origins pointer) number) (store_of self.old io) ≡ Raised c)) }
+        ensures exact { IfOk result (λ prov. (io : Io) → run self.old.rows (acts.pointer_or_number who (named_in self.old.origins pointer) number)
+            (store_of self.old io) ≡ Done (number, prov) (pointer_items (named_in self.old.origins pointer) number) (store_of self.old io)) }
+        ensures raises { IfErr result (λ fault. IfRaise fault (λ c. (io : Io) →
+            run self.old.rows (acts.pointer_or_number who (named_in self.old.origins pointer) number) (store_of self.old io) ≡ Raised c)) }
         ensures same { IfErr result (λ fault. IfRaise fault (λ c. self.new ≡ self.old)) }
         ensures items { OnOk result (length t.old + 1 < 32 → t.new ≡ t.old ++ pointer_items (named_in self.old.origins pointer) number) }
         ensures more { HasMore self.old self.new }
@@ -667,7 +687,8 @@ fn is_same_kind(ty: &Ty, leaf: &Ty) -> bool
 #[inline(always)]
 #[tactic(auto, using(crate::proofs::AgreementLemmas::pointers_agree))]
 fn are_alike(target: &Qual, other: &Qual) -> bool
-    ensures { result ≡ true → agrees (pointer (qualified_of target.now).constant (qualified_of target.now).ty) (pointer (qualified_of other.now).constant (qualified_of other.now).ty) ≡ true }
+    ensures { result ≡ true → agrees (pointer (qualified_of target.now).constant (qualified_of target.now).ty)
+        (pointer (qualified_of other.now).constant (qualified_of other.now).ty) ≡ true }
 {
     target.constant == other.constant && are_of_kind(&target.ty, &other.ty)
 }

@@ -1,5 +1,6 @@
 // Birth and death of objects.
-ghost use Rattle.std.specs.Prelude.{◌≡◌, ◌+◌, ◌<◌, ◌≤◌, ◌^◌, ◌∷◌, ◌++◌, [], Some, None, Err, true, false, List, length, map, min, max, option_map, IfOk, OnOk, OnErr};
+ghost use Rattle.std.specs.Prelude.{◌≡◌, ◌+◌, ◌<◌, ◌≤◌, ◌^◌, ◌∷◌, ◌++◌, [], Some, None, Err, true, false, List, length, map, min, max, option_map, IfOk, OnOk};
+ghost use Rattle.std.specs.Prelude.{OnErr};
 ghost use Rattle.addr_map.specs.Rows.{row_of, row_at};
 ghost use Rattle.ub_base.specs.declared.names.Item.TheVariants.{Expose, Born};
 ghost use Rattle.prov_memory.specs.declared.answer.CreateFault.TheVariants.{Unplaced};
@@ -34,7 +35,9 @@ impl Memory {
         t: &mut Touched,
     ) -> Result<u64, CreateFault>
         ensures born { IfOk result (λ base. IsBorn self.old self.new name base size align kind (option_map (λ shape. shape.value) declared)) }
-        ensures exact { IfOk result (λ base. AreKnown self.old → (io : Io) → run self.new.rows (acts.create self.new.rows name size align kind (option_map (λ shape. form_of shape.value) declared)) (store_of self.old io) ≡ Done base t.new (store_of self.new io)) }
+        ensures exact { IfOk result (λ base. AreKnown self.old → (io : Io) → run self.new.rows
+            (acts.create self.new.rows name size align kind (option_map (λ shape. form_of shape.value) declared)) (store_of self.old io) ≡ Done base t.new
+            (store_of self.new io)) }
         ensures known { AreKnown self.old → OnOk result (AreKnown self.new) }
         ensures named { AreNamed self.old → OnOk result (AreNamed self.new) }
         ensures made { (p : Prov) → IsMade self.old p → IsMade self.new p }

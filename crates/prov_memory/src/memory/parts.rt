@@ -73,8 +73,10 @@ impl Memory {
         from: u64,
         t: &mut Touched,
     ) -> Result<i128, Clause>
-        ensures exact { IfOk result (λ value. (io : Io) → run self.old.rows (parts.part_int kind (seen self.old (part_of bytes.now from (bytes_of_kind kind)).cells)) (store_of self.old io) ≡ Done value t.new (store_of self.new io)) }
-        ensures raises { IfErr result (λ c. (io : Io) → run self.old.rows (parts.part_int kind (seen self.old (part_of bytes.now from (bytes_of_kind kind)).cells)) (store_of self.old io) ≡ Raised c) }
+        ensures exact { IfOk result (λ value. (io : Io) → run self.old.rows (parts.part_int kind
+            (seen self.old (part_of bytes.now from (bytes_of_kind kind)).cells)) (store_of self.old io) ≡ Done value t.new (store_of self.new io)) }
+        ensures raises { IfErr result (λ c. (io : Io) → run self.old.rows
+            (parts.part_int kind (seen self.old (part_of bytes.now from (bytes_of_kind kind)).cells)) (store_of self.old io) ≡ Raised c) }
         ensures same { OnErr result (self.new ≡ self.old) }
         ensures rest { record self.new { objects = [] } ≡ record self.old { objects = [] } }
         ensures made { (p : Prov) → IsMade self.old p → IsMade self.new p }
@@ -89,8 +91,10 @@ impl Memory {
 
     /// The member at the offset that is a pointer to a function, as a load reads it.
     pub fn part_func(&mut self, bytes: &Block, from: u64, t: &mut Touched) -> Result<u64, Clause>
-        ensures exact { IfOk result (λ target. (io : Io) → run self.old.rows (parts.part_func (seen self.old (part_of bytes.now from 8).cells)) (store_of self.old io) ≡ Done target t.new (store_of self.new io)) }
-        ensures raises { IfErr result (λ c. (io : Io) → run self.old.rows (parts.part_func (seen self.old (part_of bytes.now from 8).cells)) (store_of self.old io) ≡ Raised c) }
+        ensures exact { IfOk result (λ target. (io : Io) → run self.old.rows (parts.part_func (seen self.old (part_of bytes.now from 8).cells))
+            (store_of self.old io) ≡ Done target t.new (store_of self.new io)) }
+        ensures raises { IfErr result (λ c. (io : Io) → run self.old.rows (parts.part_func (seen self.old (part_of bytes.now from 8).cells))
+            (store_of self.old io) ≡ Raised c) }
         ensures same { OnErr result (self.new ≡ self.old) }
         ensures rest { record self.new { objects = [] } ≡ record self.old { objects = [] } }
         ensures made { (p : Prov) → IsMade self.old p → IsMade self.new p }
@@ -109,8 +113,11 @@ impl Memory {
         from: u64,
         t: &mut Touched,
     ) -> Result<Value, MemFault>
-        ensures exact { IfOk result (λ value. IfPointer value (λ a p. AreKnown self.old → (io : Io) → run self.old.rows (parts.part_ptr who (seen self.old (part_of bytes.now from 8).cells)) (store_of self.old io) ≡ Done (a, p) t.new (store_of self.new io))) }
-        ensures raises { IfErr result (λ fault. IfRaise fault (λ c. (io : Io) → run self.old.rows (parts.part_ptr who (seen self.old (part_of bytes.now from 8).cells)) (store_of self.old io) ≡ Raised c)) }
+        ensures exact { IfOk result (λ value. IfPointer value (λ a p. AreKnown self.old → (io : Io) →
+            run self.old.rows (parts.part_ptr who (seen self.old (part_of bytes.now from 8).cells)) (store_of self.old io) ≡ Done (a, p) t.new
+            (store_of self.new io))) }
+        ensures raises { IfErr result (λ fault. IfRaise fault (λ c. (io : Io) →
+            run self.old.rows (parts.part_ptr who (seen self.old (part_of bytes.now from 8).cells)) (store_of self.old io) ≡ Raised c)) }
         ensures same { IfErr result (λ fault. IfRaise fault (λ c. self.new ≡ self.old)) }
         ensures more { HasMore self.old self.new }
         ensures value { IfOk result (λ value. IfPointer value (λ a p. IsSound self.old → IsMade self.new p)) }
@@ -148,7 +155,8 @@ impl Memory {
         number: u64,
         t: &mut Touched,
     ) -> Result<Prov, NoMemory>
-        ensures exact { IfOk result (λ prov. (io : Io) → run self.old.rows (parts.pointer_or_found who pointer number) (store_of self.old io) ≡ Done (number, prov) (part_items pointer number) (store_of self.old io)) }
+        ensures exact { IfOk result (λ prov. (io : Io) → run self.old.rows (parts.pointer_or_found who pointer number) (store_of self.old io) ≡ Done
+            (number, prov) (part_items pointer number) (store_of self.old io)) }
         ensures items { OnOk result (length t.old < 32 → t.new ≡ t.old ++ part_items pointer number) }
         ensures more { HasMore self.old self.new }
         ensures value { IfOk result (λ prov. IfSome pointer (λ p. IsMade self.old p) → IsMade self.new prov) }
@@ -164,7 +172,8 @@ impl Memory {
     /// The bytes of a value: `size` bytes of an integer, but at most eight, eight of a pointer, those of a structure or union.
     pub fn bytes_of(&self, alloc: Global, v: &Value, size: u64) -> Result<Block, NoMemory>
         ensures bytes { AreNamed self.now → IsMadeValue self.now v.now → IfOk result (λ b. seen self.now b.cells ≡ value_bytes self.now size v.now) }
-        ensures known { AreNamed self.now → IsMadeValue self.now v.now → IsKnownValue self.now v.now → IfOk result (λ b. CellsKnown (length self.now.origins) b.cells) }
+        ensures known { AreNamed self.now → IsMadeValue self.now v.now → IsKnownValue self.now v.now →
+            IfOk result (λ b. CellsKnown (length self.now.origins) b.cells) }
         ensures tagged { IsTaggedValue self.now v.now → IfOk result (λ b. CellsTagged (length self.now.types) b.cells) }
         ensures source { IfOk result (λ b. b.source ≡ source_of v.now) }
     {

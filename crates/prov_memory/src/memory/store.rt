@@ -39,15 +39,19 @@ impl Memory {
         bytes: &Block,
         t: &mut Touched,
     ) -> Result<(), Clause>
-        ensures exact { OnOk result (HasCell self.old prov → IsShort via (length bytes.now.cells) → (seen : Seen) → Sees self.old via seen → (io : Io) → run self.old.rows (acts.store self.old.rows first seen align addr prov (tagged_all self.old bytes.now.cells)) (store_of self.old io) ≡ Done tt t.new (store_of self.new io)) }
-        ensures raises { IfErr result (λ c. (seen : Seen) → Sees self.old via seen → (io : Io) → run self.old.rows (acts.store self.old.rows first seen align addr prov (tagged_all self.old bytes.now.cells)) (store_of self.old io) ≡ Raised c) }
+        ensures exact { OnOk result (HasCell self.old prov → IsShort via (length bytes.now.cells) → (seen : Seen) → Sees self.old via seen → (io : Io) →
+            run self.old.rows (acts.store self.old.rows first seen align addr prov (tagged_all self.old bytes.now.cells))
+            (store_of self.old io) ≡ Done tt t.new (store_of self.new io)) }
+        ensures raises { IfErr result (λ c. (seen : Seen) → Sees self.old via seen → (io : Io) →
+            run self.old.rows (acts.store self.old.rows first seen align addr prov (tagged_all self.old bytes.now.cells)) (store_of self.old io) ≡ Raised c) }
         ensures same { OnErr result (self.new ≡ self.old) }
         ensures rows { self.new.rows ≡ self.old.rows }
         ensures rest { record self.new { objects = []; cells = [] } ≡ record self.old { objects = []; cells = [] } }
         ensures known { AreKnown self.old → CellsKnown (length self.old.origins) bytes.now.cells → AreKnown self.new }
         ensures made { (p : Prov) → IsMade self.old p → IsMade self.new p }
         ensures sound { IsSound self.old → CellsKnown (length self.old.origins) bytes.now.cells → IsSound self.new }
-        ensures kept { IsNumbered (length self.old.types) via → CellsKnown (length self.old.origins) bytes.now.cells → CellsTagged (length self.old.types) bytes.now.cells → Keeps self.old self.new }
+        ensures kept { IsNumbered (length self.old.types) via → CellsKnown (length self.old.origins) bytes.now.cells →
+            CellsTagged (length self.old.types) bytes.now.cells → Keeps self.old self.new }
     {
         self.store_cells(first, via, align, addr, prov, bytes.cells(), t)
     }
@@ -64,8 +68,12 @@ impl Memory {
         prov: Prov,
         t: &mut Touched,
     ) -> Result<(), Clause>
-        ensures exact { OnOk result (HasCell self.old prov → (seen : Seen) → Sees self.old via seen → (io : Io) → run self.old.rows (acts.store self.old.rows first seen align addr prov (number_bytes (bytes_of_kind kind) (low_bits value))) (store_of self.old io) ≡ Done tt t.new (store_of self.new io)) }
-        ensures raises { IfErr result (λ c. (seen : Seen) → Sees self.old via seen → (io : Io) → run self.old.rows (acts.store self.old.rows first seen align addr prov (number_bytes (bytes_of_kind kind) (low_bits value))) (store_of self.old io) ≡ Raised c) }
+        ensures exact { OnOk result (HasCell self.old prov → (seen : Seen) → Sees self.old via seen → (io : Io) →
+            run self.old.rows (acts.store self.old.rows first seen align addr prov (number_bytes (bytes_of_kind kind) (low_bits value)))
+            (store_of self.old io) ≡ Done tt t.new (store_of self.new io)) }
+        ensures raises { IfErr result (λ c. (seen : Seen) → Sees self.old via seen → (io : Io) →
+            run self.old.rows (acts.store self.old.rows first seen align addr prov (number_bytes (bytes_of_kind kind) (low_bits value)))
+            (store_of self.old io) ≡ Raised c) }
         ensures same { OnErr result (self.new ≡ self.old) }
         ensures rest { record self.new { objects = []; cells = [] } ≡ record self.old { objects = []; cells = [] } }
         ensures known { AreKnown self.old → AreKnown self.new }
@@ -90,8 +98,12 @@ impl Memory {
         value_prov: Prov,
         t: &mut Touched,
     ) -> Result<(), Clause>
-        ensures exact { AreNamed self.old → IsMade self.old value_prov → OnOk result (HasCell self.old prov → (seen : Seen) → Sees self.old via seen → (io : Io) → run self.old.rows (acts.store self.old.rows first seen align addr prov (pointer_bytes 8 0 value_prov value_addr)) (store_of self.old io) ≡ Done tt t.new (store_of self.new io)) }
-        ensures raises { AreNamed self.old → IsMade self.old value_prov → IfErr result (λ c. (seen : Seen) → Sees self.old via seen → (io : Io) → run self.old.rows (acts.store self.old.rows first seen align addr prov (pointer_bytes 8 0 value_prov value_addr)) (store_of self.old io) ≡ Raised c) }
+        ensures exact { AreNamed self.old → IsMade self.old value_prov → OnOk result (HasCell self.old prov → (seen : Seen) → Sees self.old via seen →
+            (io : Io) → run self.old.rows (acts.store self.old.rows first seen align addr prov (pointer_bytes 8 0 value_prov value_addr))
+            (store_of self.old io) ≡ Done tt t.new (store_of self.new io)) }
+        ensures raises { AreNamed self.old → IsMade self.old value_prov → IfErr result (λ c. (seen : Seen) → Sees self.old via seen → (io : Io) →
+            run self.old.rows (acts.store self.old.rows first seen align addr prov (pointer_bytes 8 0 value_prov value_addr))
+            (store_of self.old io) ≡ Raised c) }
         ensures same { OnErr result (self.new ≡ self.old) }
         ensures rest { record self.new { objects = []; cells = [] } ≡ record self.old { objects = []; cells = [] } }
         ensures known { AreNamed self.old → IsMade self.old value_prov → AreKnown self.old → AreKnown self.new }
@@ -113,15 +125,19 @@ impl Memory {
         cells: &[Cell],
         t: &mut Touched,
     ) -> Result<(), Clause>
-        ensures exact { OnOk result (HasCell self.old prov → IsShort via (length cells.now) → (seen : Seen) → Sees self.old via seen → (io : Io) → run self.old.rows (acts.store self.old.rows first seen align addr prov (tagged_all self.old cells.now)) (store_of self.old io) ≡ Done tt t.new (store_of self.new io)) }
-        ensures raises { IfErr result (λ c. (seen : Seen) → Sees self.old via seen → (io : Io) → run self.old.rows (acts.store self.old.rows first seen align addr prov (tagged_all self.old cells.now)) (store_of self.old io) ≡ Raised c) }
+        ensures exact { OnOk result (HasCell self.old prov → IsShort via (length cells.now) → (seen : Seen) → Sees self.old via seen → (io : Io) →
+            run self.old.rows (acts.store self.old.rows first seen align addr prov (tagged_all self.old cells.now)) (store_of self.old io) ≡ Done tt t.new
+            (store_of self.new io)) }
+        ensures raises { IfErr result (λ c. (seen : Seen) → Sees self.old via seen → (io : Io) →
+            run self.old.rows (acts.store self.old.rows first seen align addr prov (tagged_all self.old cells.now)) (store_of self.old io) ≡ Raised c) }
         ensures same { OnErr result (self.new ≡ self.old) }
         ensures rows { self.new.rows ≡ self.old.rows }
         ensures rest { record self.new { objects = []; cells = [] } ≡ record self.old { objects = []; cells = [] } }
         ensures known { AreKnown self.old → CellsKnown (length self.old.origins) cells.now → AreKnown self.new }
         ensures made { (p : Prov) → IsMade self.old p → IsMade self.new p }
         ensures sound { IsSound self.old → CellsKnown (length self.old.origins) cells.now → IsSound self.new }
-        ensures kept { IsNumbered (length self.old.types) via → CellsKnown (length self.old.origins) cells.now → CellsTagged (length self.old.types) cells.now → Keeps self.old self.new }
+        ensures kept { IsNumbered (length self.old.types) via → CellsKnown (length self.old.origins) cells.now →
+            CellsTagged (length self.old.types) cells.now → Keeps self.old self.new }
     {
         t.clear();
         let found = self.access(cells.len() as u64, align, addr, prov, t)?;
@@ -181,7 +197,8 @@ impl Memory {
     fn write(&mut self, found: Accessed, via: Via, cells: &[Cell], t: &mut Touched)
         requires { FallsIn self.old.objects found.object found.from (length cells.now) }
         ensures items { length t.old < 32 → t.new ≡ t.old ++ Write found.name found.from (length cells.now) ∷ [] }
-        ensures written { (h : Held) → slice_get self.old.objects found.object ≡ Some h → (g : Held) × (self.new ≡ record self.old { objects = changed (holding g.cells) h.name self.old.objects }) × IsWritten h g found.from via cells.now }
+        ensures written { (h : Held) → slice_get self.old.objects found.object ≡ Some h → (g : Held)
+            × (self.new ≡ record self.old { objects = changed (holding g.cells) h.name self.old.objects }) × IsWritten h g found.from via cells.now }
     {
         self.objects.write(found.object, found.from, via, cells);
         t.note(Item::Write {

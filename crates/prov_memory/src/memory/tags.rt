@@ -39,7 +39,8 @@ impl Memory {
 
     // The number of a type that stands in the list.
     fn listed_type(&self, ty: &Ty) -> Result<Option<TypeId>, NoMemory>
-        ensures some { IfOk result (λ found. IfSome found (λ id. (type_numbered (map type_of self.now.types) id.number ≡ Some (type_of ty.now)) × (id.number ≤ length self.now.types + 12))) }
+        ensures some { IfOk result (λ found. IfSome found (λ id. (type_numbered (map type_of self.now.types) id.number ≡ Some (type_of ty.now))
+            × (id.number ≤ length self.now.types + 12))) }
         ensures none { result ≡ Ok None → (at : ℕ) → slice_get (map type_of self.now.types) at ≡ Some (type_of ty.now) → ⊥ }
     {
         match types::place_of(self.types.as_slice(), ty) {
@@ -68,7 +69,8 @@ impl Memory {
     ) -> Result<Cell, NoMemory>
         ensures more { AddsTypes self.old self.new }
         ensures rest { record self.new { types = [] } ≡ record self.old { types = [] } }
-        ensures byte { IfOk result (λ c. tagged_in self.new.origins (map type_of self.new.types) c ≡ retagged_byte (option_map (λ shape. form_of shape.value) declared.now) place (tagged_in self.old.origins (map type_of self.old.types) cell)) }
+        ensures byte { IfOk result (λ c. tagged_in self.new.origins (map type_of self.new.types) c ≡ retagged_byte
+            (option_map (λ shape. form_of shape.value) declared.now) place (tagged_in self.old.origins (map type_of self.old.types) cell)) }
         ensures known { IfOk result (λ c. IsTagged (length self.old.types) cell → IsTagged (length self.new.types) c) }
         ensures origin { IfOk result (λ c. c.origin ≡ cell.origin) }
     {
@@ -81,7 +83,8 @@ impl Memory {
     fn tagged_by(&mut self, cell: Cell, shape: &Shape, place: u64) -> Result<Cell, NoMemory>
         ensures more { AddsTypes self.old self.new }
         ensures rest { record self.new { types = [] } ≡ record self.old { types = [] } }
-        ensures byte { IfOk result (λ c. tagged_in self.new.origins (map type_of self.new.types) c ≡ retagged_byte (Some (form_of shape.now)) place (tagged_in self.old.origins (map type_of self.old.types) cell)) }
+        ensures byte { IfOk result (λ c. tagged_in self.new.origins (map type_of self.new.types) c ≡ retagged_byte (Some (form_of shape.now)) place
+            (tagged_in self.old.origins (map type_of self.old.types) cell)) }
         ensures known { IfOk result (λ c. IsTagged (length self.old.types) cell → IsTagged (length self.new.types) c) }
         ensures origin { IfOk result (λ c. c.origin ≡ cell.origin) }
     {

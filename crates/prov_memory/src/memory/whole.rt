@@ -27,8 +27,11 @@ impl Memory {
         prov: Prov,
         t: &mut Touched,
     ) -> Result<Block, MemFault>
-        ensures exact { IfOk result (λ block. HasCell self.old prov → AreTagged self.old → (io : Io) → run self.old.rows (acts.load_block self.old.rows size align addr prov) (store_of self.old io) ≡ Done (tagged_all self.new block.cells) t.new (store_of self.new io)) }
-        ensures raises { IfErr result (λ fault. IfRaise fault (λ c. (io : Io) → run self.old.rows (acts.load_block self.old.rows size align addr prov) (store_of self.old io) ≡ Raised c)) }
+        ensures exact { IfOk result (λ block. HasCell self.old prov → AreTagged self.old → (io : Io) →
+            run self.old.rows (acts.load_block self.old.rows size align addr prov) (store_of self.old io) ≡ Done (tagged_all self.new block.cells) t.new
+            (store_of self.new io)) }
+        ensures raises { IfErr result (λ fault. IfRaise fault (λ c. (io : Io) →
+            run self.old.rows (acts.load_block self.old.rows size align addr prov) (store_of self.old io) ≡ Raised c)) }
         ensures same { IfErr result (λ fault. IfRaise fault (λ c. self.new ≡ self.old)) }
         ensures source { IfOk result (λ block. block.source ≡ Some addr) }
         ensures len { IfOk result (λ block. length block.cells ≡ size) }
@@ -54,8 +57,10 @@ impl Memory {
         ensures more { AddsTypes self.old self.new }
         ensures rest { record self.new { types = [] } ≡ record self.old { types = [] } }
         ensures len { IfOk result (λ cells. length cells.items ≡ len) }
-        ensures taken { IfOk result (λ cells. from + len ≤ 2 ^ 47 → AreTagged self.old → (h : Held) → slice_get self.old.objects at ≡ Some h → IsTaken self.old self.new h (option_map form_of h.declared) from len cells.items) }
-        ensures known { IfOk result (λ cells. AreKnown self.old → (h : Held) → slice_get self.old.objects at ≡ Some h → CellsKnown (length self.old.origins) cells.items) }
+        ensures taken { IfOk result (λ cells. from + len ≤ 2 ^ 47 → AreTagged self.old → (h : Held) → slice_get self.old.objects at ≡ Some h →
+            IsTaken self.old self.new h (option_map form_of h.declared) from len cells.items) }
+        ensures known { IfOk result (λ cells. AreKnown self.old → (h : Held) → slice_get self.old.objects at ≡ Some h →
+            CellsKnown (length self.old.origins) cells.items) }
     {
         let declared = self.declared_at(at)?;
         self.cells_by(at, &declared, from, len)
@@ -63,7 +68,8 @@ impl Memory {
 
     // The declared type of the object at the place.
     fn declared_at(&self, at: usize) -> Result<Option<Rc<Shape>>, NoMemory>
-        ensures { IfOk result (λ declared. (h : Held) → slice_get self.now.objects at ≡ Some h → option_map (λ shape. form_of shape.value) declared ≡ option_map form_of h.declared) }
+        ensures { IfOk result (λ declared. (h : Held) → slice_get self.now.objects at ≡ Some h →
+            option_map (λ shape. form_of shape.value) declared ≡ option_map form_of h.declared) }
     {
         match self.objects.get(at) {
             None => Ok(None),
@@ -82,8 +88,10 @@ impl Memory {
         ensures more { AddsTypes self.old self.new }
         ensures rest { record self.new { types = [] } ≡ record self.old { types = [] } }
         ensures len { IfOk result (λ cells. length cells.items ≡ len) }
-        ensures taken { IfOk result (λ cells. from + len ≤ 2 ^ 47 → AreTagged self.old → (h : Held) → slice_get self.old.objects at ≡ Some h → IsTaken self.old self.new h (option_map (λ shape. form_of shape.value) declared.now) from len cells.items) }
-        ensures known { IfOk result (λ cells. AreKnown self.old → (h : Held) → slice_get self.old.objects at ≡ Some h → CellsKnown (length self.old.origins) cells.items) }
+        ensures taken { IfOk result (λ cells. from + len ≤ 2 ^ 47 → AreTagged self.old → (h : Held) → slice_get self.old.objects at ≡ Some h →
+            IsTaken self.old self.new h (option_map (λ shape. form_of shape.value) declared.now) from len cells.items) }
+        ensures known { IfOk result (λ cells. AreKnown self.old → (h : Held) → slice_get self.old.objects at ≡ Some h →
+            CellsKnown (length self.old.origins) cells.items) }
     {
         let mut cells = Vec::with_capacity(self.alloc, len as usize)?;
         for offset in 0..len {
