@@ -7,7 +7,7 @@ use Rattle.ub_base.specs.declared.names.ObjName.{ObjName}
 use Rattle.addr_map.specs.declared.map.Row.{Row}
 use Rattle.addr_map.specs.Rows.{first_row, contains, is_past, overlaps}
 use Rattle.addr_map.specs.Sound.{rows_in, Keyed, Above, Apart, AllSized, EachHeld, or_else, last_row, inside_of, ending_of, reaches}
-use Rattle.addr_map.specs.Rows.{name_of, covers, past}
+use Rattle.addr_map.specs.Rows.{covers, past}
 use Rattle.addr_map.proofs.RowLists.{size_of_lawful, end_of_lawful}
 
 cons_is : (e f : ℕ × Row) (es fs : List (ℕ × Row)) → e ∷ es ≡ f ∷ fs → (e ≡ f) × (es ≡ fs)
@@ -195,10 +195,6 @@ passes_if false test r s found e h more = more h
 pub last_passes : (test : ℕ → Bool) (rs : List Row) (s : Row) → last_row test rs ≡ Some s → test s.base ≡ true
 last_passes test [] s h = absurd (cc)
 last_passes test (r ∷ rs) s h = passes_if (test r.base) test r s (last_row test rs) refl h (λ g. last_passes test rs s g)
-
-named_cond : (b : Bool) (r : Row) → name_of (cond b (Some r) None) ≡ cond b (Some r.name) None
-named_cond true r = refl
-named_cond false r = refl
 
 pub covers_none : (a : ℕ) (rs : List Row) → Apart rs → last_row (λ c. nat_le c a) rs ≡ None → covers rs a ≡ None
 covers_none a rs apart h = rw (inside_is a rs apart, h) refl

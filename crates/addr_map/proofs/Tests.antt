@@ -1,5 +1,5 @@
 -- Tests of numbers by their order, and choices by tests.
-use Rattle.std.proofs.Common.{◌≡◌, ℕ, ◌≤◌, ◌<◌, ◌≢◌, Bool, true, false, cond, not, refl, sym, arith, Some, None, Option}
+use Rattle.std.proofs.Common.{◌≡◌, ℕ, ◌≤◌, ◌<◌, Bool, true, false, cond, not, refl, sym, arith, Some, None, Option}
 use Rattle.std.specs.Prelude.{◌==◌, nat_lt, nat_le}
 use Rattle.std.specs.Ordering.{nat_cmp, is_eq, is_le, is_lt}
 use Rattle.std.specs.Cmp.{unsigned_ties}
@@ -31,9 +31,6 @@ lt_false m n h = grind (arith, nat_tests)
 
 pub eq_true : (m n : ℕ) → (m == n) ≡ true → m ≡ n
 eq_true m n h = grind (arith, nat_tests)
-
-pub eq_false : (m n : ℕ) → m ≢ n → (m == n) ≡ false
-eq_false m n h = grind (arith, nat_tests)
 
 -- nothing was found where the first isn't it and the others don't have it
 pub none_parts : {X : Type 0} (b : Bool) (x : X) (o : Option X) → cond b (Some x) o ≡ None → (b ≡ false) × (o ≡ None)

@@ -200,10 +200,6 @@ pub drop_end : (n : ℕ) (p whole : Path) → n ≤ 0 → drop n p ≡ whole →
 drop_end zero p whole h is = is
 drop_end (suc n) p whole h is = absurd (omega arith)
 
--- the levels at which two paths are compared
-pub level_from : (p q r : Path) (n : ℕ) → r ≡ drop n q → n ≡ length q - length p → length p < length q → length p ≡ length r
-level_from p q r n e m h = omega (arith, length-drop' n q (omega arith), ap (length {A = ℕ × ℕ}) e)
-
 pub longer_from : (p q r : Path) (n : ℕ) (o : Ordering) → o ≡ path_cmp p r → r ≡ drop n q → n ≡ length q - length p → length p < length q →
     ordering_then o Less ≡ path_cmp p q
 longer_from p q r n o is e m h =

@@ -128,9 +128,6 @@ read_more text rest more done s is e =
 pub HasSteps-push : (done : Path) (s : ℕ × ℕ) → HasSteps done → IsStep s → HasSteps (done ++ s ∷ [])
 HasSteps-push done s h k = HasSteps-append done (s ∷ []) h (k, tt)
 
-pub rest_shrinks : (s : ℕ × ℕ) (rest more : List ℕ) → step_text s ++ more ≡ rest → length more < length rest
-rest_shrinks s rest more e = omega (arith, ap (length {A = ℕ}) e, length-append (decimal s.0 ++ 58 ∷ decimal s.1) more)
-
 -- where all is read, the text is that path's
 pub frame_text-read : (text rest : List ℕ) (done : Path) → text ≡ codes "main" ++ (steps_text done ++ rest) → length rest ≤ 0 →
     frame_text (reverse done) ≡ text

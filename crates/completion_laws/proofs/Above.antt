@@ -74,9 +74,6 @@ use Rattle.completion_laws.proofs.Ahead.{
   behind_out,
 }
 
-abbrev Some_is : ℕ → Option ℕ → Type 0
-Some_is p o = o ≡ Some p
-
 -- ---- the node above is this one: its own events come last
 above_own : (k end : ℕ) (us own : List Place) → ((w : Place) → has us w ≡ true → (suc k ≤ w.node) × (w.node < end))
     → ((w : Place) → has own w ≡ true → w.node ≡ k) → comes_next k own ≡ true → outside (suc k) end (us ++ own) ≡ comes_next k (us ++ own)

@@ -63,9 +63,6 @@ kids t = (out-Typed t).children
 opened : (t : Typed) → tree_of t ≡ node (class_fold (out-Typed t).node (trees_of (kids t))) (trees_of (kids t))
 opened t = fold_out-Typed (Trees → Class) Tree node_class typed_tree t
 
-eta : (t : Tree) (c : Class) (ts : Trees) → t ≡ node c ts → t ≡ node (class_of t) ts
-eta t c ts h = h ∙ ap (λ z. node z ts) (sym (ap class_of h))
-
 -- ---- the nodes by their numbers
 same_info : (nodes : List NodeInfo) (k : ℕ) (x y : NodeInfo) → slice_get nodes k ≡ Some x → slice_get nodes k ≡ Some y → x ≡ y
 same_info nodes k x y a b = let both : Some x ≡ Some y = sym a ∙ b in cc

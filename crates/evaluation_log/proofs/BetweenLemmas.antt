@@ -1,5 +1,5 @@
 -- Operands that stand one behind the other, and clashes between them.
-use Rattle.std.proofs.Common.{◌≡◌, ◌≢◌, ◌⊎◌, ⊎_elim, ℕ, zero, suc, ◌≤◌, ◌<◌, ◌+◌, ◌-◌, ◌^◌, min, Bool, true, false, ◌&&◌, ◌||◌, List, length, refl, sym, ap}
+use Rattle.std.proofs.Common.{◌≡◌, ◌≢◌, ◌⊎◌, ⊎_elim, ℕ, zero, suc, ◌≤◌, ◌<◌, ◌+◌, ◌-◌, Bool, true, false, ◌&&◌, ◌||◌, List, length, refl, sym, ap}
 use Rattle.std.proofs.Common.{◌∙◌, subst, arith, Option, Some, None}
 use Rattle.std.specs.Prelude.{slice_get, IfNone, IfSome}
 use Rattle.std.proofs.lemmas.Option.{slice_get_past}
@@ -138,16 +138,6 @@ pub behind_by : (segments : List Segment) (events : List Logged) (items : List I
     a ≡ start_of segments events (suc g) → b ≡ length events → ((j : Item) → f j ≡ range_has events items sought a (b - a) j) →
     (j : Item) → f j ≡ behind_has sought segments events items g j
 behind_by segments events items sought g a b f from to has j = has j ∙ (λ t. range_has events items sought (from t) (to t - from t) j)
-
-pub start_saturated : (segments : List Segment) (events : List Logged) (g n : ℕ) → n ≡ min (g + 1) (2 ^ 64 - 1) → length segments < 2 ^ 63 →
-    start_of segments events n ≡ start_of segments events (suc g)
-start_saturated segments events g n is few =
-    ⊎_elim (λ e. ap (start_of segments events) e)
-    (λ past. start_past segments events n past.0 ∙ sym (start_past segments events (suc g) past.1))
-    (either_way (length segments) g n is few)
-  where
-    either_way : (m g n : ℕ) → n ≡ min (g + 1) (2 ^ 64 - 1) → m < 2 ^ 63 → (n ≡ suc g) ⊎ ((m ≤ n) × (m ≤ suc g))
-    either_way m g n is few = grind arith
 
 pub rest_step : (segments : List Segment) (events : List Logged) (items : List Item) (sought : Sought) (at q p : ℕ) (old now foot : Item → Bool) →
     p ≡ suc q → at ≤ q → AreSorted segments events at → ((j : Item) → now j ≡ (old j || foot j)) →

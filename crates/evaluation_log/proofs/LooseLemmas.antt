@@ -1,8 +1,7 @@
 -- Events and the side effects that are listed.
-use Rattle.std.proofs.Common.{◌≡◌, ⊎_elim, ℕ, ◌≤◌, ◌<◌, ◌+◌, ◌-◌, Bool, true, false, List, length, refl, sym, ap, ◌∙◌, arith, Option, Some, None, subst}
-use Rattle.std.proofs.Common.{below_more, if◌then◌else◌}
-use Rattle.std.specs.Prelude.{Box, slice_get, IfSome, IfNone}
-use Rattle.std.specs.Global.{Global}
+use Rattle.std.proofs.Common.{◌≡◌, ⊎_elim, ℕ, ◌≤◌, ◌<◌, ◌-◌, Bool, true, false, List, length, refl, sym, ap, ◌∙◌, arith, Option, Some, None, subst}
+use Rattle.std.proofs.Common.{if◌then◌else◌}
+use Rattle.std.specs.Prelude.{slice_get, IfSome, IfNone}
 use Rattle.std.proofs.lemmas.Option.{slice_get_past}
 use Rattle.ub_base.specs.declared.names.Item.{Item}
 use Rattle.ub_base.specs.Frames.{Row as FrameRow}
@@ -20,10 +19,6 @@ use Rattle.evaluation_log.specs.Kept.{IsApart, span_of}
 use Rattle.evaluation_log.specs.Loose.{event_of, loose_has, NoLoose, HasLoose}
 use Rattle.evaluation_log.proofs.KeptLemmas.{touched_by, or_split, before_or_past}
 use Rattle.evaluation_log.proofs.StandLemmas.{stand_conflict}
-
-pub loose_within : (rows : List Row) (events : List Logged) (items : List Item) (loose : List ℕ) (from : ℕ) (f : Item → Bool) (foot : Foot) →
-    HasLoose events items loose from foot → NoClash Any rows f (holds foot) → NoLoose rows events items loose from f
-loose_within rows events items loose from f foot has none i le x y c = none x y (c.0, has i le y c.1, c.2)
 
 -- past the list there is none
 pub loose_past : (events : List Logged) (items : List Item) (loose : List ℕ) (i : ℕ) (j : Item) → length loose ≤ i → loose_has events items loose i j ≡ false
@@ -77,31 +72,9 @@ first_none rows None b h = (refl, h)
 first_none rows (Some f) None h = absurd (cc)
 first_none rows (Some f) (Some g) h = one_of (counts_before rows g f) f g ((Some f ≡ None) × (Some g ≡ None)) h
 
-pub rise_plain : (P : ℕ → Type 0) (best r : Option Found) (from n : ℕ) → (r ≡ None → (best ≡ None) × P n) →
-    (best ≡ None → (i : ℕ) → i < n → from ≤ i → P i) → r ≡ None → (i : ℕ) → i < n + 1 → from ≤ i → P i
-rise_plain P best r from n step old e =
-    let s = step e in
-    below_more _ _ (old s.0) (λ le. s.1)
-
-pub rise_none : (P : ℕ → Type 0) (first best r : Option Found) (from n : ℕ) → (r ≡ None → (best ≡ None) × P n) →
-    (best ≡ None → (first ≡ None) × ((i : ℕ) → i < n → from ≤ i → P i)) → r ≡ None → (first ≡ None) × ((i : ℕ) → i < n + 1 → from ≤ i → P i)
-rise_none P first best r from n step old e =
-    let s = step e in
-    let o = old s.0 in
-    (o.0, below_more _ _ o.1 (λ le. s.1))
-
 pub none_at : (P : Type 0) (o : Option Found) → o ≡ None → IfNone o P → P
 none_at P o e h = subst (λ (x : Option Found). IfNone x P) e h
 
 pub if_none_by : (r : Option Found) (Q : Type 0) → (r ≡ None → Q) → IfNone r Q
 if_none_by None Q h = h refl
 if_none_by (Some f) Q h = tt
-
--- the set that was put
-pub set_right : (events : List Logged) (items : List Item) (loose : List ℕ) (from : ℕ) (foot : Foot) (b f : Box Foot Global) → b.value ≡ foot → b ≡ f →
-    HasLoose events items loose from foot → HasLoose events items loose from f.value
-set_right events items loose from foot b f v e has = subst (λ (x : Foot). HasLoose events items loose from x)
-    (sym v ∙ ap (λ (x : Box Foot Global). x.value) e) has
-
-abbrev pub FromHere : List Row → List Logged → List Item → List ℕ → (own from : ℕ) → Type 0
-FromHere rows events items loose own from = (k : ℕ) → own ≤ k → k < length events → NoLoose rows events items loose from (event_has items (slice_get events k))

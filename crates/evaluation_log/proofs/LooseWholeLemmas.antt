@@ -1,6 +1,6 @@
 -- What is kept of loose events stays right, as the log goes on.
-use Rattle.std.proofs.Common.{◌≡◌, ◌⊎◌, inl, inr, ⊎_elim, ℕ, zero, suc, ◌≤◌, ◌<◌, ◌+◌, ◌-◌, Bool, true, false, List, [], ◌∷◌, ◌++◌, length, take, drop, refl}
-use Rattle.std.proofs.Common.{sym, ap, ◌∙◌, arith, Option, Some, None, subst, length-append, length-take, ◌||◌}
+use Rattle.std.proofs.Common.{◌≡◌, ◌⊎◌, inl, inr, ⊎_elim, ℕ, zero, suc, ◌≤◌, ◌<◌, ◌+◌, ◌-◌, Bool, true, false, List, [], ◌∷◌, ◌++◌, length, take, refl}
+use Rattle.std.proofs.Common.{sym, ap, ◌∙◌, arith, Option, Some, None, subst, length-take, ◌||◌}
 use Rattle.std.specs.Prelude.{Box, slice_get, IfSome}
 use Rattle.std.specs.Global.{Global}
 use Rattle.std.proofs.lemmas.List.{length_push}
@@ -454,10 +454,6 @@ right_moved ss ts es fs is js gs hs ls ms a b c d e w =
     (subst (λ (x : List Item). LooseWhole ss es x hs ms) (sym c)
     (subst (λ (x : List ℕ). LooseWhole ss es is x ms) (sym d) (subst (λ (x : List Level). LooseWhole ss es is gs x) (sym e) w))))
 
--- ---- lists of which some is left out
-pub thin_self : (first : ℕ) (xs : List ℕ) → Thins first xs xs
-thin_self first xs = record { before = λ i less. refl; behind = λ i k le at. (i, le, at); reach = λ le. le }
-
 pub thin_after : (first : ℕ) (xs ys zs : List ℕ) → Thins first xs ys → Thins first ys zs → Thins first xs zs
 thin_after first xs ys zs one two = record {
   before = λ i less. two.before i less ∙ one.before i less;
@@ -474,23 +470,6 @@ thin_take first xs = record {
       omega (arith, w, e, le));
   reach = λ le. let e = take_part first xs le in omega (arith, e);
 }
-
-removed_get : (n : ℕ) (xs : List ℕ) (i k : ℕ) → n ≤ i → slice_get (take n xs ++ drop (suc n) xs) i ≡ Some k → slice_get xs (suc i) ≡ Some k
-removed_get zero [] i k le h = absurd (cc)
-removed_get zero (x ∷ xs) i k le h = h
-removed_get (suc n) [] i k le h = absurd (cc)
-removed_get (suc n) (x ∷ xs) zero k le h = absurd (omega (arith, le))
-removed_get (suc n) (x ∷ xs) (suc i) k le h = removed_get n xs i k (omega (arith, le)) h
-
-pub thin_removed : (at : ℕ) (xs : List ℕ) → at < length xs → Thins at xs (take at xs ++ drop (suc at) xs)
-thin_removed at xs less =
-    let n = take_part at xs (omega (arith, less)) in
-    let m = length-append (take at xs) (drop (suc at) xs) in
-    record {
-      before = λ i under. get_left (take at xs) (drop (suc at) xs) i (omega (arith, n, under)) ∙ get_take at xs i under;
-      behind = λ i k le there. (suc i, omega (arith, le), removed_get at xs i k le there);
-      reach = λ le. omega (arith, m, n);
-    }
 
 pub some_at : {X : Type 0} (P : X → Type 0) (o : Option X) (x : X) → o ≡ Some x → IfSome o P → P x
 some_at P o x e h = subst (λ (p : Option _). IfSome p P) e h

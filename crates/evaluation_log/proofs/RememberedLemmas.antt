@@ -1,5 +1,5 @@
 -- What is remembered of a frame stays in its set, or its object died there.
-use Rattle.std.proofs.Common.{◌≡◌, ◌⊎◌, inl, inr, ⊎_elim, ℕ, zero, suc, ◌<◌, ◌+◌, Bool, true, false, not, ◌&&◌, ◌||◌, List, [], ◌∷◌, ◌++◌, set}
+use Rattle.std.proofs.Common.{◌≡◌, ◌⊎◌, inl, inr, ⊎_elim, ℕ, zero, suc, ◌<◌, ◌+◌, Bool, true, false, not, ◌&&◌, ◌||◌, List, [], ◌∷◌, set}
 use Rattle.std.proofs.Common.{Option, Some, None, refl, sym, ap, ◌∙◌, arith}
 use Rattle.std.specs.Prelude.{slice_get, slice_index_or, length, ◌==◌}
 use Rattle.std.proofs.lemmas.Option.{same_Some, slice_get-get_or}
@@ -73,18 +73,6 @@ NoneRemembered es = (p : ℕ) (frame : Frame) (item : Item) → slice_get es p �
 pub none_at_first : (es : List (Frame × Item)) → es ≡ [] → NoneRemembered es
 none_at_first [] e p frame item h = absurd (cc)
 none_at_first (x ∷ es) e p frame item h = absurd (cc)
-
-got_pushed : (es : List (Frame × Item)) (y x : Frame × Item) (p : ℕ) → slice_get (es ++ y ∷ []) p ≡ Some x → (slice_get es p ≡ Some x) ⊎ (x ≡ y)
-got_pushed [] y x zero h = inr (sym (same_Some y x h))
-got_pushed [] y x (suc p) h = absurd (cc)
-got_pushed (e ∷ es) y x zero h = inl h
-got_pushed (e ∷ es) y x (suc p) h = got_pushed es y x p h
-
-pub none_pushed : (old new : List (Frame × Item)) (y : Frame × Item) → new ≡ old ++ y ∷ [] → is_remembered y.1 ≡ false → NoneRemembered old →
-    NoneRemembered new
-none_pushed old new y is plain none p frame item h =
-    ⊎_elim (λ q. none p frame item q) (λ q. ap (λ (z : Frame × Item). is_remembered z.1) q ∙ plain)
-    (got_pushed old y (frame, item) p (ap (λ zs. slice_get zs p) (sym is) ∙ h))
 
 pub none_known : (known : Known) → NoneRemembered known.entries.items → (frame : Frame) (item : Item) → Knows known frame item → ⊥
 none_known known none frame item w = absurd (let e : false ≡ true = sym (none w.1.0 frame item w.1.1) ∙ w.0 in cc)

@@ -44,16 +44,6 @@ dropped (t ∷ ts) zero x h e = ap (λ z. z ∷ ts) (sym e)
 dropped (t ∷ ts) (suc i) x h e =
     dropped ts i x (omega (arith, h)) e ∙ ap (λ z. x ∷ drop z (t ∷ ts)) (next i)
 
--- an operand's rules are added to those that are there
-pub rules_step : (ts : List Typed) (i : ℕ) (x : Typed) (old new : List Rule) → i < length ts → x ≡ get_or ts i x → new ≡ old ++ rules_of x (length old) →
-    old ++ rules_among (map rules_of (drop i ts)) (length old) ≡ new ++ rules_among (map rules_of (drop (i + 1) ts)) (length new)
-rules_step ts i x old new h e p =
-    let n : length new ≡ length old + length (rules_of x (length old)) = ap length p ∙ length-join old (rules_of x (length old)) in
-    let rest = map rules_of (drop (i + 1) ts) in
-    ap (λ z. old ++ rules_among (map rules_of z) (length old)) (dropped ts i x h e)
-    ∙ (sym (append_assoc old (rules_of x (length old)) (rules_among rest (length old + length (rules_of x (length old)))))
-    ∙ (ap (λ z. z ++ rules_among rest (length old + length (rules_of x (length old)))) (sym p) ∙ ap (λ z. new ++ rules_among rest z) (sym n)))
-
 pub last_step : (ts : List Typed) (i last : ℕ) (x : Typed) (old new : List Rule) → i < length ts → x ≡ get_or ts i x → new ≡ old ++ rules_of x (length old) →
     last_among (map rules_of (drop i ts)) (length old) last ≡ last_among (map rules_of (drop (i + 1) ts)) (length new) (length old)
 last_step ts i last x old new h e p =

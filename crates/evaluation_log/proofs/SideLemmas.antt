@@ -220,7 +220,3 @@ last_found k (node class ts) n a less h s q =
 pub first_opened : (b : Bool) (ss : List Side) → b ≡ true → first_loud ss ≡ first_loud (opened b ss)
 first_opened true ss h = refl
 first_opened false ss h = absurd (cc)
-
-pub first_closed : (b : Bool) (ss : List Side) → b ≡ false → None ≡ first_loud (opened b ss)
-first_closed false ss h = refl
-first_closed true ss h = absurd (cc)

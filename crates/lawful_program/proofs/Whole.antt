@@ -5,7 +5,6 @@ use Rattle.c_types.specs.Layout.{extent, extents, size_of}
 use Rattle.c_types.specs.Leaves.{scalars}
 use Rattle.c_types.specs.declared.tags.Extent.{Extent}
 use Rattle.c_typed.specs.declared.program.Constant.{Constant}
-use Rattle.c_typed.specs.declared.program.Function.{Function}
 use Rattle.c_typed.specs.declared.program.Static.{Static}
 use Rattle.c_typed.specs.declared.program.Program.{Program}
 use Rattle.c_typed.specs.Lawful.{
@@ -52,20 +51,3 @@ there_some (Some e) h = search
 
 complete : (p : Program) (ss : List Static) → All (StaticIsLawful p) ss → All (IsComplete p.tags) ss
 complete p ss h i d lt = let s = h i d lt in there_some (extent (extents p.tags) (qualified_of (get_or ss i d).qual).ty) s.sized
-
-pub program_lawful : (p : Program) (fs : List Function) (ls : List (List ℕ)) (ss : List Static) → HasMain p → MainHasType p → IsNumbered p →
-    fs ≡ p.functions → ls ≡ p.literals → ss ≡ p.statics →
-    All IsExternal fs → All HasBytes ls → All AreBytes ls → All (StaticIsLawful p) ss → All (FunctionIsLawful p) fs → IsLawful p
-program_lawful p fs ls ss main main_type numbered f l s external some bytes statics functions =
-    let objects = subst (All (StaticIsLawful p)) s statics in
-    record {
-      main = main;
-      main_type = main_type;
-      functions = subst (All (FunctionIsLawful p)) f functions;
-      library = subst (All IsExternal) f external;
-      literals = subst (All HasBytes) l some;
-      bytes = subst (All AreBytes) l bytes;
-      complete = complete p p.statics objects;
-      statics = objects;
-      numbered = numbered;
-    }

@@ -28,10 +28,8 @@ use Rattle.std.proofs.Common.{
   arith,
   rules,
 }
-use Rattle.std.proofs.lemmas.List.{map-append}
-use Rattle.c_types.specs.Types.{CType, type_of}
 use Rattle.c_types.specs.Shapes.{Form, form_of, forms_of, put_of}
-use Rattle.c_types.specs.Leaves.{Scalar, one_scalar, shifted, repeated_scalars, leaves, all_leaves}
+use Rattle.c_types.specs.Leaves.{Scalar, shifted, repeated_scalars, leaves, all_leaves}
 use Rattle.c_types.specs.declared.shape.Placed.{Placed, the_lemmas}
 use Rattle.layout.specs.declared.leaves.Leaf.{Leaf}
 use Rattle.layout.specs.Listed.{scalar_of, capped}
@@ -48,17 +46,6 @@ cap_append o [] ys = refl
 cap_append o (x ∷ xs) ys =
     let f : List Scalar → List Scalar = λ zs. (record { offset = min (o + x.offset) (2 ^ 64 - 1); ty = x.ty }) ∷ zs in
     ap f (cap_append o xs ys)
-
-pub leaf_added :
-    (old new : List Leaf) (l : Leaf) (o : ℕ) (t : CType) → o < 2 ^ 64 → new ≡ old ++ l ∷ [] → l.offset ≡ o → type_of l.ty ≡ t →
-    map scalar_of new ≡ map scalar_of old ++ map capped (shifted o (one_scalar t))
-leaf_added old new l o t small is at own =
-    let same : l.offset ≡ min (o + 0) (2 ^ 64 - 1) = omega arith in
-    let f : ℕ → CType → List Scalar = λ n u. map scalar_of old ++ (record { offset = n; ty = u }) ∷ [] in
-    ap (map scalar_of) is
-    ∙ (map-append scalar_of old (l ∷ [])
-    ∙ (ap (λ (n : ℕ). f n (type_of l.ty)) same
-    ∙ ap (f (min (o + 0) (2 ^ 64 - 1))) own))
 
 pub part_repeated :
     (old now new : List Scalar) (o i step at : ℕ) (xs : List Scalar) → at ≡ min (o + min (i * step) (2 ^ 64 - 1)) (2 ^ 64 - 1) →

@@ -32,14 +32,14 @@ use Rattle.std.proofs.Common.{
   ◌∙◌,
   arith,
 }
-use Rattle.std.specs.Prelude.{slice_get, if◌then◌else◌}
+use Rattle.std.specs.Prelude.{if◌then◌else◌}
 use Rattle.std.specs.Option.{option_map}
 use Rattle.std.specs.Str.{bytes_eq}
 use Rattle.c_types.specs.declared.tags.Member.{Member}
 use Rattle.c_types.specs.declared.tags.Tag.{Tag}
 use Rattle.c_types.specs.Types.{qualified_of}
 use Rattle.c_types.specs.Layout.{member_offset, type_of_member}
-use Rattle.layout.specs.Names.{Named, Place, place, farther, also_const, itself, inside, if_named, brought, member_names, tag_names, names_by, named}
+use Rattle.layout.specs.Names.{Named, Place, place, farther, also_const, itself, inside, if_named, brought, member_names, named}
 use Rattle.layout.specs.Listed.{nearer, const_place}
 
 -- the same place, further on
@@ -157,16 +157,3 @@ found_later name f tags tag i ms m r total h e is none before =
     (sym (miss (member_offset tags tag i) (named name (brought f m)) (named name (member_names f tags tag (i + 1) (drop (i + 1) ms))) (sym is ∙ none))
     ∙ sym (named_next name f tags tag i ms m h e))
     ∙ before
-
-pub names_of_tag :
-    (depth : ℕ) (tags : List Tag) (tag : ℕ) (t : Tag) → 1 ≤ depth → slice_get tags tag ≡ Some t →
-    member_names (names_by (depth - 1) tags) tags tag 0 t.members ≡ names_by depth tags tag
-names_of_tag zero tags tag t h g = absurd (omega arith)
-names_of_tag (suc n) tags tag t h g =
-    let same : suc n - 1 ≡ n = omega arith in
-    ap (λ (k : ℕ). member_names (names_by k tags) tags tag 0 t.members) same
-    ∙ ap (tag_names (names_by n tags) tags tag) (sym g)
-
-pub names_of_none : (depth : ℕ) (tags : List Tag) (tag : ℕ) → slice_get tags tag ≡ None → names_by depth tags tag ≡ []
-names_of_none zero tags tag g = refl
-names_of_none (suc n) tags tag g = ap (tag_names (names_by n tags) tags tag) g

@@ -278,10 +278,6 @@ pub size_not_0 : (f : ℕ → TaggedByte) (n a k : ℕ) → string_size f n a �
 size_not_0 f zero a k e = absurd (cc)
 size_not_0 f (suc n) a k e = size_by (is_zero (f a).byte) (string_size f n (suc a)) k e
 
-units_follow : (m : Kept) (x : ObjName) (a n : ℕ) (s : Store) → CanFollow m.cells (units x a n) s
-units_follow m x a zero s = tt
-units_follow m x a (suc n) s = (tt, units_follow m x (suc a) n s)
-
 -- the bytes of a string are read
 string_done : (m : Kept) (s : Store) (r : Range) (k : ℕ) → s.bytes r.object ≡ byte_at m r.object →
     string_size (byte_at m r.object) (size_in (row_of m.rows r.object) - r.from) r.from ≡ Some k →

@@ -37,7 +37,7 @@ use Rattle.prov_memory.specs.declared.value.Value.{Value}
 use Rattle.prov_memory.specs.declared.answer.LibAnswer.{LibAnswer}
 use Rattle.prov_memory.specs.declared.answer.LibAnswer.TheVariants as answers
 use Rattle.mem_spec.specs.Store.{Store, TaggedByte, range_from}
-use Rattle.mem_spec.specs.Script.{Script, Give, ◌>>=◌, Act, Done, run}
+use Rattle.mem_spec.specs.Script.{Script, Give, ◌>>=◌, Act, run}
 use Rattle.mem_spec.specs.Streams.{Io}
 use Rattle.prov_memory.specs.Memory.{Kept, HasCell, store_of}
 use Rattle.libc_spec.specs.Library.{
@@ -65,27 +65,15 @@ use Rattle.libc_spec.specs.Library.{
 }
 use Rattle.libc_model.specs.declared.arguments.Range.{Range}
 use Rattle.libc_model.specs.Seen.{value_seen}
-use Rattle.libc_model.specs.Answers.{Answers, AreWithin, HaveCells}
-use Rattle.libc_model.specs.Parts.{after, CanFollow, Gives, Follows, ReadsAll, byte_at, bytes_of, text_in, IsPassed, limited}
-use Rattle.libc_model.proofs.Answering.{answers_of, address_is}
+use Rattle.libc_model.specs.Answers.{Answers, HaveCells}
+use Rattle.libc_model.specs.Parts.{Gives, Follows, ReadsAll, byte_at, bytes_of, text_in, limited}
+use Rattle.libc_model.proofs.Answering.{address_is}
 use Rattle.libc_model.proofs.Parts.{then_gives, then_follows, err_follows, gives_at_once}
 use Rattle.libc_model.proofs.Reading.{reads_follow}
 use Rattle.libc_model.proofs.Seen.{place_of-from}
 use Rattle.std.specs.List.{position, position_from}
 use Rattle.std.proofs.lemmas.Iterator.Adapters.{position_from-zero}
 use Rattle.std.proofs.lemmas.List.{length-map}
-
--- ---- the end of a call
--- the call gives its value, and what it settles and exposes took effect
-pub finish_gives : (v : Value) (m new : Kept) (io : Io) (is : List Item) (script : List Row → Script LibValue) → AreWithin io → IsPassed v →
-    Gives false LibValue m io [] is (script m.rows) (value_seen v) →
-    new.rows ≡ m.rows → (CanFollow m.cells is (store_of m io) → store_of new io ≡ after is (store_of m io)) →
-    Answers (answers.Value v) is (store_of new io) (limited (store_of m io) (run new.rows (script new.rows) (store_of m io)))
-finish_gives v m new io is script within passed g rows settled =
-    let act : run new.rows (script new.rows) (store_of m io) ≡ Done (value_seen v) g.items (after is (store_of m io)) =
-    ap (λ (rs : List Row). run rs (script rs) (store_of m io)) rows ∙ g.done in
-    subst (λ (act : Act LibValue). Answers (answers.Value v) is (store_of new io) (limited (store_of m io) act)) (sym act)
-    (answers_of (Ok v) is (store_of new io) (Done (value_seen v) (joined g.items) (after is (store_of m io))) within (passed, g.added, settled (g.able tt)))
 
 -- it gives none
 pub finish_fails : (e : LibAnswer) (m : Kept) (io : Io) (is : List Item) (script : List Row → Script LibValue) →

@@ -62,7 +62,7 @@ use Rattle.libc_spec.specs.Library.{
 }
 use Rattle.libc_model.specs.declared.arguments.Range.{Range}
 use Rattle.libc_model.specs.Seen.{value_seen}
-use Rattle.libc_model.specs.Answers.{Answers, AreWithin}
+use Rattle.libc_model.specs.Answers.{Answers}
 use Rattle.libc_model.specs.Parts.{
   after,
   CanFollow,
@@ -83,7 +83,7 @@ use Rattle.libc_model.specs.Writes.{Lists, Tells, within_limits}
 use Rattle.libc_model.proofs.Scripts.{then, behind, run_then, behind_done}
 use Rattle.libc_model.proofs.Parts.{or_false, joins_quiet, behind_raised, raises_then, after_bytes, after_append, follow_append}
 use Rattle.libc_model.proofs.Reading.{reads_follow}
-use Rattle.libc_model.proofs.Answering.{answers_of, address_is}
+use Rattle.libc_model.proofs.Answering.{address_is}
 
 -- ---- one part after another
 joined_quiet : (is : List Item) → has_read is ≡ false → joined is ≡ is
@@ -146,27 +146,6 @@ pub err_tells : {C D : Type 0} (A B : Type 0) (seen : C → A) (seen2 : D → B)
 err_tells A B seen seen2 answers.NoMemory m io old mid new p k h = tt
 err_tells A B seen seen2 (answers.Raise c) m io old mid new p k h = raises_then A B m.rows (after old (store_of m io)) p k c h
 err_tells A B seen seen2 answer m io old mid new p k h = absurd h
-
--- ---- the end of a call
--- the call gives its value, and what it settles and exposes took effect
-pub tells_value : (v : Value) (m new : Kept) (io : Io) (is : List Item) (script : List Row → Script LibValue) → AreWithin io → IsPassed v →
-    Lists LibValue m io [] is (script m.rows) (value_seen v) →
-    new.rows ≡ m.rows → (CanFollow m.cells is (store_of m io) → store_of new io ≡ after is (store_of m io)) →
-    Answers (answers.Value v) is (store_of new io) (within_limits (store_of m io) (run new.rows (script new.rows) (store_of m io)))
-tells_value v m new io is script within passed g rows settled =
-    let act : run new.rows (script new.rows) (store_of m io) ≡ Done (value_seen v) g.items (after is (store_of m io)) =
-    ap (λ (rs : List Row). run rs (script rs) (store_of m io)) rows ∙ g.done in
-    subst (λ (act : Act LibValue). Answers (answers.Value v) is (store_of new io) (within_limits (store_of m io) act)) (sym act)
-    (answers_of (Ok v) is (store_of new io) (Done (value_seen v) g.items (after is (store_of m io))) within (passed, g.added, settled (g.able tt)))
-
--- it gives none
-pub tells_none : (e : LibAnswer) (m : Kept) (io : Io) (is : List Item) (script : List Row → Script LibValue) →
-    Tells value_seen (Err e) m io [] is (script m.rows) →
-    Answers e is (store_of m io) (within_limits (store_of m io) (run m.rows (script m.rows) (store_of m io)))
-tells_none answers.NoMemory m io is script h = tt
-tells_none (answers.Raise c) m io is script h =
-    subst (λ (act : Act LibValue). Answers (answers.Raise c) is (store_of m io) (within_limits (store_of m io) act)) (sym h) refl
-tells_none e m io is script h = absurd h
 
 -- ---- the bytes of a range
 pub next_not_zero : (n : ℕ) → (suc n == 0) ≡ false

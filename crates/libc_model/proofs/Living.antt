@@ -1,5 +1,5 @@
 -- Lemmas on the lives of objects where items take effect.
-use Rattle.std.proofs.Common.{◌≡◌, ℕ, zero, suc, ◌+◌, ◌<◌, Bool, true, false, ◌||◌, drop, List, [], ◌∷◌, length, refl, ap, sym, subst, ◌∙◌, arith, Ok, Err}
+use Rattle.std.proofs.Common.{◌≡◌, ℕ, zero, suc, ◌+◌, ◌<◌, Bool, true, false, ◌||◌, drop, List, [], ◌∷◌, length, refl, ap, sym, ◌∙◌, arith, Ok, Err}
 use Rattle.std.specs.Prelude.{slice_index_or, Result, OnErr}
 use Rattle.ub_base.specs.declared.names.Item.{Item}
 use Rattle.ub_base.specs.declared.names.Item.TheVariants.{Expose}
@@ -9,18 +9,13 @@ use Rattle.mem_spec.specs.Store.{Store, shown}
 use Rattle.mem_spec.specs.Script.{Done, run}
 use Rattle.mem_spec.specs.Acts.{expose}
 use Rattle.prov_memory.specs.Keeps.{Keeps}
-use Rattle.prov_memory.proofs.KeepLemmas.{keeps_none, keeps_then}
-use Rattle.prov_memory.specs.Held.{held_of}
+use Rattle.prov_memory.proofs.KeepLemmas.{keeps_then}
 use Rattle.mem_spec.specs.Streams.{Io, silent}
-use Rattle.prov_memory.specs.Memory.{Kept, life_in, store_of}
-use Rattle.prov_memory.specs.Tags.{AreTagged, ObjectsTagged}
+use Rattle.prov_memory.specs.Memory.{Kept, store_of}
+use Rattle.prov_memory.specs.Tags.{AreTagged}
 use Rattle.libc_model.specs.Parts.{IsSettled}
 use Rattle.libc_model.specs.Writes.{LiveOn, has_expose, is_expose}
-use Rattle.libc_model.proofs.Settling.{SettlesRest, settles_all, settles_on}
-
--- an ambiguity is settled
-pub narrow_lives : (m new : Kept) → record new { cells = [] } ≡ record m { cells = [] } → LiveOn m new
-narrow_lives m new e x = ap (λ (k : Kept). life_in (held_of k.objects x)) e
+use Rattle.libc_model.proofs.Settling.{SettlesRest, settles_on}
 
 done_store : {V : Type 0} (v w : V) (is js : List Item) (s u : Store) → Done v is s ≡ Done w js u → s ≡ u
 done_store v w is js s u e = cc
@@ -41,9 +36,6 @@ pub record SettlesAlive (old now : Kept) (all rest : List Item) : Type 0 where
   pub tagged : has_expose all ≡ false → AreTagged old → AreTagged now
   pub keeps : Keeps old now
 
-pub alive_all : (m : Kept) (is : List Item) → SettlesAlive m m is is
-alive_all m is = record { settles = settles_all m is; lives = λ x. refl; tagged = λ none h. h; keeps = keeps_none m }
-
 or_false_left : (a b : Bool) → a || b ≡ false → a ≡ false
 or_false_left true b h = absurd (cc)
 or_false_left false b h = refl
@@ -56,9 +48,6 @@ exposes_none : (is : List Item) (k : ℕ) (d : Item) → k < length is → has_e
 exposes_none [] k d h none = absurd (omega (arith, h))
 exposes_none (i ∷ is) zero d h none = or_false_left (is_expose i) (has_expose is) none
 exposes_none (i ∷ is) (suc k) d h none = exposes_none is k d (omega (arith, h)) (or_false_right (is_expose i) (has_expose is) none)
-
-pub narrow_tagged : (m new : Kept) → record new { cells = [] } ≡ record m { cells = [] } → AreTagged m → AreTagged new
-narrow_tagged m new e h = subst (λ (k : Kept). ObjectsTagged (length k.types) k.objects) (sym e) h
 
 pub alive_on : (old now new : Kept) (all : List Item) (k : ℕ) (d : Item) → k < length all → SettlesAlive old now all (drop k all) →
     IsSettled now new (slice_index_or all k d) → LiveOn now new →

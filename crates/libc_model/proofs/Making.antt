@@ -173,18 +173,6 @@ rows_above m x n h =
     made_above (cannot_create m x n 16) (row_of m.rows x) m.mode m x n
     (λ e. or_false (is_some (held_of m.objects x)) (no_place m (row_of m.rows x) m.mode n 16) e) h
 
--- the rows after a creation
-pub rows_placed : (m new : Kept) (x : ObjName) (n b : ℕ) → cannot_create m x n 16 ≡ false → b ≡ base_by (row_of m.rows x) m.mode m.rows 16 →
-    new.rows ≡ rows_with (row_of m.rows x) (row_at x b n 16) m.rows → new.rows ≡ rows_made m x n
-rows_placed m new x n b able base rows =
-    rows ∙ ap (λ (k : ℕ). rows_with (row_of m.rows x) (row_at x k n 16) m.rows) base
-    ∙ ap (λ (c : Bool). cond c m.rows (rows_with (row_of m.rows x) (row_at x (base_by (row_of m.rows x) m.mode m.rows 16) n 16) m.rows)) (sym able)
-
-pub rows_unplaced : (m new : Kept) (x : ObjName) (n : ℕ) → cannot_create m x n 16 ≡ true → new ≡ m → new.rows ≡ rows_made m x n
-rows_unplaced m new x n able same =
-    ap (λ (k : Kept). k.rows) same
-    ∙ ap (λ (c : Bool). cond c m.rows (rows_with (row_of m.rows x) (row_at x (base_by (row_of m.rows x) m.mode m.rows 16) n 16) m.rows)) (sym able)
-
 pub both_left : (a b : Bool) → a && b ≡ true → a ≡ true
 both_left true b e = refl
 both_left false b e = absurd (cc)

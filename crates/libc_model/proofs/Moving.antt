@@ -137,18 +137,6 @@ nothing_by : (b : Bool) (p : Range × Range) → None ≡ cond b None (Some p) �
 nothing_by true p e = refl
 nothing_by false p e = absurd (cc)
 
--- where none moves, nothing is noted, and the bytes are as before
-pub nothing_moves : (m : Kept) (target source : Option Range) (s : Store) → None ≡ moving target source → AreEven target source →
-    (moved_items target source ≡ []) × (moved m target source s ≡ s)
-nothing_moves m None source s e even = (refl, refl)
-nothing_moves m (Some r) None s e even = (refl, refl)
-nothing_moves m (Some r) (Some u) s e even =
-    let none : (r.len == 0) ≡ true = nothing_by (r.len == 0) (r, u) e in (
-      ap₂ (λ (b d : Bool). cond b [] (Read u.object u.from u.len ∷ []) ++ cond d [] (Write r.object r.from r.len ∷ []))
-          (ap (λ (k : ℕ). k == 0) (sym even) ∙ none) none,
-      ap (λ (b : Bool). cond b s (with_bytes s r.object r.from (moved_bytes m r u (bytes_of m u)))) none,
-    )
-
 pub moved_noted : (target source : Option Range) (r u : Range) (is one js : List Item) (i : Item) → Some (r, u) ≡ moving target source →
     AreEven target source → i ≡ Read u.object u.from u.len → one ≡ is ++ i ∷ [] → js ≡ one ++ write_items (Some r) → js ≡ is ++ moved_items target source
 moved_noted target source r u is one js i e even read first second =

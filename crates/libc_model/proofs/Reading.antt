@@ -1,5 +1,5 @@
 -- Lemmas on the bytes of a range, read one after the other.
-use Rattle.std.proofs.Common.{◌≡◌, ℕ, suc, ◌+◌, ◌-◌, ◌<◌, ◌≤◌, Bool, true, ◌&&◌, List, [], ◌∷◌, ◌++◌, map, append_assoc, ap, ap₂, sym, subst, ◌∙◌, arith}
+use Rattle.std.proofs.Common.{◌≡◌, ℕ, suc, ◌+◌, ◌-◌, ◌<◌, ◌≤◌, Bool, true, ◌&&◌, List, [], ◌∷◌, ◌++◌, map, append_assoc, ap, sym, subst, ◌∙◌, arith}
 use Rattle.std.specs.Prelude.{Result, Ok, Err}
 use Rattle.std.proofs.lemmas.List.{append-nil, map-append}
 use Rattle.ub_base.specs.declared.names.Item.{Item}
@@ -21,16 +21,6 @@ pub record ReadsRest (f : ℕ → TaggedByte) (from len offset : ℕ) (ns : List
   pub written : all_written (range_from f (from + offset) (len - offset)) ≡ all_written (range_from f from len)
   pub numbers : ns ++ numbers (range_from f (from + offset) (len - offset)) ≡ numbers (range_from f from len)
   pub items : now ++ map Expose (origins_of (range_from f (from + offset) (len - offset))) ≡ old ++ map Expose (origins_of (range_from f from len))
-
-pub rest_all : (f : ℕ → TaggedByte) (from len : ℕ) (old : List Item) → ReadsRest f from len 0 [] old old
-rest_all f from len old =
-    let e : range_from f (from + 0) (len - 0) ≡ range_from f from len = let a : from + 0 ≡ from = omega arith in let b : len - 0 ≡ len = omega arith in ap₂
-    (range_from f) a b in
-    record {
-      written = ap all_written e;
-      numbers = ap numbers e;
-      items = ap (λ (bs : List TaggedByte). old ++ map Expose (origins_of bs)) e;
-    }
 
 rest_next : (f : ℕ → TaggedByte) (from len offset : ℕ) → offset < len →
     range_from f (from + offset) (len - offset) ≡ f (from + offset) ∷ range_from f (from + (offset + 1)) (len - (offset + 1))

@@ -114,7 +114,3 @@ expose_settles m new x is e rest known = record {
   rows = ap (λ (k : Kept). k.rows) rest;
   known = known;
 }
-
--- other items settle and expose nothing
-pub nothing_settles : (m : Kept) (i : Item) → ((s : Store) → effect i s ≡ s) → IsSettled m m i
-nothing_settles m i same = record { store = λ io can. sym (same (store_of m io)); cells = λ e. refl; rows = refl; known = λ h. h }

@@ -318,11 +318,6 @@ nothing_by : (b : Bool) (r : Range) (s w : Store) → None ≡ cond b None (Some
 nothing_by true r s w e = refl
 nothing_by false r s w e = absurd (cc)
 
-pub none_overwritten : (target : Option Range) (ns : List ℕ) (s : Store) → None ≡ without_empty target → overwritten target ns s ≡ s
-none_overwritten None ns s e = refl
-none_overwritten (Some r) ns s e = nothing_by (r.len == 0) r s
-    (with_bytes s r.object r.from (stored_from (declared_of (s.life r.object)) bytes 0 (map plain ns))) e
-
 -- ---- the script of a write
 -- nothing but items and a store
 abbrev pub did : List Item → Store → Act (Unit {0})

@@ -188,10 +188,6 @@ unwritten_act old x h items e fits have noted io =
     emptied_is old x h n io e (rw is fits.1) in
     rw (noted, s, e) (ap (λ (k : ℕ). Done tt (Alive x ∷ Write x 0 k ∷ []) (with_bytes (store_of old io) x 0 (replicate n fresh))) (many n ∙ is))
 
-pub not_unwritten_act : (old : Kept) (x : ObjName) (items : List Item) (rows : List Row) → held_of old.objects x ≡ None → items ≡ Alive x ∷ [] →
-    (io : Io) → run rows (unwrite rows x) (store_of old io) ≡ Done tt items (store_of old io)
-not_unwritten_act old x items rows e noted io = rw (noted, e) refl
-
 -- ---- birth
 added_split : (b c : Bool) (g h : Held) (rest : Option Held) → (b ≡ true → c ≡ true → ⊥) →
     cond b (Some g) (cond c (Some h) rest) ≡ cond c (Some h) (cond b (Some g) rest)

@@ -145,9 +145,6 @@ row_left old new x base size align rest is rows = (
       ∙ ap (λ (rs : List Row). record old { rows = rs; created = 2 ^ 62 }) (rows ∙ ap (λ (b : ℕ). rows_with (row_of old.rows x) (row_at x b size align) old.rows) is),
 )
 
-pub unchanged_row : (old new : Kept) (x : ObjName) (size align : ℕ) → new ≡ old → MayHaveRow old new x size align
-unchanged_row old new x size align e = (false, e)
-
 -- ---- a new object
 abbrev Bare : Option Held → Type 0
 Bare o = IfSome (life_in o) (λ l. l.kind.heap ≡ true → l.declared ≡ None)

@@ -1,8 +1,7 @@
 -- What comparisons of pointers settle.
-use Rattle.std.proofs.Common.{◌≡◌, ℕ, ◌<◌, Bool, true, false, cond, refl, sym, ap, ◌∙◌, subst, arith, List, [], ◌∷◌, ◌++◌, length, Option, Some, None}
+use Rattle.std.proofs.Common.{◌≡◌, ◌<◌, Bool, true, false, cond, refl, sym, ap, ◌∙◌, subst, arith, List, [], ◌∷◌, ◌++◌, length, Option, Some, None}
 use Rattle.std.specs.Prelude.{Result, Ok, Err, not}
 use Rattle.ub_base.specs.declared.clause.Clause.{Clause}
-use Rattle.ub_base.specs.declared.clause.Clause.TheVariants.{PointerDifference}
 use Rattle.ub_base.specs.declared.names.Event.{Event}
 use Rattle.ub_base.specs.declared.names.Item.{Item}
 use Rattle.ub_base.specs.declared.names.Item.TheVariants.{Narrow}
@@ -15,7 +14,7 @@ use Rattle.exposure.specs.declared.prov.Prov.TheVariants.{Empty, Whole, Either}
 use Rattle.exposure.specs.Cells.{Cells, kept_in, has_cell, is_other}
 use Rattle.mem_spec.specs.Store.{Store, settled}
 use Rattle.mem_spec.specs.Script.{Act, Done, Raised, Settle, touch, ◌>>◌, run, touched}
-use Rattle.mem_spec.specs.Acts.{settle_to, settle_common, diff, is_multiple, in_common, candidates}
+use Rattle.mem_spec.specs.Acts.{settle_to, settle_common}
 use Rattle.mem_spec.specs.Streams.{Io, silent}
 use Rattle.prov_memory.specs.Memory.{Kept, store_of}
 use Rattle.prov_memory.specs.Made.{Settling, CanSettle, settling_items, after_settling, IsMade}
@@ -172,12 +171,3 @@ pub common_raised : (m : Kept) (xs : List ObjName) (p q : Prov) (c d : Clause) (
     r ≡ common_settling m.cells xs p q c → r ≡ Err d → (io : Io) → run m.rows (settle_common xs p q c) (store_of m io) ≡ Raised d
 common_raised m xs p q c d r is err io =
     common_run m.rows m xs p q c io ∙ ap (λ (w : Result (Settling × Settling) Clause). both_outcome w (store_of m io)) (sym is ∙ err)
-
--- ---- distances
-pub diff_run : (rows : List Row) (a b size : ℕ) (p q : Prov) (s : Store) → is_multiple size a b ≡ true →
-    run rows (diff a p b q size) s ≡ run rows (settle_common (in_common (candidates p) (candidates q)) p q PointerDifference) s
-diff_run rows a b size p q s e = rw e refl
-
-pub diff_raised : (rows : List Row) (a b size : ℕ) (p q : Prov) (s : Store) → is_multiple size a b ≡ false →
-    run rows (diff a p b q size) s ≡ Raised PointerDifference
-diff_raised rows a b size p q s e = rw e refl

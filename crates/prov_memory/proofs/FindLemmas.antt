@@ -27,17 +27,12 @@ use Rattle.std.proofs.Common.{
   Some,
   None,
 }
-use Rattle.std.specs.Prelude.{Result, Ok, Err, IfOk, OnOk, OnErr, is_some, ◌==◌}
+use Rattle.std.specs.Prelude.{Result, Ok, Err, IfOk, OnOk, OnErr, is_some}
 use Rattle.ub_base.specs.declared.names.Event.{Event}
 use Rattle.ub_base.specs.declared.names.Item.{Item}
-use Rattle.ub_base.specs.declared.names.Item.TheVariants.{Lookup}
 use Rattle.ub_base.specs.declared.names.ObjName.{ObjName}
 use Rattle.ub_base.specs.Names.{same_event}
-use Rattle.ub_base.proofs.NameLemmas.{same_event_refl}
-use Rattle.addr_map.specs.declared.map.Row.{Row}
-use Rattle.addr_map.specs.Rows.{covers, past}
 use Rattle.exposure.specs.declared.prov.Prov.{Prov}
-use Rattle.exposure.specs.declared.prov.Prov.TheVariants.{Empty, Either}
 use Rattle.exposure.specs.Cells.{Cells, kept_in, has_cell, MakesCell}
 use Rattle.exposure.specs.Choice.{chosen}
 use Rattle.c_types.specs.declared.ty.Ty.{Ty}
@@ -52,7 +47,7 @@ use Rattle.mem_spec.specs.Streams.{Io, silent}
 use Rattle.prov_memory.specs.Cells.{cell_at, byte_in_state, tag_in}
 use Rattle.prov_memory.specs.Held.{Held, held_of}
 use Rattle.prov_memory.specs.Memory.{Kept, store_of, life_in, is_shown, tagged_in_object, AreKnown}
-use Rattle.prov_memory.specs.Made.{Extends, HasMore, HasNumber, IsMade, AreCreated, look_up_items}
+use Rattle.prov_memory.specs.Made.{Extends, HasMore, AreCreated, look_up_items}
 use Rattle.prov_memory.proofs.ActLemmas.{KnownIn, known_at, known_held}
 use Rattle.prov_memory.proofs.ProvLemmas.{prov_more, extends_none}
 use Rattle.prov_memory.proofs.SettleLemmas.{done_is}
@@ -100,29 +95,6 @@ look_up_created m who prov i p f g ei ep is =
     subst (λ (q : Prov). AreCreated m q) (sym is)
     (chosen_created m f g who (λ x e. found_created m nothing i x (sym (ei nothing) ∙ e)) (λ x e. found_created m nothing p x (sym (ep nothing) ∙ e)))
 
--- ---- the act
-pub look_up_none : (rows : List Row) (who : Event) (a : ℕ) (s : Store) → a ≡ 0 → run rows (from_int who a) s ≡ Done Empty (look_up_items a) s
-look_up_none rows who a s e = rw e refl
-
-look_up_act : (rows : List Row) (who : Event) (a : ℕ) (s : Store) → (a == 0) ≡ false →
-    run rows (from_int who a) s ≡ Done (chosen (findable s (covers rows a)) (findable s (past rows a)) who) (look_up_items a) s
-look_up_act rows who a s t = rw t refl
-
-pub look_up_done : (m : Kept) (who : Event) (a : ℕ) (prov : Prov) (i p f g : Option ObjName) → (a == 0) ≡ false → i ≡ covers m.rows a → p ≡ past m.rows a →
-    ((io : Io) → f ≡ findable (store_of m io) i) → ((io : Io) → g ≡ findable (store_of m io) p) → prov ≡ chosen f g who →
-    (io : Io) → run m.rows (from_int who a) (store_of m io) ≡ Done prov (look_up_items a) (store_of m io)
-look_up_done m who a prov i p f g t ei ep fi fp is io =
-    let s = store_of m io in
-    let inside : f ≡ findable s (covers m.rows a) = fi io ∙ ap (λ (o : Option ObjName). findable s o) ei in
-    let ending : g ≡ findable s (past m.rows a) = fp io ∙ ap (λ (o : Option ObjName). findable s o) ep in
-    let e : prov ≡ chosen (findable s (covers m.rows a)) (findable s (past m.rows a)) who = is ∙ ap₂ (λ (x y : Option ObjName). chosen x y who) inside ending
-    in
-    look_up_act m.rows who a s t ∙ ap (λ (q : Prov). Done q (look_up_items a) s) (sym e)
-
-pub look_up_noted : (a : ℕ) (old new : List Item) → (a == 0) ≡ false → (length old < 32 → new ≡ old ++ Lookup a ∷ []) → length old < 32 → new ≡ old ++
-    look_up_items a
-look_up_noted a old new t noted room = rw t (noted room)
-
 -- ---- a memory with more numbers and cells
 pub has_more_none : (m : Kept) → HasMore m m
 has_more_none m = record {
@@ -162,13 +134,6 @@ has_more_made (Err w) old ps cells id more made same = record {
 or_first : (b c : Bool) → b ≡ true → (b || c) ≡ true
 or_first true c h = refl
 or_first false c h = absurd (cc)
-
-pub made_ambiguity : {T E : Type 0} (r : Result T E) (old : Kept) (ps : List Prov) (cells : Cells) (id : Event) (past start : ObjName) →
-    HasNumber ps (Either id past start) → OnOk r (MakesCell old.cells cells id) → AreCreated old (Either id past start) →
-    OnOk r (IsMade (record old { origins = ps; cells = cells }) (Either id past start))
-made_ambiguity (Ok v) old ps cells id past start has made created =
-    (made.cells id ∙ or_first (same_event id id) (has_cell old.cells id) (same_event_refl id), (has, created))
-made_ambiguity (Err w) old ps cells id past start has made created = tt
 
 -- ---- the store is the same
 byte_more : (s : State) (ps more : List Prov) (c : Cell) → c.origin.number ≤ length ps → byte_in_state (ps ++ more) s c ≡ byte_in_state ps s c

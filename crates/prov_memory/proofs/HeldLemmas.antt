@@ -41,7 +41,7 @@ use Rattle.ub_base.specs.Names.{same_object}
 use Rattle.ub_base.proofs.NameLemmas.{same_object_is, same_object_refl}
 use Rattle.addr_map.specs.Sound.{object_eq}
 use Rattle.addr_map.proofs.RowLists.{eq_object}
-use Rattle.prov_memory.specs.Held.{Held, held_of, changed, emptied, killed, uncovered, name_at, Fits, AllFit, IsIndexed, IsLiveRange, FallsIn}
+use Rattle.prov_memory.specs.Held.{Held, held_of, changed, emptied, killed, uncovered, name_at, Fits, AllFit, IsIndexed}
 
 -- an object is at most at one place
 abbrev pub Once : List Held → ObjName → ℕ → Type 0
@@ -248,23 +248,10 @@ got_is [] k h d e = absurd (cc)
 got_is (g ∷ hs) zero h d e = some_is g h e
 got_is (g ∷ hs) (suc k) h d e = got_is hs k h d e
 
-pub here_at : (hs : List Held) (k : ℕ) (d : Held) → k < length hs → slice_get hs k ≡ Some (get_or hs k d)
-here_at [] k d e = absurd (omega arith)
-here_at (g ∷ hs) zero d e = refl
-here_at (g ∷ hs) (suc k) d e = here_at hs k d (omega arith)
-
 pub gone_at : (hs : List Held) (k : ℕ) → length hs ≤ k → slice_get hs k ≡ None
 gone_at [] k e = refl
 gone_at (g ∷ hs) zero e = absurd (omega arith)
 gone_at (g ∷ hs) (suc k) e = gone_at hs k (omega arith)
-
-pub live_at : (hs : List Held) (k from len : ℕ) (d : Held) → k < length hs → FallsIn hs k from len → IsLiveRange (Some (get_or hs k d)) from len
-live_at hs k from len d e falls = subst (λ (o : Option Held). IsLiveRange o from len) (here_at hs k d e) falls
-
-pub nameless_at : (hs : List Held) (k : ℕ) → length hs ≤ k → name_at hs k ≡ None
-nameless_at [] k e = refl
-nameless_at (g ∷ hs) zero e = absurd (omega arith)
-nameless_at (g ∷ hs) (suc k) e = nameless_at hs k (omega arith)
 
 pub not_gone : {A : Type 0} (hs : List Held) (k : ℕ) (h : Held) → length hs ≤ k → slice_get hs k ≡ Some h → A
 not_gone hs k h e f = absurd (none_held h (slice_get hs k) (gone_at hs k e) f)

@@ -96,9 +96,6 @@ mapped_at (t ∷ ts) (suc k) = mapped_at ts k
 not_none : (n : ℕ) → (n ≡ 0 → ⊥) → (n == 0) ≡ false
 not_none n e = grind (arith, nat_tests)
 
-tag_kind : (ts : List CType) (n : ℕ) (k : IntKind) → (n ≡ 0 → ⊥) → Some k ≡ kind_numbered n → type_numbered ts n ≡ Some (int k)
-tag_kind ts n k some e = rw (not_none n some) (by_kind k (kind_numbered n) (slice_get ts (n - 13)) e)
-
 tag_other : (ts : List Ty) (n : ℕ) (o : Option Ty) → (n ≡ 0 → ⊥) → None ≡ kind_numbered n → o ≡ slice_get ts (n - 13) →
     type_numbered (map type_of ts) n ≡ option_map type_of o
 tag_other ts n o some e at = rw (not_none n some)
@@ -106,13 +103,6 @@ tag_other ts n o some e at = rw (not_none n some)
 
 abbrev pub tag_by : CType → ℕ → ℕ → Option CType → Bool
 tag_by a i index o = tag_agrees a i (option_map (λ (ty : CType). (ty, index)) o)
-
-pub untagged_agrees : (a : CType) (i : ℕ) (ts : List CType) (c : Cell) → c.tag.number ≡ 0 → true ≡ tag_agrees a i (tag_in ts c)
-untagged_agrees a i ts c e = rw e refl
-
-pub kind_agrees : (a : CType) (i : ℕ) (ts : List CType) (c : Cell) (k : IntKind) → (c.tag.number ≡ 0 → ⊥) → Some k ≡ kind_numbered c.tag.number →
-    tag_by a i c.tag_index (Some (int k)) ≡ tag_agrees a i (tag_in ts c)
-kind_agrees a i ts c k some e = ap (tag_by a i c.tag_index) (sym (tag_kind ts c.tag.number k some e))
 
 pub other_agrees : (a : CType) (i : ℕ) (ts : List Ty) (c : Cell) (o : Option Ty) → (c.tag.number ≡ 0 → ⊥) → None ≡ kind_numbered c.tag.number →
     o ≡ slice_get ts (c.tag.number - 13) → tag_by a i c.tag_index (option_map type_of o) ≡ tag_agrees a i (tag_in (map type_of ts) c)
@@ -127,11 +117,6 @@ tags_next a f from i n e =
     let next : from + (i + 1) ≡ suc (from + i) = omega arith in
     let index : i + 1 ≡ suc i = omega arith in
     rw (count, next, index) refl
-
-pub range_end : (f : ℕ → TaggedByte) (from n i : ℕ) → n ≤ i → range_from f (from + i) (n - i) ≡ []
-range_end f from n i e =
-    let none : n - i ≡ 0 = omega arith in
-    rw none refl
 
 held_by : (ps : List Prov) (s : State) (c : Cell) (n : ℕ) → Some n ≡ number_held s c → (is_written (byte_in_state ps s c) ≡ true) ×
     (number_in (byte_in_state ps s c) ≡ n)
@@ -315,9 +300,6 @@ pub tags_fail : (b all : Bool) (a : CType) (f : ℕ → TaggedByte) (from i n : 
 tags_fail b all a f from i n lt e is t =
     let here : tag_agrees a i (f (from + i)).tag ≡ false = sym is ∙ t in
     sym (e ∙ tags_next a f from i n lt ∙ ap (λ (x : Bool). x && tags_agree a (i + 1) (range_from f (from + (i + 1)) (n - (i + 1)))) here)
-
-pub tags_end : (all : Bool) (a : CType) (f : ℕ → TaggedByte) (from i n : ℕ) → n ≤ i → all ≡ tags_agree a i (range_from f (from + i) (n - i)) → true ≡ all
-tags_end all a f from i n le e = sym (e ∙ ap (λ (bs : List TaggedByte). tags_agree a i bs) (range_end f from n i le))
 
 cap_next : (n : ℕ) → cap (n + 1) ≡ 256 * cap n
 cap_next n =

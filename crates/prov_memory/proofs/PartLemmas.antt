@@ -1,9 +1,9 @@
 -- Members of structure values: the bytes of a slice, and what reading them does.
-use Rattle.std.proofs.Common.{◌≡◌, ℕ, zero, suc, ◌+◌, ◌<◌, ◌≤◌, Bool, true, false, not, ◌&&◌, cond, refl, sym}
-use Rattle.std.proofs.Common.{ap, ap₂, ◌∙◌, subst, arith, ℤ, List, [], ◌∷◌, ◌++◌, length, map, take, Option, Some, None}
-use Rattle.std.specs.Prelude.{Result, Ok, Err, IfOk, IfErr, IfSome, OnOk, nat_lt, min, ◌==◌}
+use Rattle.std.proofs.Common.{◌≡◌, ℕ, zero, suc, ◌+◌, ◌<◌, Bool, true, false, not, ◌&&◌, cond, refl, sym}
+use Rattle.std.proofs.Common.{ap, ap₂, ◌∙◌, subst, arith, ℤ, List, [], ◌∷◌, ◌++◌, length, map, Option, Some, None}
+use Rattle.std.specs.Prelude.{Result, Ok, Err, IfOk, IfErr, IfSome, OnOk, nat_lt, ◌==◌}
 use Rattle.std.specs.Bool.{then_some}
-use Rattle.std.proofs.lemmas.List.{append-nil, length-take}
+use Rattle.std.proofs.lemmas.List.{append-nil}
 use Rattle.ub_base.specs.declared.clause.Clause.{Clause}
 use Rattle.ub_base.specs.declared.clause.Clause.TheVariants.{Indeterminate, TrapRepresentation}
 use Rattle.ub_base.specs.declared.names.Event.{Event}
@@ -53,12 +53,6 @@ range_to m cs n e = ap (λ (k : ℕ). range_in m cs 0 k) e ∙ range_seen m cs
 pub next_piece : (m now : Kept) (c d : Cell) (prov : Prov) → now.origins ≡ m.origins → c ≡ d → candidates prov ≡ origins_in (byte_in now.origins c) →
     candidates prov ≡ origins_in (byte_in m.origins d)
 next_piece m now c d prov same is named = named ∙ ap₂ (λ (ps : List Prov) (k : Cell). origins_in (byte_in ps k)) same is
-
--- ---- a part's length
-pub part_short : (n : ℕ) (cs ds : List Cell) → cs ≡ take n ds → n ≤ 8 → length cs ≤ 8
-part_short n cs ds e few =
-    let long : length cs ≡ min n (length ds) = ap length e ∙ length-take n ds in
-    omega (arith, long)
 
 -- ---- the act of a number
 abbrev pub number_act : {V : Type 0} → Bool → (ℕ → V) → List TaggedByte → Script V

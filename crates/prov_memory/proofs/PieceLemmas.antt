@@ -33,7 +33,7 @@ use Rattle.std.proofs.Common.{
   Some,
   None,
 }
-use Rattle.std.proofs.lemmas.List.{length-set, take_all, take_more_set}
+use Rattle.std.proofs.lemmas.List.{length-set, take_more_set}
 use Rattle.ub_base.specs.declared.names.ObjName.{ObjName}
 use Rattle.ub_base.specs.Names.{same_object}
 use Rattle.ub_base.proofs.NameLemmas.{same_object_is}
@@ -98,16 +98,6 @@ none_left : (cs : List Cell) → cs ++ [] ≡ cs
 none_left [] = refl
 none_left (c ∷ cs) = ap (λ (l : List Cell). c ∷ l) (none_left cs)
 
-pub pieces_all : (cs whole : List Cell) (n i : ℕ) (o : Origin) (r : ℕ) → n ≤ i → cs ++ piece_cells (n - i) i o r ≡ whole → cs ≡ whole
-pieces_all cs whole n i o r end e =
-    let z : n - i ≡ 0 = omega arith in
-    sym (none_left cs) ∙ ap (λ (k : ℕ). cs ++ piece_cells k i o r) (sym z) ∙ e
-
-pub plain_all : (cs whole : List Cell) (n i r : ℕ) → n ≤ i → cs ++ plain_cells (n - i) r ≡ whole → cs ≡ whole
-plain_all cs whole n i r end e =
-    let z : n - i ≡ 0 = omega arith in
-    sym (none_left cs) ∙ ap (λ (k : ℕ). cs ++ plain_cells k r) (sym z) ∙ e
-
 -- the same in an array
 pub plain_put : (cs whole : List Cell) (n i r : ℕ) (c : Cell) → i < n → length cs ≡ n → take i cs ++ plain_cells (n - i) r ≡ whole →
     c ≡ plain_cell (r % 256) → (length (set cs i c) ≡ n) × (take (i + 1) (set cs i c) ++ plain_cells (n - (i + 1)) (r / 256) ≡ whole)
@@ -120,16 +110,6 @@ pub piece_put : (cs whole : List Cell) (n i : ℕ) (o : Origin) (r : ℕ) (c : C
 piece_put cs whole n i o r c lt len before one =
     let room : i < length cs = omega arith in
     (length-set cs i c ∙ len, piece_pushed (take i cs) (take (i + 1) (set cs i c)) whole n i o r c lt before (take_more_set cs i c room) one)
-
-pub plain_put_all : (cs whole : List Cell) (n i r : ℕ) → n ≤ i → length cs ≡ n → take i cs ++ plain_cells (n - i) r ≡ whole → cs ≡ whole
-plain_put_all cs whole n i r end len e =
-    let within : length cs ≤ i = omega arith in
-    sym (take_all i cs within) ∙ plain_all (take i cs) whole n i r end e
-
-pub piece_put_all : (cs whole : List Cell) (n i : ℕ) (o : Origin) (r : ℕ) → n ≤ i → length cs ≡ n → take i cs ++ piece_cells (n - i) i o r ≡ whole → cs ≡ whole
-piece_put_all cs whole n i o r end len e =
-    let within : length cs ≤ i = omega arith in
-    sym (take_all i cs within) ∙ pieces_all (take i cs) whole n i o r end e
 
 -- the first bytes of a number
 pub plain_take : (k n r : ℕ) → k ≤ n → take k (plain_cells n r) ≡ plain_cells k r

@@ -98,11 +98,6 @@ pieces_fail b all p f from i n lt e is t =
     let here : is_piece p i (f (from + i)).byte ≡ false = sym is ∙ t in
     sym (e ∙ pieces_next p f from i n lt ∙ ap (λ (x : Bool). x && are_pieces p (i + 1) (range_from f (from + (i + 1)) (n - (i + 1)))) here)
 
--- ---- what is asked for
-dead_by : (b c : Bool) → not (b || c) ≡ (not b && not c)
-dead_by true c = refl
-dead_by false c = refl
-
 abbrev answer_by : Bool → Prov → ℕ → Store → Act (ℕ × Prov)
 answer_by dead prov a s = cond dead (Raised DeadObject) (Done (a, prov) (map Alive (candidates prov)) s)
 

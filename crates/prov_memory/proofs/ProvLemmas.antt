@@ -91,11 +91,6 @@ pub prov_more : (ps more : List Prov) (n : ℕ) → n ≤ length ps → prov_num
 prov_more ps more zero e = refl
 prov_more ps more (suc n) e = nth_more ps more n (omega arith)
 
-pub nth_past : (ps : List Prov) (n : ℕ) → length ps ≤ n → slice_index_or ps n Empty ≡ Empty
-nth_past [] n e = refl
-nth_past (q ∷ ps) zero e = absurd (omega arith)
-nth_past (q ∷ ps) (suc n) e = nth_past ps n (omega arith)
-
 nth_last : (ps : List Prov) (p : Prov) → slice_index_or (ps ++ p ∷ []) (length ps) Empty ≡ p
 nth_last [] p = refl
 nth_last (q ∷ ps) p = nth_last ps p
@@ -129,17 +124,6 @@ pub numbered_some : (numbers : BTreeMap Prov ℕ) (ps : List Prov) (p : Prov) (r
     IfSome r (λ n. prov_numbered ps n ≡ p)
 numbered_some numbers ps p None s e = tt
 numbered_some numbers ps p (Some n) s e = s.there p n e
-
-none_clash : (o : Option ℕ) → o ≡ None → is_some o ≡ true → ⊥
-none_clash o e h = cc
-
-pub numbered_none : (numbers : BTreeMap Prov ℕ) (ps : List Prov) (p : Prov) → AreNumbered numbers ps → get prov_cmp numbers p ≡ None → is_ambiguous p ≡ true →
-    HasNumber ps p → ⊥
-numbered_none numbers ps p s e amb has = none_clash (get prov_cmp numbers p) e (s.found p amb has)
-
-pub has_number_if : (r : Option ℕ) (ps : List Prov) (p : Prov) → is_some r ≡ true → IfSome r (λ n. prov_numbered ps n ≡ p) → HasNumber ps p
-has_number_if None ps p some h = absurd (cc)
-has_number_if (Some n) ps p some h = (n, h)
 
 pub numbered_same : (old new : BTreeMap Prov ℕ) (ps : List Prov) → new.entries ≡ old.entries → AreNumbered old ps → AreNumbered new ps
 numbered_same old new ps e s = record {

@@ -1,7 +1,6 @@
 -- What arithmetic and comparisons of pointers settle.
 use Rattle.std.proofs.Common.{◌≡◌, ℕ, ◌<◌, Bool, true, false, cond, refl, sym, ap, ◌∙◌, subst, arith, List, [], ◌∷◌, ◌++◌, length, Some, None, ℤ, pos, ◌+ℤ◌}
-use Rattle.std.specs.Prelude.{Result, Ok, Err, IsErrAnd, OnOk, not, is_some}
-use Rattle.std.specs.Bool.{OnTrue, OnFalse}
+use Rattle.std.specs.Prelude.{Result, Ok, Err, IsErrAnd, is_some}
 use Rattle.ub_base.specs.declared.clause.Clause.{Clause}
 use Rattle.ub_base.specs.declared.clause.Clause.TheVariants.{OutOfBounds}
 use Rattle.ub_base.specs.declared.names.Event.{Event}
@@ -11,7 +10,7 @@ use Rattle.addr_map.specs.declared.map.Row.{Row}
 use Rattle.addr_map.specs.Rows.{row_of}
 use Rattle.exposure.specs.declared.prov.Prov.{Prov}
 use Rattle.exposure.specs.declared.prov.Prov.TheVariants.{Empty, Whole, Either}
-use Rattle.exposure.specs.Cells.{Cells, kept_in, has_cell, is_other, Settles}
+use Rattle.exposure.specs.Cells.{Cells, kept_in, has_cell, is_other}
 use Rattle.mem_spec.specs.Store.{Store}
 use Rattle.mem_spec.specs.Script.{Act, Done, Raised, Give, Settle, touch, require, ◌>>◌, run}
 use Rattle.mem_spec.specs.Acts.{in_bounds, settle_by, shift}
@@ -88,14 +87,6 @@ can_shift rows m a (Whole x) k made h = can_require (in_bounds (row_of rows x) a
 can_shift rows m a (Either id past start) k made h = can_by (in_bounds (row_of rows past) a) (in_bounds (row_of rows start) a) m.cells id past start
     OutOfBounds k made.0 h
 
--- what holds if either test passes holds where something may be settled
-pub address_by : (b d : Bool) (cells : Cells) (id : Event) (past start : ObjName) (c : Clause) (P : Type 0) (r : Result Settling Clause) →
-    r ≡ settling_by b d cells id past start c → (b ≡ true → P) → (d ≡ true → P) → OnOk r P
-address_by true d cells id past start c P (Ok k) e f g = f refl
-address_by false true cells id past start c P (Ok k) e f g = g refl
-address_by false false cells id past start c P (Ok k) e f g = not_ok c k (sym e)
-address_by b d cells id past start c P (Err w) e f g = tt
-
 pub done_is : {V : Type 0} (v w : V) (is js : List Item) (s u : Store) → v ≡ w → is ≡ js → s ≡ u → Done v is s ≡ Done w js u
 done_is v w is js s u e f g = λ i. Done (e i) (f i) (g i)
 
@@ -134,19 +125,6 @@ stays_made old new rest cells (Either id past start) made = (
     ),
   ),
 )
-
-pub narrowed_cells : (b : Bool) (old new : Kept) (id : Event) (keep : ObjName) → OnTrue b (Settles old.cells new.cells id keep) → OnFalse b (new ≡ old) →
-    (e : Event) → has_cell new.cells e ≡ has_cell old.cells e
-narrowed_cells true old new id keep s same e = s.cells e
-narrowed_cells false old new id keep s same e = ap (λ (m : Kept). has_cell m.cells e) same
-
-pub where_true : (b : Bool) (P : Type 0) → b ≡ true → OnTrue b P → P
-where_true true P e h = h
-where_true false P e h = absurd (cc)
-
-pub settled_free : (b : Bool) (cells : Cells) (id : Event) (keep : ObjName) → b ≡ not (is_other (kept_in cells id) keep) →
-    is_other (kept_in cells id) keep ≡ false → b ≡ true
-settled_free b cells id keep e free = e ∙ ap not free
 
 pub append_none : (is : List Item) → is ≡ is ++ []
 append_none [] = refl

@@ -105,11 +105,6 @@ origins_next f from n =
     ∙ origins_append (range_from f from n) (f (from + n) ∷ [])
     ∙ ap (λ (xs : List ObjName). origins_of (range_from f from n) ++ xs) (append-nil (origins_in (f (from + n)).byte))
 
-pub origins_none_next : (f : ℕ → TaggedByte) (from n : ℕ) → origins_of (range_from f from n) ≡ [] → origins_in (f (from + n)).byte ≡ [] →
-    origins_of (range_from f from (n + 1)) ≡ []
-origins_none_next f from n before here =
-    origins_next f from n ∙ ap (λ (xs : List ObjName). xs ++ origins_in (f (from + n)).byte) before ∙ here
-
 -- .. one byte before
 pub origins_none_before : (f : ℕ → TaggedByte) (from n step at : ℕ) → step < n → at ≡ from + (n - (step + 1))
     → origins_of (range_from f (from + (n - step)) step) ≡ [] → origins_in (f at).byte ≡ []

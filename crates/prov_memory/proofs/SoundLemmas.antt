@@ -243,9 +243,6 @@ number_within ps (suc n) p some e = omega (arith, some_within ps n p some e)
 pub whole_within : (ps : List Prov) (n : ℕ) (p : Prov) (x : ObjName) → p ≡ Whole x → prov_numbered ps n ≡ p → n ≤ length ps
 whole_within ps n p x is e = number_within ps n (Whole x) refl (e ∙ is)
 
-pub either_within : (ps : List Prov) (n : ℕ) (p : Prov) (id : Event) (past start : ObjName) → p ≡ Either id past start → prov_numbered ps n ≡ p → n ≤ length ps
-either_within ps n p id past start is e = number_within ps n (Either id past start) refl (e ∙ is)
-
 pub pieces_known : (most k index r : ℕ) (o : Origin) → o.number ≤ most → CellsKnown most (piece_cells k index o r)
 pieces_known most zero index r o le = tt
 pieces_known most (suc k) index r o le = (le, pieces_known most k (suc index) (r / 256) o le)

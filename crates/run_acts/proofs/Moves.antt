@@ -2,7 +2,6 @@
 use Rattle.std.proofs.Common.{◌≡◌, ℕ, zero, suc, ◌*◌, ◌^◌, ◌%◌, to_z, of_z, ◌<◌, refl, sym, ap, ◌∙◌, arith, ℤ, pos, negsuc, ◌+ℤ◌, ◌*ℤ◌, neg_ℤ, ◌<ℤ◌}
 use Rattle.std.proofs.Common.{List, [], ◌∷◌}
 use Rattle.std.specs.Ordering.{int_cmp, nat_cmp, MatchOrdering}
-use Rattle.std.specs.Prelude.{unsigned_abs}
 use Rattle.std.specs.Cmp.{int_ranks}
 use Rattle.std.specs.declared.cmp.Ordering.{Ordering}
 use Rattle.std.specs.declared.cmp.Ordering.TheVariants as order
@@ -92,22 +91,9 @@ opposite_fits : (n : ℕ) → n < 2 ^ 127 → FitsSigned w128 (neg_ℤ (pos n))
 opposite_fits zero lt = record { sfits = omega (arith, lt) }
 opposite_fits (suc n) lt = record { sfits = omega (arith, lt) }
 
-opposite_size : (n : ℕ) → unsigned_abs (neg_ℤ (pos n)) ≡ n
-opposite_size zero = refl
-opposite_size (suc n) = refl
-
 pub near_fits : (size : ℕ) (i : ℤ) → IsNear size i → FitsSigned w128 (i *ℤ pos size)
 near_fits size (pos n) near = record { sfits = near_product size n near }
 near_fits size (negsuc n) near = opposite_fits (suc n * size) (near_product size (suc n) near)
-
-pub near_size : (size : ℕ) (i : ℤ) → IsNear size i → unsigned_abs (i *ℤ pos size) < 2 ^ 127
-near_size size (pos n) near = near_product size n near
-near_size size (negsuc n) near = rw (opposite_size (suc n * size)) (near_product size (suc n) near)
-
-pub far_fits : (z : ℤ) → unsigned_abs z < 2 ^ 127 → FitsSigned w128 (neg_ℤ z)
-far_fits (pos zero) lt = record { sfits = omega (arith, lt) }
-far_fits (pos (suc n)) lt = record { sfits = omega (arith, lt) }
-far_fits (negsuc n) lt = record { sfits = omega (arith, lt) }
 
 size_fits : (n : ℕ) → n < 2 ^ 64 → FitsSigned w128 (pos n)
 size_fits n lt = record { sfits = omega (arith, lt) }

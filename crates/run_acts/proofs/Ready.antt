@@ -81,9 +81,6 @@ ready_still old now x base size same lives ready = record {
   live = ap is_live (lives x) ∙ ready.live;
 }
 
-pub ready_at : (m : Kept) (x : ObjName) (base here size : ℕ) → here ≡ base → IsReady m x base size → IsReady m x here size
-ready_at m x base here size e ready = subst (λ (b : ℕ). IsReady m x b size) (sym e) ready
-
 pub lives_same : (m : Kept) → LivesStay m m
 lives_same m x = refl
 

@@ -91,11 +91,6 @@ pub places_same : (m : Machine) (o r : Operand) (p q : Pointer) (f : model.Point
     → Of m r pointer_of (pointer_at q) → IsGiven m o → IsGiven m r → f (pointer_at p) (pointer_at q) ≡ f (pointer_of (given_by m o)) (pointer_of (given_by m r))
 places_same m o r p q f of1 of2 g1 g2 = ap₂ f (given_as m o pointer_of (pointer_at p) of1 g1) (given_as m r pointer_of (pointer_at q) of2 g2)
 
-pub copies_same : (m : Machine) (o r : Operand) (v w : Kept_value) (f : Value → Value → Script Value)
-    → ((h : Kept_value) → operand_in m o ≡ Some h → v ≡ h) → ((h : Kept_value) → operand_in m r ≡ Some h → w ≡ h) → IsGiven m o → IsGiven m r
-    → f (value_in m.memory v) (value_in m.memory w) ≡ f (given_by m o) (given_by m r)
-copies_same m o r v w f copy1 copy2 g1 g2 = ap₂ f (given_copy m o v copy1 g1) (given_copy m r w copy2 g2)
-
 pub copy_made : (m : Machine) (o : Operand) (v : Kept_value) → ((h : Kept_value) → operand_in m o ≡ Some h → v ≡ h) → IsGiven m o → IsMadeValue m.memory v
 copy_made m o v copy g = (copy_of m o v copy g).made
 

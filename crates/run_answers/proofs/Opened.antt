@@ -207,10 +207,6 @@ decided trees picks by_done m s u permitted stage decides world meaning st stand
       λ may. is ∙ by.1 (subst (λ (z : Option Begun). May world st.top z u) there.1 may),
     )
 
--- ---- the canonical pick
-place_none : (due : Option (Bor Due)) → due ≡ None → place_of due ≡ None
-place_none due h = ap place_of h
-
 follows_way : ListsTree → NextIsCanonical → TakesByDone → (world : World) (old new : Machine) (s : Stage) (b : Shown) (f : Local) (e : Begun)
     (straight : Bool) (due : Option (Bor Due)) → StandsDone straight world old (length old.below.items) s.first s.cursor s.end f.scene e None →
     Opened world old s b f e → ByWay straight old s b new due → chosen_pick world (place_of due) ≡ canonical_pick world f (Some e)

@@ -183,9 +183,6 @@ pub no_memory : (world : World) (meaning : Option ℕ → Meaning) (n : Machine)
     Answers world meaning (Err e) n o
 no_memory world meaning n o e is = subst (λ (h : Halt). Answers world meaning (Err h) n o) (sym is) tt
 
-pub memory_wanted : (s : Step) (m n : Machine) (e : Halt) → e ≡ halt.NoMemory → AnswersStep s m n (Err e)
-memory_wanted s m n e is = λ world meaning st h. no_memory world meaning n (step world st Control) e is
-
 -- ---- by the step that was taken
 pub by_step : (s t : Step) (m n : Machine) (r : Result (Option ℕ) Halt) → s ≡ t → AnswersStep t m n r → AnswersStep s m n r
 by_step s t m n r is a = subst (λ (x : Step). AnswersStep x m n r) (sym is) a
@@ -265,9 +262,6 @@ pub not_both : {A : Type 0} (o : Option A) (x : A) → o ≡ None → o ≡ Some
 not_both None x none some = cc
 not_both (Some y) x none some = cc
 
-pub control_wanted : (m n : Machine) (e : Halt) → e ≡ halt.NoMemory → AnswersControl m n (Err e)
-control_wanted m n e is = λ world meaning st stands goes items. no_memory world meaning n (step world st Control) e is
-
 -- ---- of a pick
 -- nothing changes where no event is followed
 way_still : (straight : Bool) (m : Machine) (s : Stage) (b : Shown) (n : Machine) (due : Option (Bor Due)) → ByWay straight m s b n due → due ≡ None → n ≡ m
@@ -338,6 +332,3 @@ pub steps_taken : {E : Type 0} (r : Result Pick E) (world : World) (st : State) 
     IfOk r (IsPick world st p)
 steps_taken (Ok x) world st p is a = subst (λ (q : Model_pick). IsPick world st q x) is a
 steps_taken (Err e) world st p is a = tt
-
-pub canonical_wanted : (m n : Machine) (e : Halt) → e ≡ halt.NoMemory → AnswersCanonical m n (Err e)
-canonical_wanted m n e is = λ world meaning st stands goes. no_memory world meaning n (step world st Control) e is

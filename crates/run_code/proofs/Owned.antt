@@ -79,16 +79,6 @@ passes_next t x items rest first next after e a h =
       ap (λ (ts : List Typed). length (flat_map own_trees ts)) e ∙ length-append (own_trees x) (flat_map own_trees rest),
     )
 
-pub passes_all : (t : Typed) (items : List Typed) (first next : ℕ) → items ≡ [] → Passes first t next items → next ≡ first + length (own_trees t)
-passes_all t items first next e h = omega (arith, h, ap (λ (ts : List Typed). length (flat_map own_trees ts)) e)
-
-pub root_isolated : (t u v : Typed) (first one next : ℕ) → (out-Typed t).node ≡ nodes.Isolated v → u ≡ v → one ≡ first + 1
-    → next ≡ one + length (own_trees u) → next ≡ first + length (trees_at t)
-root_isolated t u v first one next e same o n = omega (arith, o, n, ap length (node_isolated t u (e ∙ ap nodes.Isolated (sym same))))
-
-pub root_other : (t : Typed) (first : ℕ) → ((u : Typed) → (out-Typed t).node ≡ nodes.Isolated u → ⊥) → first ≡ first + length (trees_at t)
-root_other t first f = omega (arith, ap length (node_other t f))
-
 -- ---- the nodes of a tree
 -- those so far have the numbers of these trees, behind which come the own trees of the operands that are left
 abbrev pub OwnSoFar : Typed → (from : ℕ) → List NodeInfo → (low high : ℕ) → List Typed → Type 0

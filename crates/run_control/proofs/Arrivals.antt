@@ -14,10 +14,6 @@ pub unshared_none : (bs : List (ℕ × List Decl)) → unshared bs [] ≡ bs
 unshared_none [] = refl
 unshared_none (b ∷ bs) = refl
 
--- one more block to the front
-pub reverse_cons : {A : Type 0} (x : A) (xs ys : List A) → reverse (x ∷ xs) ++ ys ≡ reverse xs ++ (x ∷ ys)
-reverse_cons x xs ys = ap (λ zs. zs ++ ys) (reverse-append (x ∷ []) xs) ∙ append_assoc (reverse xs) (x ∷ []) ys
-
 pub named_cons : (m : Meaning) (b : Bor Block) (bs : List (Bor Block)) (rest : List (ℕ × List Decl))
     → named m (reverse (b ∷ bs)) ++ rest ≡ named m (reverse bs) ++ (named m (b ∷ []) ++ rest)
 named_cons m b bs rest =

@@ -27,9 +27,6 @@ not_less_is n m h = grind (arith, nat_tests)
 pub number_is : (n m : ℕ) → (n == m) ≡ true → n ≡ m
 number_is n m h = grind (arith, nat_tests)
 
-number_not : (n m : ℕ) → (n == m) ≡ false → n ≡ m → ⊥
-number_not n m h e = grind (arith, nat_tests)
-
 -- ---- the numbers of a part stand among those of the whole
 pub record Range (k n a b : ℕ) : Type 0 where
   pub low : k ≤ n

@@ -261,28 +261,6 @@ lists_grown old new r all f h =
       entries = ap (λ z. part_of z r) more.1 ∙ (part_front old more.0 r.first r.count h.within ∙ h.entries);
     }
 
-take_whole : {A : Type 0} (xs : List A) (n : ℕ) → n ≡ length xs → take n xs ≡ xs
-take_whole [] zero e = refl
-take_whole [] (suc n) e = absurd (omega (arith, e))
-take_whole (x ∷ xs) zero e = absurd (omega (arith, e))
-take_whole (x ∷ xs) (suc n) e = ap (λ z. x ∷ z) (take_whole xs n (omega (arith, e)))
-
-behind_front : {A : Type 0} (xs ys : List A) (first count : ℕ) → first ≡ length xs → count ≡ length ys → take count (drop first (xs ++ ys)) ≡ ys
-behind_front [] ys zero count e f = take_whole ys count f
-behind_front [] ys (suc n) count e f = absurd (omega (arith, e))
-behind_front (x ∷ xs) ys zero count e f = absurd (omega (arith, e))
-behind_front (x ∷ xs) ys (suc n) count e f = behind_front xs ys n count (omega (arith, e)) f
-
--- the range of what was added last
-pub lists_added : (old new added : List (ℕ × ℕ)) (r : Range) → new ≡ old ++ added → r.first ≡ length old → r.first + r.count ≡ length new
-    → Lists new r added
-lists_added old new added r e f c =
-    let longer : length new ≡ length old + length added = ap length e ∙ length-append old added in
-    record {
-      within = omega (arith, c);
-      entries = ap (λ z. part_of z r) e ∙ behind_front old added r.first r.count f (omega (arith, f, c, longer));
-    }
-
 pub lists_none : (table : List (ℕ × ℕ)) (r : Range) (all : List (ℕ × ℕ)) → r.first ≡ 0 → r.count ≡ 0 → all ≡ [] → Lists table r all
 lists_none table r all f c e = record {
   within = omega (arith, f, c);

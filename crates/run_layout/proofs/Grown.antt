@@ -334,11 +334,6 @@ noted_due firsts tables nodes number room x d os noted at p line parent complete
       choice = choice;
     }
 
--- what a push leaves, whether it had memory or not
-pub pushed_front : {A : Type 0} (b : Bool) (xs ys : List A) (x : A) → ys ≡ (if b then xs ++ x ∷ [] else xs) → AreFirst xs ys
-pushed_front true xs ys x e = front_of xs ys (x ∷ []) e
-pushed_front false xs ys x e = λ n y h. ap (λ l. slice_get l n) e ∙ h
-
 pub extended : {A : Type 0} (b : Bool) (xs ys zs : List A) → ys ≡ (if b then xs ++ zs else xs) → ys ≡ xs ++ (if b then zs else [])
 extended true xs ys zs e = e
 extended false xs ys zs e = e ∙ sym (append-nil xs)

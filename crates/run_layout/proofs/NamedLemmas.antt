@@ -35,15 +35,11 @@ use Rattle.c_typed.specs.Sites.{Head}
 use Rattle.run_layout.specs.declared.nodes.NodeInfo.{NodeInfo}
 use Rattle.run_layout.specs.declared.steps.Act.{Act}
 use Rattle.run_layout.specs.declared.steps.Act.TheVariants as act
-use Rattle.run_layout.specs.declared.steps.BlockCode.{BlockCode}
-use Rattle.run_layout.specs.declared.steps.Choice.{Choice}
 use Rattle.run_layout.specs.declared.steps.Due.{Due}
 use Rattle.run_layout.specs.declared.steps.Expression.{Expression}
 use Rattle.run_layout.specs.declared.steps.Listed.{Listed}
 use Rattle.run_layout.specs.declared.steps.Listed.TheVariants as listed
-use Rattle.run_layout.specs.declared.steps.ObjectCode.{ObjectCode}
 use Rattle.run_layout.specs.declared.tables.Tables.{Tables}
-use Rattle.run_layout.specs.InRange.{IsChoice, IsObject, IsBlock}
 use Rattle.run_layout.specs.EventActs.{Sight, IsValue, IsEffect, IsBody, IsAct, IsEntry, AreEntries, AreGrown}
 use Rattle.run_layout.specs.Numbered.{AreNodes}
 use Rattle.run_layout.proofs.AtOnce.{front_longer}
@@ -53,15 +49,6 @@ use Rattle.run_layout.specs.Named.{IsNamed, IsDueOf, IsListedOf, IsExpressionOf}
 pub pushed_longer : {A : Type 0} (b : Bool) (xs ys zs : List A) → ys ≡ (if b then xs ++ zs else xs) → length xs ≤ length ys
 pushed_longer true xs ys zs e = omega (arith, ap length e ∙ length-append xs zs)
 pushed_longer false xs ys zs e = omega (arith, ap length e)
-
-pub choices_longer : (old new : ℕ) (cs : List Choice) → old ≤ new → All (IsChoice old) cs → All (IsChoice new) cs
-choices_longer old new cs l h = All-weaker (IsChoice old) (IsChoice new) (λ c k. (omega (arith, l, k.0), omega (arith, l, k.1))) cs h
-
-pub objects_longer : (old new : ℕ) (os : List ObjectCode) → old ≤ new → All (IsObject old) os → All (IsObject new) os
-objects_longer old new os l h = All-weaker (IsObject old) (IsObject new) (λ o k. omega (arith, l, k)) os h
-
-pub blocks_longer : (old new : ℕ) (bs : List BlockCode) → old ≤ new → All (IsBlock old) bs → All (IsBlock new) bs
-blocks_longer old new bs l h = All-weaker (IsBlock old) (IsBlock new) (λ b k. omega (arith, l, k)) bs h
 
 -- one more, where there is memory for it
 pub one_pushed : {A : Type 0} (P : A → Type 0) (b : Bool) (xs ys : List A) (x : A) → ys ≡ (if b then xs ++ x ∷ [] else xs) → All P xs → P x → All P ys

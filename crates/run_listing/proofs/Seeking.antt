@@ -19,9 +19,6 @@ pub record SeeksWhere (Where : Type 0) (test : Place → Bool) (taken : Taken) (
   pub first : Where → first_place test (events_of taken rest) ≡ first_place test (events_of taken entries)
   pub among : (due : Due) → IsListed rest due → IsListed entries due
 
-pub seeks_all : (W : Type 0) (test : Place → Bool) (taken : Taken) (entries : List Listed) → SeeksWhere W test taken entries entries
-seeks_all W test taken entries = record { first = λ w. refl; among = λ due at. at }
-
 among_rest : (xs : List Listed) (n : ℕ) (d : Due) → IsListed (drop n xs) d → IsListed xs d
 among_rest xs zero d h = h
 among_rest [] (suc n) d h = absurd (cc)
@@ -52,10 +49,6 @@ pub found_here : (W : Type 0) (test : Place → Bool) (taken : Taken) (entries r
     (W → test due.now.place ≡ true) → SeeksWhere W test taken entries rest → W → Some due.now.place ≡ first_place test (events_of taken entries)
 found_here W test taken entries rest at due next holds s w =
     sym (ap (first_place test) next.1 ∙ stops test due.now.place (events_of taken (drop (suc at) rest)) (holds w)) ∙ s.first w
-
-pub listed_here : (W : Type 0) (test : Place → Bool) (taken : Taken) (entries rest : List Listed) (at : ℕ) (due : Bor Due) → Next taken rest (Some (at, due)) →
-    SeeksWhere W test taken entries rest → IsListed entries due.now
-listed_here W test taken entries rest at due next s = s.among due.now (at, next.0)
 
 -- and at the end
 pub found_none : (W : Type 0) (test : Place → Bool) (taken : Taken) (entries rest : List Listed) → Next taken rest None → SeeksWhere W test taken entries rest →

@@ -174,10 +174,6 @@ pub written_by : (s : Store) (x : ObjName) (b : Option Birth) → (born_by s x b
 written_by s x None = refl
 written_by s x (Some c) = refl
 
-pub born_output : (x : ℕ → ObjName) (bs : List Birth) (k : ℕ) (s : Store) → (born_first x bs k s).output ≡ s.output
-born_output x bs zero s = refl
-born_output x bs (suc k) s = written_by (born_first x bs k s) (x k) (slice_get bs k) ∙ born_output x bs k s
-
 -- ---- limits
 pub not_over : (l n : ℕ) → nat_lt l n ≡ false → n ≤ l
 not_over l n e = grind (arith, nat_tests, e)
@@ -202,9 +198,6 @@ both_within true b c x y z h d w e = absurd (cc)
 both_within false true c x y z h d w e = absurd (cc)
 both_within false false c x y z h true w e = absurd (cc)
 both_within false false c x y z h false w e = h
-
-abbrev pub with_created : Store → ℕ → Store
-with_created s n = record s { created = n }
 
 -- as much is open and written, and no more was created than may be
 pub limit_within : (limits : Limits) (depth : ℕ) (s t : Store) → t.output ≡ s.output → t.created ≤ limits.created → limit_passed limits depth s ≡ None →

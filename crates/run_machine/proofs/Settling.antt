@@ -458,10 +458,6 @@ select_answers quiet room m m2 m3 stage b r how selects goes still ends is = λ 
     (lefts ∙ ap (λ (u : Use). left_by u x.value m.left) (sym how)) r goes still ends
     (is_nothing (ready_work (todo_after world meaning m stage st x))) refl
 
--- want of memory
-pub settle_wanted : (m n : Machine) (stage : Stage) (e : Halt) → e ≡ halt.NoMemory → m.top.stage ≡ Some stage → AnswersControl m n (Err e)
-settle_wanted m n stage e is staged = λ world meaning st s may items. no_memory world meaning n (step world st Control) e is
-
 -- ---- the value is used
 abbrev pub with_left : Machine → Option Kept_value → Machine
 with_left m left = record m { left = left }

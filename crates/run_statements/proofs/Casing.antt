@@ -17,7 +17,7 @@ use Rattle.run_control.proofs.Adding.{seen_older}
 use Rattle.run_statements.specs.declared.jumps.Jumps.{Jumps}
 use Rattle.run_statements.specs.Jumping.{AreCases, HasJumps, HaveCases, HaveLabels, IsCase, cases_of, labels_of, owners_from}
 use Rattle.run_statements.specs.Switches.{StandsIn, Switches, switches_in, switches_of_all}
-use Rattle.run_statements.proofs.Gathering.{append_nothing, got, now_of, take_all}
+use Rattle.run_statements.proofs.Gathering.{append_nothing, got, now_of}
 use Rattle.run_statements.proofs.Jumping.{labels_count, map_at, map_next, range_more, some_same}
 use Rattle.run_statements.proofs.Owners.{owned, owners_body, owners_none, same_each}
 use Rattle.run_statements.proofs.Standing.{AllStand, Stands, stand_in}
@@ -97,12 +97,6 @@ owners_next n k s switches old mid new lt at before is =
     ∙ ap (λ (ks : List ℕ). old ++ ks)
     (sym (map_next (λ (t : Bor Switch). n) (take k switches) s) ∙ ap (map (λ t. n)) (sym (take_next switches k s there))
     ∙ ap (λ (j : ℕ). map (λ t. n) (take j switches)) one)
-
-pub so_first : (old : Jumps) (switches : List (Bor Switch)) → So old (take 0 switches) old
-so_first old switches = λ ss h. subst (λ (us : List Switch). HaveCases old.links.items 0 us (cases_of old)) (sym (append_nothing ss)) h
-
-pub so_all : (old new : Jumps) (switches : List (Bor Switch)) (n : ℕ) → length switches ≤ n → So old (take n switches) new → So old switches new
-so_all old new switches n le so = subst (λ (ss : List (Bor Switch)). So old ss new) (take_all switches n le) so
 
 -- ---- the `switch` statements of one function more
 all_later : (bs : List (Option (Bor Statement))) (b : Option (Bor Statement)) → switches_of_all (bs ++ b ∷ []) ≡ switches_of_all bs ++ switches_of_all (b ∷ [])

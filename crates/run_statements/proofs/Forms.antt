@@ -12,7 +12,7 @@ use Rattle.run_control.specs.Targets.{Bodies, AllEqual, bodies}
 use Rattle.run_control.proofs.Equations.{stmt-label, stmt-case, stmt-default, stmt-if, stmt-if_only}
 use Rattle.run_control.proofs.Equations.{bodies-label, bodies-case, bodies-default, bodies-if, bodies-if_only}
 use Rattle.run_statements.specs.declared.numbers.Numbers.{Numbers}
-use Rattle.run_statements.specs.Bodies.{Stands, Grows, IsRoot, IsRootIf, IsStatement, IsSimple, IsReturned, body_of}
+use Rattle.run_statements.specs.Bodies.{Stands, Grows, IsRoot, IsStatement, IsSimple, IsReturned, body_of}
 use Rattle.run_statements.proofs.Equations.{bodies-value, bodies-empty, bodies-goto, bodies-continue, bodies-break, bodies-return, bodies-return_none}
 use Rattle.run_statements.proofs.Equations.{stmt-value, stmt-empty, stmt-goto, stmt-continue, stmt-break, stmt-return, stmt-return_none}
 use Rattle.run_statements.proofs.Equations.{body-if_only, body-if, body-goto, body-continue, body-break, body-label, body-case, body-default}
@@ -22,12 +22,6 @@ grows_two a b c g h = (λ n x at. h.0 n x (g.0 n x at), λ n x at. h.1 n x (g.1 
 
 pub stands_before : (a b : Numbers) (m : Meaning) (e : Typed → Expr) → Grows a b → Stands m e b → Stands m e a
 stands_before a b m e g s = record { root = λ n r at. s.root n r (g.0 n r at); body = λ n x at. s.body n x (g.1 n x at) }
-
-pub root_later : (a b : Numbers) (t : Typed) (n : ℕ) → Grows a b → IsRoot a t n → IsRoot b t n
-root_later a b t n g h = λ m e st. h m e (stands_before a b m e g st)
-
-pub root_if_later : (a b : Numbers) (t : Option Typed) (n : Option ℕ) → Grows a b → IsRootIf a t n → IsRootIf b t n
-root_if_later a b t n g h = λ m e st. h m e (stands_before a b m e g st)
 
 pub statement_later : (a b : Numbers) (x : Body) (s : Statement) → Grows a b → IsStatement a x s → IsStatement b x s
 statement_later a b x s g h = λ m e st. h m e (stands_before a b m e g st)

@@ -1,6 +1,5 @@
 -- Which statement stands for blocks, `switch` statements and loops.
 use Rattle.std.proofs.Common.{◌≡◌, ℕ, [], ◌∷◌, ◌++◌, List, map, Option, Some, None, refl, sym, ap, subst, ◌∙◌, append_assoc}
-use Rattle.std.proofs.lemmas.List.{append-nil}
 use Rattle.c_typed.specs.declared.tree.Typed.{Typed}
 use Rattle.c_typed.specs.declared.statement.Body.{Body}
 use Rattle.c_typed.specs.declared.statement.Body.TheVariants as body
@@ -158,6 +157,3 @@ so_far_more a c b ss s x rest g k h = λ m e st. let r = h m e (stands_before a 
       ∙ (ap (λ z. map (stmt_of m) ss ++ z ∷ map (entry_of e m.decls) rest) (k m e st).0 ∙ r.0)),
   all_more m ss s r.1 (k m e st).1,
 )
-
-pub so_far_all : (ns : Numbers) (b : TypedBlock) (ss : List Statement) → AreSoFar ns b ss [] → AreEntries ns b ss
-so_far_all ns b ss h = λ m e st. (sym (append-nil (map (stmt_of m) ss)) ∙ (h m e st).0, (h m e st).1)

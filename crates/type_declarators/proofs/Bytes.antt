@@ -19,9 +19,6 @@ then_by : (bs more : List ℕ) (o : Option (List ℕ)) → prepended bs (bytes_t
 then_by bs more None = refl
 then_by bs more (Some cs) = ap (λ xs. Some xs) (sym (append_assoc bs more cs))
 
-not_then : (bs : List ℕ) (fault : LitFault) (o : Option (List ℕ)) → prepended bs (bytes_then (Err fault) o) ≡ None
-not_then bs fault o = refl
-
 rest : (count k : ℕ) → k < count → count - k ≡ suc (count - (k + 1))
 rest count k less = omega arith
 

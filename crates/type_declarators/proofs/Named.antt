@@ -259,7 +259,3 @@ next_by : (b : Bool) (t : Types) (y : CType) (rows more : List (List Word × CTy
     → (None ≡ named_by t rows → named_by t more ≡ named_by t (rows ++ more)) → named_by t more ≡ (if b then Some y else named_by t (rows ++ more))
 next_by true t y rows more e f = absurd (none-some y e)
 next_by false t y rows more e f = f e
-
-pub next_rows : (t : Types) (rows more : List (List Word × CType)) → None ≡ named_by t rows → named_by t more ≡ named_by t (rows ++ more)
-next_rows t [] more e = refl
-next_rows t (row ∷ rows) more e = next_by (are_same t (counts_of row.0)) t row.1 rows more e (next_rows t rows more)

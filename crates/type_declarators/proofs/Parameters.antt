@@ -32,9 +32,6 @@ parameter_is : (index : ℕ) (ws : Words) (name : Option ℕ) (q : Qualified) (e
 unfolding parameter
 parameter_is index ws name q env = refl
 
-no_class : (index : ℕ) (f v : Bool) (name : Option ℕ) (q : Qualified) (env : Env) → parameter_by index None f v name q env ≡ None
-no_class index f v name q env = refl
-
 a_function : (index : ℕ) (r : Option Bool) (v : Bool) (name : Option ℕ) (q : Qualified) (env : Env) → parameter_by index r true v name q env ≡ None
 a_function index None v name q env = refl
 a_function index (Some r) v name q env = refl

@@ -79,33 +79,6 @@ stays n t off before old new env e h = let P : State → Type 0 = λ s. Tells n 
 
 -- 2. An operand that isn't evaluated.
 
-pub suspended : (n : Namings) (t : TokenText) (off : Bool) (before : List Use) (old new : State) (env : Env)
-    → new ≡ record old { unevaluated = true } → Tells n t off before old env → Tells n t true (noted off before env.uses) new env
-suspended n t off before old new env e h =
-    let P : State → Type 0 = λ s. Tells n t true (noted off before env.uses) s env in
-    subst P (sym e) (record {
-      known = h.known;
-      constants = h.constants;
-      distinct = h.distinct;
-      objects = h.objects;
-      evaluated = refl;
-      uses = h.uses;
-    })
-
-pub resumed : (n : Namings) (t : TokenText) (off : Bool) (before : List Use) (old mid new : State) (was : Bool) (env here : Env)
-    → new ≡ record mid { literals = new.literals; unevaluated = was } → was ≡ old.unevaluated → Tells n t off before old env
-    → Tells n t true (noted off before env.uses) mid here → Tells n t off before new (record here { uses = env.uses })
-resumed n t off before old mid new was env here e is h k =
-    let P : State → Type 0 = λ s. Tells n t off before s (record here { uses = env.uses }) in
-    subst P (sym e) (record {
-      known = ap (λ (x : Env). record x { uses = env.uses }) k.known;
-      constants = k.constants;
-      distinct = k.distinct;
-      objects = k.objects;
-      evaluated = is ∙ h.evaluated;
-      uses = k.uses;
-    })
-
 -- 3. Literals that are forgotten.
 
 pub forgotten : (n : Namings) (t : TokenText) (off : Bool) (before : List Use) (mid new : State) (env : Env)

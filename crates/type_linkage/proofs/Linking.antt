@@ -1,8 +1,7 @@
 -- Declarations with linkage: what is known by a state before and after them.
-use Rattle.std.proofs.Common.{◌≡◌, ℕ, Bool, true, false, List, [], ◌∷◌, ◌++◌, map, refl, sym, ap, ◌∙◌, true≢false}
+use Rattle.std.proofs.Common.{◌≡◌, ℕ, Bool, true, false, List, [], map, refl, sym, ap, ◌∙◌, true≢false}
 use Rattle.std.specs.Prelude.{◌==◌, not, ◌&&◌, ◌||◌, is_some, if◌then◌else◌, Option, Some, None}
 use Rattle.std.specs.Option.{option_map}
-use Rattle.std.proofs.lemmas.List.{map-append}
 use Rattle.std.proofs.lemmas.Bool.{eq-eqb, eqb-true, eqb-false, false_from_ne_true}
 use Rattle.std.proofs.lemmas.Option.{same_Some}
 use Rattle.c_lex.specs.TokenText.{TokenText}
@@ -122,15 +121,6 @@ stands n one t s env q given symbol =
     (ap (agrees q) entity)
 
 -- 3. What declarations make known.
-
--- an identifier with linkage more
-pub link_is : (n : Naming) (t : TokenText) (s : State) (env : Env) (symbol : ℕ) (row : Linked) (linked : List (Declared Linked))
-    → linked ≡ s.linked ++ record { symbol = symbol; depth = 0; meaning = row } ∷ []
-    → map (with_meaning (linked_seen n)) linked
-    ≡ (known_by n t s env).linked ++ record { symbol = symbol; depth = 0; meaning = linked_seen n row } ∷ []
-link_is n t s env symbol row linked e =
-    ap (map (with_meaning (linked_seen n))) e
-    ∙ map-append (with_meaning (linked_seen n)) s.linked (record { symbol = symbol; depth = 0; meaning = row } ∷ [])
 
 further_by : (symbol : ℕ) (q : Qualified) (ls : List (Declared seen.Linked)) (e : Option seen.Linked) (l : seen.Linked) → e ≡ Some l
     → further symbol q e ls ≡ (if is_among q l.types then ls else changed symbol (with_one_more q l) ls)

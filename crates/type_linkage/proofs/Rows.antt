@@ -6,9 +6,9 @@ use Rattle.c_types.specs.Types.{more, params_of}
 use Rattle.c_types.specs.declared.library.LibFunc.{LibFunc}
 use Rattle.c_typed.specs.Lawful.{taking}
 use Rattle.type_name_space.specs.Scopes.{or_else}
-use Rattle.typing_env.specs.Names.{library_in, library_names}
+use Rattle.typing_env.specs.Names.{library_in}
 use Rattle.type_linkage.specs.declared.library.Simple.{Simple}
-use Rattle.type_linkage.specs.Library.{memory_names, text_names, other_names, simple_type, parameter_of}
+use Rattle.type_linkage.specs.Library.{simple_type, parameter_of}
 
 first_row : (t : Bool) (l : LibFunc) (found rest : Option LibFunc)
     → (if t then Some l else or_else found rest) ≡ or_else (if t then Some l else found) rest
@@ -21,12 +21,6 @@ library_in-append name [] ms = refl
 library_in-append name (l ∷ ls) ms =
     ap (λ o. if bytes_eq l.0 name then Some l.1 else o) (library_in-append name ls ms)
     ∙ first_row (bytes_eq l.0 name) l.1 (library_in name ls) (library_in name ms)
-
-pub library_in_parts : (name : List ℕ)
-    → library_in name library_names ≡ or_else (library_in name memory_names) (or_else (library_in name text_names) (library_in name other_names))
-library_in_parts name =
-    library_in-append name memory_names (text_names ++ other_names)
-    ∙ ap (or_else (library_in name memory_names)) (library_in-append name text_names other_names)
 
 -- parameters without a qualifier
 pub taking_is : (ss : List Simple) → params_of (map parameter_of ss) ≡ taking (map simple_type ss)

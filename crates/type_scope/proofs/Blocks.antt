@@ -38,12 +38,6 @@ split (a ∷ c ∷ cs) b is =
     let p = split (c ∷ cs) b (behind a c cs b is) in
     (a ∷ p.0, ap (λ bs. a ∷ bs) p.1, λ now. set_behind a c cs now ∙ ap (λ bs. a ∷ bs) (p.2 now))
 
--- the last one is the innermost
-innermost_last : (bs : List OpenBlock) (b : OpenBlock) → slice_get bs (length bs - 1) ≡ Some b → innermost (reverse (map block_seen bs)) ≡ block_seen b
-innermost_last bs b is =
-    let p = split bs b is in
-    ap (λ xs. innermost (reverse (map block_seen xs))) p.1 ∙ ap innermost (one_more b p.0)
-
 -- .. and another one in its place
 changed_last : (f : Seen → Seen) (bs : List OpenBlock) (b now : OpenBlock) → slice_get bs (length bs - 1) ≡ Some b → block_seen now ≡ f (block_seen b)
     → reverse (map block_seen (slice_set bs (length bs - 1) now)) ≡ with_innermost f (reverse (map block_seen bs))
@@ -57,10 +51,6 @@ changed_last f bs b now is e =
 -- the same of a list of known length
 last_of : (bs : List OpenBlock) (n : ℕ) (b : OpenBlock) → n ≡ length bs → 0 < n → b ≡ get_or bs (n - 1) b → slice_get bs (length bs - 1) ≡ Some b
 last_of bs n b e some is = sym (ap (λ k. slice_get bs (k - 1)) e) ∙ slice_get_read bs n (n - 1) b e (omega arith) is
-
-pub innermost_is : (bs : List OpenBlock) (n : ℕ) (b : OpenBlock) → n ≡ length bs → 0 < n → b ≡ get_or bs (n - 1) b
-    → innermost (reverse (map block_seen bs)) ≡ block_seen b
-innermost_is bs n b e some is = innermost_last bs b (last_of bs n b e some is)
 
 pub changed_is : (f : Seen → Seen) (bs : List OpenBlock) (n : ℕ) (b now : OpenBlock) → n ≡ length bs → 0 < n → b ≡ get_or bs (n - 1) b
     → block_seen now ≡ f (block_seen b)

@@ -1,5 +1,5 @@
 -- The labels of a function, after each change.
-use Rattle.std.proofs.Common.{◌≡◌, ℕ, zero, suc, ◌+◌, ◌≤◌, Bool, true, false, cond, List, [], ◌∷◌, ◌++◌, length, drop, refl, sym, ap, ◌∙◌, true≢false, arith}
+use Rattle.std.proofs.Common.{◌≡◌, ℕ, zero, suc, ◌+◌, Bool, true, false, cond, List, [], ◌∷◌, ◌++◌, length, drop, refl, sym, ap, ◌∙◌, true≢false, arith}
 use Rattle.std.specs.Prelude.{nat_eq, nat_lt, not, ◌==◌, ◌||◌, ◌&&◌, is_some, if◌then◌else◌, slice_get, Option, Some, None}
 use Rattle.std.specs.List.{position, position_or_len}
 use Rattle.std.specs.Map.{keys_of}
@@ -145,38 +145,6 @@ pub undefined_here : (i : ℕ) (ls ms : List ℕ) → is_undefined (slice_get ls
 undefined_here i [] ms e = absurd (true≢false (sym e))
 undefined_here zero (l ∷ ls) ms e = and_false (has_number l ms) (all_in ls ms) e
 undefined_here (suc i) (l ∷ ls) ms e = undefined_here i ls ms e
-
--- .. and behind the last one
-pub defined_all : (i : ℕ) (ls ms : List ℕ) → length ls ≤ i → all_in (drop i ls) ms ≡ true
-defined_all i [] ms more = ap (λ xs. all_in xs ms) (drop-nil i)
-defined_all zero (l ∷ ls) ms more = absurd (omega arith)
-defined_all (suc i) (l ∷ ls) ms more = defined_all i ls ms (omega arith)
-
-key_at : (i : ℕ) (es : List (ℕ × Label)) (e : ℕ × Label) → slice_get es i ≡ Some e → slice_get (keys_of es) i ≡ Some e.0
-key_at i [] e is = absurd (none-some e is)
-key_at zero (x ∷ es) e is = ap (λ (y : ℕ × Label). Some y.0) (same_Some x e is)
-key_at (suc i) (x ∷ es) e is = key_at i es e is
-
-no_key : (i : ℕ) (es : List (ℕ × Label)) → slice_get es i ≡ None → slice_get (keys_of es) i ≡ None
-no_key i [] is = refl
-no_key zero (x ∷ es) is = absurd (none-some x (sym is))
-no_key (suc i) (x ∷ es) is = no_key i es is
-
--- the label at a place
-pub undefined_key : (i : ℕ) (es : List (ℕ × Label)) (e : ℕ × Label) (symbols defined : List ℕ) (d : Bool)
-    → keys_of es ≡ symbols → slice_get es i ≡ Some e → (e.1).defined ≡ has_number e.0 defined → (e.1).defined ≡ d
-    → is_undefined (slice_get symbols i) defined ≡ not d
-undefined_key i es e symbols defined d same is row was =
-    ap (λ ks. is_undefined (slice_get ks i) defined) (sym same) ∙ ap (λ k. is_undefined k defined) (key_at i es e is) ∙ ap not (sym row ∙ was)
-
-pub undefined_none : (i : ℕ) (es : List (ℕ × Label)) (symbols defined : List ℕ) → keys_of es ≡ symbols → slice_get es i ≡ None
-    → is_undefined (slice_get symbols i) defined ≡ false
-undefined_none i es symbols defined same is =
-    ap (λ ks. is_undefined (slice_get ks i) defined) (sym same) ∙ ap (λ k. is_undefined k defined) (no_key i es is)
-
-pub length_keys : (es : List (ℕ × Label)) → length (keys_of es) ≡ length es
-length_keys [] = refl
-length_keys (e ∷ es) = ap suc (length_keys es)
 
 -- what is known of labels, where one is defined
 pub has_defined : (k : ℕ) (defined : List ℕ) (before after : ℕ → Bool) → ((s : ℕ) → before s ≡ has_number s defined)

@@ -6,8 +6,6 @@ use Rattle.std.proofs.lemmas.List.{map-append}
 use Rattle.c_lex.specs.TokenText.{TokenText}
 use Rattle.type_name_space.specs.Scopes.{Declared, or_else, visible, at_depth, kept, left, put_at, changed, changed_in}
 use Rattle.c_types.specs.Types.{Qualified}
-use Rattle.c_types.specs.declared.tags.TagKind.{TagKind}
-use Rattle.c_types.specs.declared.tags.Tag.{Tag}
 use Rattle.typing_env.specs.Seen.{tag_seen}
 use Rattle.typing_env.specs.Env.{Env, and_then, pure, Meaning, a_typedef, symbol_in, symbol_of}
 use Rattle.typing_env.specs.Names.{meaning_in, meaning_of, meaning_here, declared_from, declared_at, declare, declare_typedef, is_same_typedef}
@@ -275,8 +273,3 @@ pub typedef_new : (n : Naming) (t : TokenText) (state : State) (env : Env) (at s
     → is_same_typedef qual (meaning_here (known_by n t state env) symbol) ≡ false
     → declare_typedef at qual (known_by n t state env) ≡ declare at (a_typedef qual) (known_by n t state env)
 typedef_new n t state env at symbol qual e is = typedef_if n t state env at symbol qual false e is
-
--- one structure or union more
-pub new_tag_is : (kind : TagKind) (was now : List Tag) → now ≡ was ++ record { kind = kind; members = [] } ∷ []
-    → map tag_seen now ≡ map tag_seen was ++ record { kind = kind; members = [] } ∷ []
-new_tag_is kind was now e = ap (map tag_seen) e ∙ map-append tag_seen was (record { kind = kind; members = [] } ∷ [])

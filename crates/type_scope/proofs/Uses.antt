@@ -124,11 +124,6 @@ object_unused t us row none e = (ap is_some none.0 ∙ sym e, λ count. ap (λ c
 by_number : (P : ℕ → Type 0) (number : ℕ) → P number → ((m : ℕ) → m ≢ number → P m) → (m : ℕ) → P m
 by_number P number here others m = elim (eqb_tells m number) [ inl p ↦ subst P (sym p.1) here | inr p ↦ others m p.1 ]
 
--- whether it is noted
-pub not_noted : (n : Naming) (s : State) (us : List Use) (u : Use) (unevaluated : Bool) → unevaluated ≡ true → HasUses n s us
-    → HasUses n s (with_use unevaluated u us)
-not_noted n s us u unevaluated e has = subst (λ b. HasUses n s (with_use b u us)) (sym e) has
-
 pub noted : (n : Naming) (s : State) (us : List Use) (u : Use) (unevaluated : Bool) → unevaluated ≡ false → HasUses n s (us ++ u ∷ [])
     → HasUses n s (with_use unevaluated u us)
 noted n s us u unevaluated e has = subst (λ b. HasUses n s (with_use b u us)) (sym e) has

@@ -145,10 +145,6 @@ pub quotient_le : (a b : ℕ) → a / b ≤ a
 quotient_le a zero = omega arith
 quotient_le a (suc b) = grind (arith)
 
-rest_le : (a b : ℕ) → a % b ≤ a
-rest_le a zero = omega arith
-rest_le a (suc b) = grind (arith)
-
 rem_le : (a b : ℤ) → unsigned_abs (int_rem a b) ≤ unsigned_abs a
 rem_le a b = grind (arith, ints)
 

@@ -70,12 +70,6 @@ module _ (rows : List Row) (P : Item → Type 0) (x : ObjName) (how : Access) (a
       (λ at g. need P Anything (suits_store via (declared_of at.life) at.from) EffectiveType _
       (λ k. (written at.object at.from _ g.0 g.1 (subst (LengthFits how) (sym (stored_length (declared_of at.life) via 0 bs)) f), λ r. tt)))
 
-any_length : (how : Access) (n : ℕ) → ((m align : ℕ) → how ≡ access.Whole m align → ⊥) → LengthFits how n
-any_length (access.Integer k) n h = tt
-any_length access.Pointer n h = tt
-any_length access.Function n h = tt
-any_length (access.Whole m align) n h = absurd (h m align refl)
-
 module _ (rows : List Row) (P : Item → Type 0) (x : ObjName) (alive : (y : ObjName) → P (Alive y)) where
   abbrev Written : Access → Type 0
   Written how = (y : ObjName) (from len : ℕ) → y ≡ x → from ≡ 0 → LengthFits how len → P (Write y from len)
