@@ -10,7 +10,7 @@ ghost use Rattle.run_answers.specs.Depth.{StartsWithin};
 ghost use Rattle.run_answers.specs.LibraryCalls.{types_seen, AreArguments, CallsLibrary, CanCall, IsAnswered, TakesAnswer, TouchesStreams};
 ghost use Rattle.run_answers.specs.Opens.{started_on, IsOnTop, OpensFrame, OpensFunction, OpensInitializer, Passes};
 
-use crate::acts::in_room;
+use crate::places::value_in_room;
 use c_typed::Program;
 use c_types::LibFunc;
 use prov_memory::{LibAnswer, Values};
@@ -32,7 +32,7 @@ pub fn call(machine: &mut Machine, call: &CallCode, event: Event) -> Result<Outc
         return Err(Fault::Raise(Clause::InvalidPointer));
     };
     let program = machine.program;
-    let address = designated(machine, call.designator)?;
+    let address = designated(machine, call.designator);
     let number = callee(program, address, ty)?;
     match library_of(program, number) {
         Some(library) => call_library(machine, library, call, event),
@@ -41,16 +41,16 @@ pub fn call(machine: &mut Machine, call: &CallCode, event: Event) -> Result<Outc
 }
 
 // The address of the function that a designator leads to. Anything but a function pointer leads to none.
-fn designated(machine: &Machine, designator: Operand) -> Result<u64, NoMemory>
-    ensures { IfOk result (λ a. (h : Kept_value) → operand_in machine.now designator ≡ Some h → (m : Kept) → a ≡ function_in (value_in m h)) }
+fn designated(machine: &Machine, designator: Operand) -> u64
+    ensures { (h : Kept_value) → operand_in machine.now designator ≡ Some h → (m : Kept) → result ≡ function_in (value_in m h) }
 {
     match designator {
-        Operand::Function(addr) => Ok(addr),
-        Operand::Done(room) => {
-            let value = in_room(&machine.values, machine.top.base, room)?;
-            Ok(as_function(value))
-        }
-        _ => Ok(0),
+        Operand::Function(addr) => addr,
+        Operand::Done(room) => match value_in_room(machine, room) {
+            Some(value) => as_function(value),
+            None => 0,
+        },
+        _ => 0,
     }
 }
 
