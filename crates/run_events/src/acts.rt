@@ -58,6 +58,8 @@ pub fn perform(machine: &mut Machine, act: &Act, event: Event) -> Result<Outcome
         OnErr result (RowsStay machine.old.memory.rows machine.new.memory.rows) }
     ensures bodies { Opens machine.old act.now event machine.new result }
     ensures calls { (number : ℕ) → act.now ≡ acts.Call number → CallsNumbered number machine.old event machine.new result }
+    // Where it isn't done, nothing was written.
+    ensures streams { OnErr result (machine.new.streams ≡ machine.old.streams) }
 {
     match act {
         Act::Store {
@@ -77,6 +79,7 @@ pub fn perform(machine: &mut Machine, act: &Act, event: Event) -> Result<Outcome
 fn call_of(machine: &mut Machine, number: u32, event: Event) -> Result<Outcome, Fault>
     requires there { number < length machine.old.code.now.tables.calls.items }
     ensures calls { CallsNumbered number machine.old event machine.new result }
+    ensures streams { OnErr result (machine.new.streams ≡ machine.old.streams) }
 {
     let code = machine.code;
     call(machine, &code.tables.calls[number as usize], event)
@@ -679,7 +682,7 @@ fn target_of<'p>(machine: &Machine<'p, '_>, number: u32) -> Result<(StoreCode<'p
 }
 
 // The value in the room of this number, from the first one of a full expression on.
-pub fn in_room(values: &Vec<Value>, first: usize, room: u32) -> Result<&Value, NoMemory>
+fn in_room(values: &Vec<Value>, first: usize, room: u32) -> Result<&Value, NoMemory>
     ensures { IfOk result (λ v. slice_get values.now.items (first + room) ≡ Some v.now) }
 {
     match values.get(first.saturating_add(room as usize)) {
