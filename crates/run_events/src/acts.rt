@@ -1,5 +1,5 @@
 // The acts of events.
-ghost use Rattle.std.specs.Prelude.{◌≡◌, ◌≢◌, ◌+◌, ◌<◌, ℕ, true, false, not, List, length, slice_get, None, Some, IfOk, OnErr};
+ghost use Rattle.std.specs.Prelude.{◌≡◌, ◌+◌, ◌<◌, ℕ, true, false, not, List, length, slice_get, None, Some, IfOk, OnErr};
 ghost use Rattle.addr_map.specs.declared.map.Row.{Row};
 ghost use Rattle.c_model.specs.Nodes.{bool_value, in_order};
 ghost use Rattle.c_model.specs.Values as model;
@@ -22,14 +22,17 @@ ghost use Rattle.run_answers.specs.Calling.{CallsNumbered};
 ghost use Rattle.run_answers.specs.Opens.{Opens};
 ghost use Rattle.run_answers.specs.Performs.{gives_value, kept_room, is_pointer_act, CanAct, CanPerform, CanPut, ChangesOnly, Does, Effects, Performs, Puts};
 ghost use Rattle.run_answers.specs.Performs.{TouchesMemory, TouchesSpare};
+ghost use Rattle.run_events.specs.Places.{LeadsTo};
 
 use crate::frames::{call, initialize};
-use c_typed::{Access, Change, Conversion, EqOp, RelOp, UnOp};
+use crate::places::{object_at, pointer_into};
+use crate::updates::update;
+use c_typed::{Access, Conversion, EqOp, RelOp, UnOp};
 use c_types::{BinOp, IntKind, Ty};
 use prov_memory::{Value, Via};
 use run_acts::{
-    Filling, Pointer, answer, binary, changed, convert, distance, equal, fill, load, member, moved,
-    part, related, store, unary,
+    Filling, Pointer, answer, binary, convert, distance, equal, fill, load, member, moved, part,
+    related, store, unary,
 };
 use run_answers::{Fault, Outcome};
 use run_layout::{Act, Operand, StoreCode};
@@ -55,6 +58,8 @@ pub fn perform(machine: &mut Machine, act: &Act, event: Event) -> Result<Outcome
         OnErr result (RowsStay machine.old.memory.rows machine.new.memory.rows) }
     ensures bodies { Opens machine.old act.now event machine.new result }
     ensures calls { (number : ℕ) → act.now ≡ acts.Call number → CallsNumbered number machine.old event machine.new result }
+    // Where it isn't done, nothing was written.
+    ensures streams { OnErr result (machine.new.streams ≡ machine.old.streams) }
 {
     match act {
         Act::Store {
@@ -74,6 +79,7 @@ pub fn perform(machine: &mut Machine, act: &Act, event: Event) -> Result<Outcome
 fn call_of(machine: &mut Machine, number: u32, event: Event) -> Result<Outcome, Fault>
     requires there { number < length machine.old.code.now.tables.calls.items }
     ensures calls { CallsNumbered number machine.old event machine.new result }
+    ensures streams { OnErr result (machine.new.streams ≡ machine.old.streams) }
 {
     let code = machine.code;
     call(machine, &code.tables.calls[number as usize], event)
@@ -138,7 +144,7 @@ fn loaded(
     }
 }
 
-// An integer. Most stand in automatic objects, whose pointers have one object.
+// An integer. Most stand in places of one object.
 #[inline(always)]
 fn loaded_integer(
     machine: &mut Machine,
@@ -152,16 +158,28 @@ fn loaded_integer(
     ensures changes { ChangesOnly machine.old machine.new event.node (acts.Load (accesses.Integer kind) ty.entry place.now) }
     ensures rows { OnErr result (RowsStay machine.old.memory.rows machine.new.memory.rows) }
 {
-    match *place {
-        Operand::Local { object, offset } => {
-            let place = machine.local(object, offset);
-            integer_at(machine, kind, place, event)
-        }
-        _ => {
-            let place = machine.pointer(*place);
-            integer_at(machine, kind, place, event)
-        }
+    match object_at(machine, *place) {
+        Some((name, addr)) => integer_at(machine, kind, pointer_into(name, addr), event),
+        None => integer_elsewhere(machine, kind, ty, place, event),
     }
+}
+
+// An integer at any place. Not inlined, since few are others.
+#[inline(never)]
+fn integer_elsewhere(
+    machine: &mut Machine,
+    kind: IntKind,
+    ty: &Ty,
+    place: &Operand,
+    event: Event,
+) -> Result<Outcome, Fault>
+    ensures exact { CanAct machine.old → AreGiven machine.old event (acts.Load (accesses.Integer kind) ty.entry place.now) →
+        Does machine.old machine.new event (acts.Load (accesses.Integer kind) ty.entry place.now) result }
+    ensures changes { ChangesOnly machine.old machine.new event.node (acts.Load (accesses.Integer kind) ty.entry place.now) }
+    ensures rows { OnErr result (RowsStay machine.old.memory.rows machine.new.memory.rows) }
+{
+    let place = machine.pointer(*place);
+    integer_at(machine, kind, place, event)
 }
 
 // The integer at this place goes to the room of the event's node.
@@ -184,7 +202,7 @@ fn integer_at(
     Ok(Outcome::Done)
 }
 
-// A pointer to an object.
+// A pointer to an object. Most stand in places of one object.
 #[inline(never)]
 fn loaded_pointer(
     machine: &mut Machine,
@@ -197,11 +215,47 @@ fn loaded_pointer(
     ensures changes { ChangesOnly machine.old machine.new event.node (acts.Load accesses.Pointer ty.entry place.now) }
     ensures rows { OnErr result (RowsStay machine.old.memory.rows machine.new.memory.rows) }
 {
-    let place = machine.pointer(*place);
+    match object_at(machine, *place) {
+        Some((name, addr)) => {
+            pointer_loaded_at(machine, ty, place, pointer_into(name, addr), event)
+        }
+        None => pointer_elsewhere(machine, ty, place, event),
+    }
+}
+
+// A pointer at any place. Not inlined, since few are others.
+#[inline(never)]
+fn pointer_elsewhere(
+    machine: &mut Machine,
+    ty: &Ty,
+    place: &Operand,
+    event: Event,
+) -> Result<Outcome, Fault>
+    ensures exact { CanAct machine.old → AreGiven machine.old event (acts.Load accesses.Pointer ty.entry place.now) →
+        Does machine.old machine.new event (acts.Load accesses.Pointer ty.entry place.now) result }
+    ensures changes { ChangesOnly machine.old machine.new event.node (acts.Load accesses.Pointer ty.entry place.now) }
+    ensures rows { OnErr result (RowsStay machine.old.memory.rows machine.new.memory.rows) }
+{
+    let at = machine.pointer(*place);
+    pointer_loaded_at(machine, ty, place, at, event)
+}
+
+// The pointer at the place to which the operand leads goes to the room of the event's node.
+#[inline(always)]
+fn pointer_loaded_at(
+    machine: &mut Machine,
+    ty: &Ty,
+    place: &Operand,
+    at: Pointer,
+    event: Event,
+) -> Result<Outcome, Fault>
+    ensures exact { LeadsTo machine.old place.now at → CanAct machine.old → AreGiven machine.old event (acts.Load accesses.Pointer ty.entry place.now) →
+        Does machine.old machine.new event (acts.Load accesses.Pointer ty.entry place.now) result }
+    ensures changes { ChangesOnly machine.old machine.new event.node (acts.Load accesses.Pointer ty.entry place.now) }
+    ensures rows { OnErr result (RowsStay machine.old.memory.rows machine.new.memory.rows) }
+{
     let t = &mut machine.items;
-    let value = machine
-        .memory
-        .load_ptr(ty, event, 8, place.addr, place.prov, t)?;
+    let value = machine.memory.load_ptr(ty, event, 8, at.addr, at.prov, t)?;
     machine.keep(event.node, value);
     Ok(Outcome::Done)
 }
@@ -609,57 +663,10 @@ fn answered(machine: &mut Machine, discarded: bool, event: Event) -> Result<Outc
     ensures changes { ChangesOnly machine.old machine.new event.node (acts.Answer discarded) }
     ensures rows { OnErr result (RowsStay machine.old.memory.rows machine.new.memory.rows) }
 {
-    let left = taken(machine, event.node)?;
+    let left = machine.take(event.node);
     let value = answer(left, discarded)?;
     machine.keep(event.node, value);
     Ok(Outcome::Done)
-}
-
-// Takes the value out of a room.
-fn taken(machine: &mut Machine, room: u32) -> Result<Value, NoMemory>
-    ensures rest { machine.new ≡ record machine.old { values = machine.new.values } }
-    ensures room { IfOk result (λ v. slice_get machine.old.values.items (machine.old.top.base + room) ≡ Some v) }
-    ensures others { (j : ℕ) → j ≢ machine.old.top.base + room → slice_get machine.new.values.items j ≡ slice_get machine.old.values.items j }
-    ensures count { length machine.new.values.items ≡ length machine.old.values.items }
-{
-    let at = machine.top.base.saturating_add(room as usize);
-    match machine.values.get_mut(at) {
-        Some(place) => Ok(std::mem::replace(place, Value::Nothing)),
-        None => Err(NoMemory),
-    }
-}
-
-// An Update's value, and in its room what it will store.
-#[inline(never)]
-fn update(
-    machine: &mut Machine,
-    change: Change,
-    old: bool,
-    ty: &Ty,
-    event: Event,
-    place: &Operand,
-    operand: &Operand,
-    room: u32,
-) -> Result<Outcome, Fault>
-    ensures exact { CanAct machine.old → AreGiven machine.old event (acts.Change change old ty.entry place.now operand.now room) →
-        Does machine.old machine.new event (acts.Change change old ty.entry place.now operand.now room) result }
-    ensures changes { ChangesOnly machine.old machine.new event.node (acts.Change change old ty.entry place.now operand.now room) }
-    ensures rows { OnErr result (RowsStay machine.old.memory.rows machine.new.memory.rows) }
-{
-    let place = machine.pointer(*place);
-    let operand = machine.integer(*operand);
-    let (t, spare) = (&mut machine.items, &mut machine.spare);
-    let memory = &mut machine.memory;
-    let both = changed(memory, change, ty, event, place, operand, t, spare)?;
-    let (before, after) = both;
-    if old {
-        machine.keep(room, after);
-        machine.keep(event.node, before);
-        Ok(Outcome::Done)
-    } else {
-        machine.keep(event.node, after);
-        Ok(Outcome::Done)
-    }
 }
 
 // How the store of this number accesses memory.
@@ -675,7 +682,7 @@ fn target_of<'p>(machine: &Machine<'p, '_>, number: u32) -> Result<(StoreCode<'p
 }
 
 // The value in the room of this number, from the first one of a full expression on.
-pub fn in_room(values: &Vec<Value>, first: usize, room: u32) -> Result<&Value, NoMemory>
+fn in_room(values: &Vec<Value>, first: usize, room: u32) -> Result<&Value, NoMemory>
     ensures { IfOk result (λ v. slice_get values.now.items (first + room) ≡ Some v.now) }
 {
     match values.get(first.saturating_add(room as usize)) {

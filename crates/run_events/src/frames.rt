@@ -1,6 +1,7 @@
 // The bodies of calls, and the frames that they start.
-ghost use Rattle.std.specs.Prelude.{◌≡◌, OnOk, IfOk, Some, slice_get};
+ghost use Rattle.std.specs.Prelude.{◌≡◌, false, OnErr, OnOk, IfOk, Some, slice_get};
 ghost use Rattle.c_model.specs.Values.{function_in};
+ghost use Rattle.libc_model.specs.Answers.{gives_value};
 ghost use Rattle.prov_memory.specs.Memory.{Kept};
 ghost use Rattle.prov_memory.specs.declared.value.Value.{Value as Kept_value};
 ghost use Rattle.run_acts.specs.Views.{value_in};
@@ -10,7 +11,7 @@ ghost use Rattle.run_answers.specs.Depth.{StartsWithin};
 ghost use Rattle.run_answers.specs.LibraryCalls.{types_seen, AreArguments, CallsLibrary, CanCall, IsAnswered, TakesAnswer, TouchesStreams};
 ghost use Rattle.run_answers.specs.Opens.{started_on, IsOnTop, OpensFrame, OpensFunction, OpensInitializer, Passes};
 
-use crate::acts::in_room;
+use crate::places::value_in_room;
 use c_typed::Program;
 use c_types::LibFunc;
 use prov_memory::{LibAnswer, Values};
@@ -27,12 +28,13 @@ const MOST_FRAMES: u64 = 100_000;
 // The body of a call: an act of the library, or a new frame.
 pub fn call(machine: &mut Machine, call: &CallCode, event: Event) -> Result<Outcome, Fault>
     ensures calls { Calls machine.old call.now event machine.new result }
+    ensures streams { OnErr result (machine.new.streams ≡ machine.old.streams) }
 {
     let Some(ty) = call.ty else {
         return Err(Fault::Raise(Clause::InvalidPointer));
     };
     let program = machine.program;
-    let address = designated(machine, call.designator)?;
+    let address = designated(machine, call.designator);
     let number = callee(program, address, ty)?;
     match library_of(program, number) {
         Some(library) => call_library(machine, library, call, event),
@@ -41,16 +43,16 @@ pub fn call(machine: &mut Machine, call: &CallCode, event: Event) -> Result<Outc
 }
 
 // The address of the function that a designator leads to. Anything but a function pointer leads to none.
-fn designated(machine: &Machine, designator: Operand) -> Result<u64, NoMemory>
-    ensures { IfOk result (λ a. (h : Kept_value) → operand_in machine.now designator ≡ Some h → (m : Kept) → a ≡ function_in (value_in m h)) }
+fn designated(machine: &Machine, designator: Operand) -> u64
+    ensures { (h : Kept_value) → operand_in machine.now designator ≡ Some h → (m : Kept) → result ≡ function_in (value_in m h) }
 {
     match designator {
-        Operand::Function(addr) => Ok(addr),
-        Operand::Done(room) => {
-            let value = in_room(&machine.values, machine.top.base, room)?;
-            Ok(as_function(value))
-        }
-        _ => Ok(0),
+        Operand::Function(addr) => addr,
+        Operand::Done(room) => match value_in_room(machine, room) {
+            Some(value) => as_function(value),
+            None => 0,
+        },
+        _ => 0,
     }
 }
 
@@ -82,6 +84,7 @@ fn call_library(
     event: Event,
 ) -> Result<Outcome, Fault>
     ensures library { CallsLibrary machine.old library call.now.arguments.items call.now.types event machine.new result }
+    ensures streams { OnErr result (machine.new.streams ≡ machine.old.streams) }
 {
     let arguments = arguments_of(machine, call)?;
     let answer = answer_of(machine, library, call, &arguments, event);
@@ -99,6 +102,7 @@ fn answer_of(
     ensures rest { TouchesStreams machine.old machine.new }
     ensures exact { CanCall machine.old library arguments.now →
         IsAnswered machine.old machine.new library event (types_seen call.now.types) arguments.now result }
+    ensures streams { gives_value result ≡ false → machine.new.streams ≡ machine.old.streams }
 {
     let alloc = machine.alloc;
     let types = call.types.as_slice();
@@ -139,6 +143,7 @@ fn start_function(
 ) -> Result<Outcome, Fault>
     ensures within { StartsWithin result machine.old.depth machine.new.depth }
     ensures opens { OpensFunction machine.old function call.now.arguments.items event machine.new result }
+    ensures streams { machine.new.streams ≡ machine.old.streams }
 {
     let reached = machine.depth.saturating_add(1);
     if reached > MOST_FRAMES {
@@ -180,6 +185,7 @@ fn function_code<'c>(machine: &Machine<'_, 'c>, function: u32) -> Result<&'c Fun
 #[inline(never)]
 pub fn initialize(machine: &mut Machine, number: u32, event: Event) -> Result<Outcome, Fault>
     ensures opens { OpensInitializer machine.old number event machine.new result }
+    ensures streams { machine.new.streams ≡ machine.old.streams }
 {
     machine.work.start_initializer(number)?;
     let locals = (machine.top.locals, machine.top.above);
@@ -194,6 +200,7 @@ pub fn initialize(machine: &mut Machine, number: u32, event: Event) -> Result<Ou
 
 fn open_function(machine: &mut Machine, function: u32, event: Event) -> Result<(), NoMemory>
     ensures opens { OnOk result (OpensFrame machine.old function event machine.new) }
+    ensures streams { machine.new.streams ≡ machine.old.streams }
 {
     let code = function_code(machine, function)?;
     let locals = machine.top.above;
@@ -217,7 +224,8 @@ fn open_frame(
     locals: (usize, usize),
     event: Event,
 ) -> Result<(), NoMemory>
-    ensures { OnOk result (IsOnTop machine.old (started_on machine.old.top event function seen.0 seen.1 locals.0 locals.1) machine.new) }
+    ensures top { OnOk result (IsOnTop machine.old (started_on machine.old.top event function seen.0 seen.1 locals.0 locals.1) machine.new) }
+    ensures streams { machine.new.streams ≡ machine.old.streams }
 {
     machine.below.push(machine.top)?;
     machine.top = Open {

@@ -5,6 +5,8 @@
 mod acts;
 mod choices;
 mod frames;
+mod places;
+mod updates;
 
 pub use acts::{perform, put_at};
 pub use choices::{choose, choose_at_once};

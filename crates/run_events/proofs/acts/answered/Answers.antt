@@ -1,4 +1,4 @@
-use Rattle.std.proofs.Common.{refl, ap, sym}
+use Rattle.std.proofs.Common.{◌∙◌, refl, ap, sym, Some}
 use Rattle.std.proofs.lemmas.Result.{err_from_is_err_and}
 use Rattle.run_layout.specs.declared.steps.Act.TheVariants as act
 use Rattle.run_acts.specs.Views.{value_in}
@@ -12,65 +12,53 @@ use Rattle.run_answers.proofs.Doing.{by_script, given_value, rows_rest}
 use Rattle.run_events.proofs.Rooms.{room_changes, room_done}
 use Rattle.run_events.proofs.acts.answered.Goals as goal
 
-pub returns-in_err-left-clause-exact : goal.returns-in_err-left-clause-exact
-returns-in_err-left-clause-exact c =
-    let p = err_from_is_err_and c.from_residual.result c.from_residual.ensures.1 in
-    rw (p.1, p.2) (λ can given. tt)
-
-pub returns-in_err-left-clause-changes : goal.returns-in_err-left-clause-changes
-returns-in_err-left-clause-changes c =
-    taken_changes c.args.machine.now c.taken.new.machine c.args.event.node (act.Answer c.args.discarded) c.in_err-left.ensures.rest
-    c.in_err-left.ensures.others
-    c.in_err-left.ensures.count
-
 pub returns-in_err-value-clause-exact : goal.returns-in_err-value-clause-exact
 returns-in_err-value-clause-exact c =
-    let p = err_from_is_err_and c.from_residual-in_err-value.result c.from_residual-in_err-value.ensures.1 in
+    let p = err_from_is_err_and c.from_residual.result c.from_residual.ensures.1 in
     rw (p.1, p.2) (λ can given.
     let m = c.args.machine.now in
-    let left = c.in_ok-left.left in
-    let same = ap (call_value c.args.discarded) (sym (given_value m (operand.Done c.args.event.node) left c.in_ok-left.ensures.room)) in
+    let left = c.take-left.result in
+    let room = given.1 ∙ ap Some (sym (c.take-left.ensures.room given.0 given.1)) in
+    let same = ap (call_value c.args.discarded) (sym (given_value m (operand.Done c.args.event.node) left room)) in
     by_script m (call_value c.args.discarded (value_in m.memory left)) _ _ same
     (c.in_err-value.ensures.exact m.memory m.memory.rows (store_in m)))
 
 pub returns-in_err-value-clause-changes : goal.returns-in_err-value-clause-changes
 returns-in_err-value-clause-changes c =
-    taken_changes c.args.machine.now c.taken.new.machine c.args.event.node (act.Answer c.args.discarded) c.in_ok-left.ensures.rest c.in_ok-left.ensures.others
-    c.in_ok-left.ensures.count
+    taken_changes c.args.machine.now c.take-left.new.self c.args.event.node (act.Answer c.args.discarded) c.take-left.ensures.rest c.take-left.ensures.others
+    c.take-left.ensures.count
 
 pub returns-clause-exact : goal.returns-clause-exact
 returns-clause-exact c = λ can given.
     let m = c.args.machine.now in
-    let left = c.in_ok-left.left in
-    let same = ap (call_value c.args.discarded) (sym (given_value m (operand.Done c.args.event.node) left c.in_ok-left.ensures.room)) in
-    room_done m m.memory m.items m.spare c.keep.new.self c.args.event.node c.in_ok-value.value (twice_rest m c.taken.new.machine c.keep.new.self
-    c.args.event.node c.in_ok-value.value c.in_ok-left.ensures.rest c.in_ok-left.ensures.others c.in_ok-left.ensures.count
+    let left = c.take-left.result in
+    let room = given.1 ∙ ap Some (sym (c.take-left.ensures.room given.0 given.1)) in
+    let same = ap (call_value c.args.discarded) (sym (given_value m (operand.Done c.args.event.node) left room)) in
+    room_done m m.memory m.items m.spare c.keep.new.self c.args.event.node c.in_ok-value.value (twice_rest m c.take-left.new.self c.keep.new.self
+    c.args.event.node c.in_ok-value.value c.take-left.ensures.rest c.take-left.ensures.others c.take-left.ensures.count
     c.keep.ensures.rest c.keep.ensures.room c.keep.ensures.others)
-    (twice_room m c.taken.new.machine c.keep.new.self c.args.event.node c.in_ok-value.value c.in_ok-left.ensures.rest c.in_ok-left.ensures.others
-    c.in_ok-left.ensures.count
-    c.keep.ensures.rest c.keep.ensures.room c.keep.ensures.others) (twice_others m c.taken.new.machine c.keep.new.self c.args.event.node
-    c.in_ok-value.value c.in_ok-left.ensures.rest c.in_ok-left.ensures.others c.in_ok-left.ensures.count
+    (twice_room m c.take-left.new.self c.keep.new.self c.args.event.node c.in_ok-value.value c.take-left.ensures.rest c.take-left.ensures.others
+    c.take-left.ensures.count
+    c.keep.ensures.rest c.keep.ensures.room c.keep.ensures.others) (twice_others m c.take-left.new.self c.keep.new.self c.args.event.node
+    c.in_ok-value.value c.take-left.ensures.rest c.take-left.ensures.others c.take-left.ensures.count
     c.keep.ensures.rest c.keep.ensures.room c.keep.ensures.others)
     c.args.event (act.Answer c.args.discarded) refl refl
     (with_none m (call_value c.args.discarded (given_by m (operand.Done c.args.event.node))) (value_in m.memory c.in_ok-value.value) can
     (by_script m (call_value c.args.discarded (value_in m.memory left)) _ _ same (c.in_ok-value.ensures.exact m.memory m.memory.rows (store_in m))))
-    (c.in_ok-value.ensures.made m.memory (left_of_room m c.args.event.node left c.in_ok-left.ensures.room given)) (keeps_none m.memory)
+    (c.in_ok-value.ensures.made m.memory (left_of_room m c.args.event.node left room given)) (keeps_none m.memory)
 
 pub returns-clause-changes : goal.returns-clause-changes
 returns-clause-changes c =
     let m = c.args.machine.now in
-    room_changes m m.memory m.items m.spare c.keep.new.self c.args.event.node c.in_ok-value.value (twice_rest m c.taken.new.machine c.keep.new.self
-    c.args.event.node c.in_ok-value.value c.in_ok-left.ensures.rest c.in_ok-left.ensures.others c.in_ok-left.ensures.count
+    room_changes m m.memory m.items m.spare c.keep.new.self c.args.event.node c.in_ok-value.value (twice_rest m c.take-left.new.self c.keep.new.self
+    c.args.event.node c.in_ok-value.value c.take-left.ensures.rest c.take-left.ensures.others c.take-left.ensures.count
     c.keep.ensures.rest c.keep.ensures.room c.keep.ensures.others)
-    (twice_room m c.taken.new.machine c.keep.new.self c.args.event.node c.in_ok-value.value c.in_ok-left.ensures.rest c.in_ok-left.ensures.others
-    c.in_ok-left.ensures.count
-    c.keep.ensures.rest c.keep.ensures.room c.keep.ensures.others) (twice_others m c.taken.new.machine c.keep.new.self c.args.event.node
-    c.in_ok-value.value c.in_ok-left.ensures.rest c.in_ok-left.ensures.others c.in_ok-left.ensures.count
+    (twice_room m c.take-left.new.self c.keep.new.self c.args.event.node c.in_ok-value.value c.take-left.ensures.rest c.take-left.ensures.others
+    c.take-left.ensures.count
+    c.keep.ensures.rest c.keep.ensures.room c.keep.ensures.others) (twice_others m c.take-left.new.self c.keep.new.self c.args.event.node
+    c.in_ok-value.value c.take-left.ensures.rest c.take-left.ensures.others c.take-left.ensures.count
     c.keep.ensures.rest c.keep.ensures.room c.keep.ensures.others)
     (act.Answer c.args.discarded)
 
-pub returns-in_err-left-clause-rows : goal.returns-in_err-left-clause-rows
-returns-in_err-left-clause-rows c = rows_rest c.from_residual.result c.args.machine.now c.taken.new.machine c.in_err-left.ensures.rest
-
 pub returns-in_err-value-clause-rows : goal.returns-in_err-value-clause-rows
-returns-in_err-value-clause-rows c = rows_rest c.from_residual-in_err-value.result c.args.machine.now c.taken.new.machine c.in_ok-left.ensures.rest
+returns-in_err-value-clause-rows c = rows_rest c.from_residual.result c.args.machine.now c.take-left.new.self c.take-left.ensures.rest
