@@ -1,5 +1,6 @@
 -- Calls of the library: their arguments, what is answered, and what is done with it.
-use Rattle.std.proofs.Common.{◌≡◌, ◌≢◌, ℕ, zero, suc, ◌+◌, ◌<◌, ◌≤◌, true, refl, sym, ap, ap₂, ◌∙◌, subst, arith, List, [], ◌∷◌, ◌++◌, length, take, drop, IsTrue, Some, None, Result, Ok, Err, slice_get}
+use Rattle.std.proofs.Common.{◌≡◌, ◌≢◌, ℕ, zero, suc, ◌+◌, ◌<◌, ◌≤◌, true, false, refl, sym, ap, ap₂, ◌∙◌, subst, arith, List, [], ◌∷◌, ◌++◌, length, take, drop, IsTrue, Some, None, Result, Ok, Err, slice_get}
+use Rattle.std.specs.Prelude.{OnErr}
 use Rattle.ub_base.specs.declared.clause.Clause.{Clause}
 use Rattle.ub_base.specs.declared.clause.Cause.{Cause}
 use Rattle.ub_base.specs.declared.names.Event.{Event}
@@ -25,7 +26,7 @@ use Rattle.libc_spec.specs.Formatted.{printed_to_by, stored_by}
 use Rattle.libc_spec.specs.Library.{LibValue, number, pointer, nothing, argument_at, called, integer_in, prov_in, size_of_value}
 use Rattle.libc_spec.specs.Print.{Argument, printed_by}
 use Rattle.libc_model.specs.Answers.{Answers, AreTyped, AreWithin, ArgumentsMade, GivesMade, HaveCells, IsCall, StandHigh}
-use Rattle.libc_model.specs.Answers.{are_sizes, given_value, is_size, size_places}
+use Rattle.libc_model.specs.Answers.{are_sizes, given_value, gives_value, is_size, size_places}
 use Rattle.libc_model.specs.Seen.{value_seen, values_seen}
 use Rattle.libc_print.specs.Seen as printing
 use Rattle.c_model.specs.Libraries.{result, typed}
@@ -404,6 +405,27 @@ calls_so old mid new f os ts who vs answer r arguments touches answered takes = 
       (does_so old mid new f who (types_seen ts) vs touches answer r takes (answered (subst (CanCall old f) (sym same) can)));
   kept = λ hs are can. kept_so mid new answer who.node r takes (answered (subst (CanCall old f) (sym (arguments hs are)) can)).kept;
 }
+
+-- nothing was written where there is no value
+pub written_so : (old mid new : Machine) (answer : LibAnswer) (node : ℕ) (r : Result Outcome Fault) → (gives_value answer ≡ false
+    → mid.streams ≡ old.streams) → TakesAnswer mid answer node new r → OnErr r (new.streams ≡ old.streams)
+written_so old mid new answer node r same t = by answer same t
+  where
+    as_before : (x : Fault) → r ≡ Err x → new ≡ mid → mid.streams ≡ old.streams → OnErr r (new.streams ≡ old.streams)
+    as_before x is stays written =
+        subst (λ (q : Result Outcome Fault). OnErr q (new.streams ≡ old.streams)) (sym is) (ap (λ (k : Machine). k.streams) stays ∙ written)
+
+    done : (o : Outcome) → r ≡ Ok o → OnErr r (new.streams ≡ old.streams)
+    done o is = subst (λ (q : Result Outcome Fault). OnErr q (new.streams ≡ old.streams)) (sym is) tt
+
+    by : (answer : LibAnswer) → (gives_value answer ≡ false → mid.streams ≡ old.streams) → TakesAnswer mid answer node new r
+        → OnErr r (new.streams ≡ old.streams)
+    by (answers.Value v) same t = done outcome.Done t.0
+    by (answers.End status) same t = done (outcome.End status) t.0
+    by (answers.Raise c) same t = as_before (fault.Raise c) t.0 t.1 (same refl)
+    by (answers.Outside cause n) same t = as_before (fault.Over cause n) t.0 t.1 (same refl)
+    by answers.Unplaced same t = as_before fault.Unplaced t.0 t.1 (same refl)
+    by answers.NoMemory same t = as_before fault.NoMemory t.0 t.1 (same refl)
 
 -- where memory was wanted before
 pub wants_memory : (old : Machine) (f : LibFunc) (os : List Operand) (ts : List Qual) (who : Event) → CallsLibrary old f os ts who old (Err fault.NoMemory)

@@ -1,7 +1,7 @@
 -- A value that goes to the room of its node.
 use Rattle.std.proofs.Common.{◌≡◌, ◌≢◌, ◌∙◌, ℕ, zero, suc, ◌+◌, ◌<◌, ◌≤◌, ◌==◌, Bool, true, false, refl, sym, ap, subst, arith}
 use Rattle.std.proofs.Common.{List, [], ◌∷◌, length, slice_get, Some, None}
-use Rattle.std.specs.Prelude.{Ok}
+use Rattle.std.specs.Prelude.{OnErr, Result, Ok, Err}
 use Rattle.std.proofs.lemmas.Bool.Decides.{nat_tests}
 use Rattle.ub_base.specs.declared.names.Event.{Event}
 use Rattle.ub_base.specs.declared.names.Item.{Item}
@@ -16,7 +16,9 @@ use Rattle.run_layout.specs.declared.steps.Act.{Act}
 use Rattle.run_layout.specs.declared.steps.Act.TheVariants as act
 use Rattle.run_state.specs.declared.machine.Machine.{Machine}
 use Rattle.run_state.specs.Stands.{Holds}
+use Rattle.run_answers.specs.declared.outcome.Outcome.{Outcome}
 use Rattle.run_answers.specs.declared.outcome.Outcome.TheVariants as outcome
+use Rattle.run_answers.specs.declared.fault.Fault.{Fault}
 use Rattle.run_answers.specs.Acts.{script_in}
 use Rattle.run_answers.specs.Performs.{kept_room, store_in, ChangesOnly, Does, HoldsUpdate, TouchesMemory, TouchesValues}
 
@@ -110,3 +112,8 @@ module _ (m : Machine) (k : Kept) (t spare : List Item) (new : Machine) (node : 
       update = no_update m new who.node a (value_in k h) none;
     },
   )
+
+-- ---- streams that stay, whatever is answered
+pub written_none : (old new : Machine) (r : Result Outcome Fault) → new.streams ≡ old.streams → OnErr r (new.streams ≡ old.streams)
+written_none old new (Ok o) same = tt
+written_none old new (Err x) same = same

@@ -55,6 +55,8 @@ pub fn perform(machine: &mut Machine, act: &Act, event: Event) -> Result<Outcome
         OnErr result (RowsStay machine.old.memory.rows machine.new.memory.rows) }
     ensures bodies { Opens machine.old act.now event machine.new result }
     ensures calls { (number : ℕ) → act.now ≡ acts.Call number → CallsNumbered number machine.old event machine.new result }
+    // Where it isn't done, nothing was written.
+    ensures streams { OnErr result (machine.new.streams ≡ machine.old.streams) }
 {
     match act {
         Act::Store {
@@ -74,6 +76,7 @@ pub fn perform(machine: &mut Machine, act: &Act, event: Event) -> Result<Outcome
 fn call_of(machine: &mut Machine, number: u32, event: Event) -> Result<Outcome, Fault>
     requires there { number < length machine.old.code.now.tables.calls.items }
     ensures calls { CallsNumbered number machine.old event machine.new result }
+    ensures streams { OnErr result (machine.new.streams ≡ machine.old.streams) }
 {
     let code = machine.code;
     call(machine, &code.tables.calls[number as usize], event)

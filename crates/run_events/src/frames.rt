@@ -1,6 +1,7 @@
 // The bodies of calls, and the frames that they start.
-ghost use Rattle.std.specs.Prelude.{◌≡◌, OnOk, IfOk, Some, slice_get};
+ghost use Rattle.std.specs.Prelude.{◌≡◌, false, OnErr, OnOk, IfOk, Some, slice_get};
 ghost use Rattle.c_model.specs.Values.{function_in};
+ghost use Rattle.libc_model.specs.Answers.{gives_value};
 ghost use Rattle.prov_memory.specs.Memory.{Kept};
 ghost use Rattle.prov_memory.specs.declared.value.Value.{Value as Kept_value};
 ghost use Rattle.run_acts.specs.Views.{value_in};
@@ -27,6 +28,7 @@ const MOST_FRAMES: u64 = 100_000;
 // The body of a call: an act of the library, or a new frame.
 pub fn call(machine: &mut Machine, call: &CallCode, event: Event) -> Result<Outcome, Fault>
     ensures calls { Calls machine.old call.now event machine.new result }
+    ensures streams { OnErr result (machine.new.streams ≡ machine.old.streams) }
 {
     let Some(ty) = call.ty else {
         return Err(Fault::Raise(Clause::InvalidPointer));
@@ -82,6 +84,7 @@ fn call_library(
     event: Event,
 ) -> Result<Outcome, Fault>
     ensures library { CallsLibrary machine.old library call.now.arguments.items call.now.types event machine.new result }
+    ensures streams { OnErr result (machine.new.streams ≡ machine.old.streams) }
 {
     let arguments = arguments_of(machine, call)?;
     let answer = answer_of(machine, library, call, &arguments, event);
@@ -99,6 +102,7 @@ fn answer_of(
     ensures rest { TouchesStreams machine.old machine.new }
     ensures exact { CanCall machine.old library arguments.now →
         IsAnswered machine.old machine.new library event (types_seen call.now.types) arguments.now result }
+    ensures streams { gives_value result ≡ false → machine.new.streams ≡ machine.old.streams }
 {
     let alloc = machine.alloc;
     let types = call.types.as_slice();
@@ -139,6 +143,7 @@ fn start_function(
 ) -> Result<Outcome, Fault>
     ensures within { StartsWithin result machine.old.depth machine.new.depth }
     ensures opens { OpensFunction machine.old function call.now.arguments.items event machine.new result }
+    ensures streams { machine.new.streams ≡ machine.old.streams }
 {
     let reached = machine.depth.saturating_add(1);
     if reached > MOST_FRAMES {
@@ -180,6 +185,7 @@ fn function_code<'c>(machine: &Machine<'_, 'c>, function: u32) -> Result<&'c Fun
 #[inline(never)]
 pub fn initialize(machine: &mut Machine, number: u32, event: Event) -> Result<Outcome, Fault>
     ensures opens { OpensInitializer machine.old number event machine.new result }
+    ensures streams { machine.new.streams ≡ machine.old.streams }
 {
     machine.work.start_initializer(number)?;
     let locals = (machine.top.locals, machine.top.above);
@@ -194,6 +200,7 @@ pub fn initialize(machine: &mut Machine, number: u32, event: Event) -> Result<Ou
 
 fn open_function(machine: &mut Machine, function: u32, event: Event) -> Result<(), NoMemory>
     ensures opens { OnOk result (OpensFrame machine.old function event machine.new) }
+    ensures streams { machine.new.streams ≡ machine.old.streams }
 {
     let code = function_code(machine, function)?;
     let locals = machine.top.above;
@@ -217,7 +224,8 @@ fn open_frame(
     locals: (usize, usize),
     event: Event,
 ) -> Result<(), NoMemory>
-    ensures { OnOk result (IsOnTop machine.old (started_on machine.old.top event function seen.0 seen.1 locals.0 locals.1) machine.new) }
+    ensures top { OnOk result (IsOnTop machine.old (started_on machine.old.top event function seen.0 seen.1 locals.0 locals.1) machine.new) }
+    ensures streams { machine.new.streams ≡ machine.old.streams }
 {
     machine.below.push(machine.top)?;
     machine.top = Open {

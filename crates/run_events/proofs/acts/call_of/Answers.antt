@@ -13,4 +13,5 @@ returns c = record {
       (same_call c.index.result.now call (ap (λ (k : CallCode). Some k) c.index.ensures
       ∙ sym (slice_get-get_or m.code.now.tables.calls.items c.args.number c.index.result.now c.requires.there) ∙ there))
       c.call.ensures.calls;
+  streams = c.call.ensures.streams;
 }

@@ -6,7 +6,7 @@ use Rattle.run_answers.specs.Opens.{Opens}
 use Rattle.run_answers.specs.Performs.{gives_value}
 use Rattle.run_events.proofs.Opening.{opens_none}
 use Rattle.run_events.proofs.Performing.{fill_given, fill_performs, no_effect, store_given, store_performs, value_performs}
-use Rattle.run_events.proofs.Rooms.{touches_all}
+use Rattle.run_events.proofs.Rooms.{touches_all, written_none}
 use Rattle.run_events.proofs.acts.perform.Goals as goal
 
 pub returns-in-Store-clause-exact : goal.returns-in-Store-clause-exact
@@ -124,3 +124,19 @@ returns-in-Initialize-clause-rows c = λ rows can given plain.
 
 pub returns-in_default-clause-rows : goal.returns-in_default-clause-rows
 returns-in_default-clause-rows c = λ rows can given plain. c.value_act.ensures.rows
+
+pub returns-in-Store-clause-streams : goal.returns-in-Store-clause-streams
+returns-in-Store-clause-streams c =
+    written_none c.args.machine.now c.store_value.new.machine c.store_value.result (ap (λ m. m.streams) c.store_value.ensures.rest)
+
+pub returns-in-Fill-clause-streams : goal.returns-in-Fill-clause-streams
+returns-in-Fill-clause-streams c =
+    written_none c.args.machine.now c.fill_list.new.machine c.fill_list.result (ap (λ m. m.streams) c.fill_list.ensures.rest)
+
+pub returns-in-Initialize-clause-streams : goal.returns-in-Initialize-clause-streams
+returns-in-Initialize-clause-streams c =
+    written_none c.args.machine.now c.initialize.new.machine c.initialize.result c.initialize.ensures.streams
+
+pub returns-in_default-clause-streams : goal.returns-in_default-clause-streams
+returns-in_default-clause-streams c =
+    written_none c.args.machine.now c.value_act.new.machine c.value_act.result (ap (λ m. m.streams) c.value_act.ensures.changes.rest)

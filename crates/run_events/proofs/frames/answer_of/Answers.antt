@@ -60,6 +60,7 @@ returns-in_default c =
     let hs = c.args.arguments.now in
     record {
       rest = refl;
+      streams = c.call.ensures.streams;
       exact = answers_plain m c.call.new.m c.call.new.io c.call.new.t c.args.event hs c.args.call.now.types c.call.result c.args.library
           (record {
             printf = c.in_default.not-Printf;

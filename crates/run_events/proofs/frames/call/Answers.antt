@@ -7,39 +7,33 @@ use Rattle.run_answers.specs.declared.fault.Fault.TheVariants as fault
 use Rattle.run_answers.specs.Calling.{type_of_call}
 use Rattle.run_answers.specs.Performs.{store_in}
 use Rattle.run_events.proofs.Called.{by_type, library_is, no_type, refused, runs_by, runs_found, wanted}
+use Rattle.run_events.proofs.Rooms.{written_none}
 use Rattle.run_events.proofs.frames.call.Goals as goal
 
-pub returns-in_default : goal.returns-in_default
-returns-in_default c = record {
-  calls = λ fs agree h few are agrees given.
-      no_type c.args.machine.now c.args.call.now.arguments.items c.args.call.now.types c.args.event agree c.args.call.now.ty _ c.in_default.not-Some;
-}
+pub returns-in_default-clause-calls : goal.returns-in_default-clause-calls
+returns-in_default-clause-calls c = λ fs agree h few are agrees given.
+      no_type c.args.machine.now c.args.call.now.arguments.items c.args.call.now.types c.args.event agree c.args.call.now.ty _ c.in_default.not-Some
 
-pub returns-in_err-address : goal.returns-in_err-address
-returns-in_err-address c =
+pub returns-in_err-address-clause-calls : goal.returns-in_err-address-clause-calls
+returns-in_err-address-clause-calls c =
     let p = err_from_is_err_and c.from_residual.result c.from_residual.ensures.1 in
-    rw (p.1, p.2) (record {
-      calls = λ fs agree h few are agrees given.
-          wanted c.args.machine.now c.args.call.now.arguments.items c.args.call.now.types c.args.event agree (type_of_call c.args.call.now.ty) _;
-    })
+    rw (p.1, p.2) (λ fs agree h few are agrees given.
+          wanted c.args.machine.now c.args.call.now.arguments.items c.args.call.now.types c.args.event agree (type_of_call c.args.call.now.ty) _)
 
-pub returns-in_err-number : goal.returns-in_err-number
-returns-in_err-number c =
+pub returns-in_err-number-clause-calls : goal.returns-in_err-number-clause-calls
+returns-in_err-number-clause-calls c =
     let p = err_from_is_err_and c.from_residual-in_err-number.result c.from_residual-in_err-number.ensures.1 in
-    rw (p.1, p.2) (record {
-      calls = λ fs agree h few are agrees given.
+    rw (p.1, p.2) (λ fs agree h few are agrees given.
           let m = c.args.machine.now in
           let ty = c.in-Some.ty in
           by_type m c.args.call.now.arguments.items c.args.call.now.types c.args.event m (Err (fault.Raise c.in_err-number.field-0.0)) agree c.args.call.now.ty ty fs
           c.in_ok-address.address _ c.in-Some.is
           (c.in_ok-address.ensures h given m.memory)
           (refused m c.args.call.now.arguments.items c.args.call.now.types c.args.event agree (type_by (signature_of ty.now)) (function_of fs 0 c.in_ok-address.address)
-          c.in_err-number.field-0.0 m.memory.rows (store_in m) (c.in_err-number.ensures few fs are agree agrees m.memory.rows (store_in m)));
-    })
+          c.in_err-number.field-0.0 m.memory.rows (store_in m) (c.in_err-number.ensures few fs are agree agrees m.memory.rows (store_in m))))
 
-pub returns-in-Some-library_of : goal.returns-in-Some-library_of
-returns-in-Some-library_of c = record {
-  calls = λ fs agree h few are agrees given.
+pub returns-in-Some-library_of-clause-calls : goal.returns-in-Some-library_of-clause-calls
+returns-in-Some-library_of-clause-calls c = λ fs agree h few are agrees given.
       let m = c.args.machine.now in
       let ty = c.in-Some.ty in
       let n = c.in_ok-number.number in
@@ -49,12 +43,10 @@ returns-in-Some-library_of c = record {
       (function_of fs 0 c.in_ok-address.address) n m.memory.rows (store_in m) (c.in_ok-number.ensures few fs are agree agrees m.memory.rows (store_in m))
       (λ f found. runs_by m c.args.call.now.arguments.items c.args.call.now.types c.args.event c.call_library.new.machine c.call_library.result n
       (Some c.in-Some-library_of.library) f.library
-      (c.in-Some-library_of.ensures ∙ library_is m.program.now.functions fs c.in_ok-address.address n f are found) c.call_library.ensures.library));
-}
+      (c.in-Some-library_of.ensures ∙ library_is m.program.now.functions fs c.in_ok-address.address n f are found) c.call_library.ensures.library))
 
-pub returns-in-None : goal.returns-in-None
-returns-in-None c = record {
-  calls = λ fs agree h few are agrees given.
+pub returns-in-None-clause-calls : goal.returns-in-None-clause-calls
+returns-in-None-clause-calls c = λ fs agree h few are agrees given.
       let m = c.args.machine.now in
       let ty = c.in-Some.ty in
       let n = c.in_ok-number.number in
@@ -63,5 +55,8 @@ returns-in-None c = record {
       (runs_found m c.args.call.now.arguments.items c.args.call.now.types c.args.event c.start_function.new.machine c.start_function.result agree (type_by (signature_of ty.now))
       (function_of fs 0 c.in_ok-address.address) n m.memory.rows (store_in m) (c.in_ok-number.ensures few fs are agree agrees m.memory.rows (store_in m))
       (λ f found. runs_by m c.args.call.now.arguments.items c.args.call.now.types c.args.event c.start_function.new.machine c.start_function.result n None f.library
-      (c.in-None.ensures ∙ library_is m.program.now.functions fs c.in_ok-address.address n f are found) c.start_function.ensures.opens));
-}
+      (c.in-None.ensures ∙ library_is m.program.now.functions fs c.in_ok-address.address n f are found) c.start_function.ensures.opens))
+
+pub returns-in-None-clause-streams : goal.returns-in-None-clause-streams
+returns-in-None-clause-streams c =
+    written_none c.args.machine.now c.start_function.new.machine c.start_function.result c.start_function.ensures.streams
