@@ -17,7 +17,7 @@ use Rattle.run_answers.specs.Taking.{FollowsEvent, past_event}
 use Rattle.run_machine.specs.Written.{KeepsStreams}
 
 -- where the streams stay, whatever is answered
-pub streams_by : {A : Type 0} (m n : Machine) (h : Halt) → n.streams ≡ m.streams → KeepsStreams {A = A} m n (Err h)
+streams_by : (m n : Machine) (h : Halt) → n.streams ≡ m.streams → KeepsStreams {A = Pick} m n (Err h)
 streams_by m n (halt.Raised event line clause) same = same
 streams_by m n (halt.Over cause number) same = same
 streams_by m n halt.Unplaced same = tt
@@ -37,16 +37,17 @@ streams_none {A} m n (Ok x) is = tt
 streams_none {A} m n (Err h) is = subst (λ (k : Halt). KeepsStreams {A = A} m n (Err k)) (sym is) tt
 
 -- what is answered there is handed on
-pub streams_err : {A B : Type 0} (m n : Machine) (h : Halt) → KeepsStreams {A = A} m n (Err h) → KeepsStreams {A = B} m n (Err h)
-streams_err m n (halt.Raised event line clause) is = is
-streams_err m n (halt.Over cause number) is = is
-streams_err m n halt.Unplaced is = tt
-streams_err m n halt.NoMemory is = tt
+pub streams_err : (A B : Type 0) (m n : Machine) (h : Halt) → KeepsStreams {A = A} m n (Err h) → KeepsStreams {A = B} m n (Err h)
+streams_err A B m n (halt.Raised event line clause) is = is
+streams_err A B m n (halt.Over cause number) is = is
+streams_err A B m n halt.Unplaced is = tt
+streams_err A B m n halt.NoMemory is = tt
 
-pub streams_handed : {A B : Type 0} (a b n : Machine) (r : Result B Halt) (y e : Halt) → r ≡ Err y → y ≡ e → b.streams ≡ a.streams
-    → KeepsStreams {A = A} b n (Err e) → KeepsStreams a n r
-streams_handed {A} {B} a b n r y e fails fault first is =
-    subst (λ (q : Result B Halt). KeepsStreams a n q) (sym (fails ∙ ap Err fault)) (streams_then a b n (Err e) first (streams_err b n e is))
+pub streams_handed : (a b n : Machine) (r : Result (Option ℕ) Halt) (y e : Halt) → r ≡ Err y → y ≡ e → b.streams ≡ a.streams
+    → KeepsStreams {A = Unit {0}} b n (Err e) → KeepsStreams a n r
+streams_handed a b n r y e fails fault first is =
+    subst (λ (q : Result (Option ℕ) Halt). KeepsStreams a n q) (sym (fails ∙ ap Err fault))
+    (streams_then {A = Option ℕ} a b n (Err e) first (streams_err (Unit {0}) (Option ℕ) b n e is))
 
 -- ---- an object is created
 one_created : (a m n : Machine) (o : ObjectCode) (first k : ℕ) (h : Halt) → CreatesOne m o first k n (Err h) → KeepsStreams {A = Unit {0}} a n (Err h)
