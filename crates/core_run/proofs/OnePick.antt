@@ -7,7 +7,7 @@ use Rattle.ub_base.specs.Frames.{IsFrameList, Path, Row as Started_frame}
 use Rattle.addr_map.specs.declared.map.Row.{Row}
 use Rattle.c_typed.specs.declared.program.Program.{Program}
 use Rattle.mem_spec.specs.Store.{Store}
-use Rattle.mem_spec.specs.Streams.{Outputs}
+use Rattle.mem_spec.specs.Streams.{Io, Outputs}
 use Rattle.c_model.specs.Runs.{Ends, Entry, Raises, Running, State, canonical_after, canonical_pick, start, step}
 use Rattle.c_model.specs.World.{World}
 use Rattle.program_view.specs.View.{main_values}
@@ -21,6 +21,7 @@ use Rattle.run_answers.specs.declared.pick.Pick.TheVariants as pick
 use Rattle.run_answers.specs.Raising.{RaisesNext}
 use Rattle.run_answers.specs.Rows.{GrowsNext}
 use Rattle.run_answers.specs.Starting.{numbered}
+use Rattle.run_machine.specs.Written.{KeepsStreams}
 use Rattle.c_model.specs.Completions.{Incomplete}
 use Rattle.control_laws.specs.Asked.{ArgumentsAreAsked}
 use Rattle.control_laws.specs.Control.{ControlGoesOn}
@@ -268,9 +269,15 @@ module _ (comes : AlongComes) (stay : NumbersStay) (starts_numbered : StartedIsN
 module _ (comes : AlongComes) (asked : EventIsAsked) (goes : ControlGoesOn) (asks : ArgumentsAreAsked) (p : Program) (strings : List (List ℕ))
     (input : List ℕ) (numbers : Numbers) (before heard : Option Heard) (old new : Machine) (n : ℕ) (frames : List Started_frame)
     (earlier : List (List Row)) (at : IsAt p strings input numbers before heard old n frames earlier) (few : suc n < 2 ^ 32) where
-  pub ends_by : (h : Halt) (ran : Ran) → AnswersAll old new (Err h) → GrowsNext old new (Err h) → RaisesNext old (Err h) → IsEndedBy h n ran
+  -- what was written before it, where nothing was written since
+  written_before : (world : World) (d : StandsAt p strings input numbers before heard world old n frames) → new.streams ≡ old.streams
+      → d.st.store.output ≡ new.streams.output
+  written_before world d keeps = ap (λ (s : Store). s.output) d.along.going.stands.memory.store ∙ ap (λ (io : Io). io.output) (sym keeps)
+
+  pub ends_by : (h : Halt) (ran : Ran) → AnswersAll old new (Err h) → GrowsNext old new (Err h) → RaisesNext old (Err h)
+      → KeepsStreams {A = Pick} old new (Err h) → IsEndedBy h n ran
       → GoesOnAt p strings input numbers before heard new n frames (old.memory.rows ∷ earlier) (End ran)
-  ends_by (halt.Raised event line clause) ran x grows raises is =
+  ends_by (halt.Raised event line clause) ran x grows raises keeps is =
       subst (λ (z : Ran). GoesOnAt p strings input numbers before heard new n frames (old.memory.rows ∷ earlier) (End z)) (sym is)
       (λ rows number s.
       let w = world_in p strings rows number in
@@ -288,18 +295,19 @@ module _ (comes : AlongComes) (asked : EventIsAsked) (goes : ControlGoesOn) (ask
               subst (λ (k : ℕ). canonical_after w k d.first ≡ Raises clause (c.0 ∷ d.st.trace)) (sym (plus_one n)) (one_more w n d.first d.st d.runs ∙ c.1);
           event_is = own.event_is;
           line_is = own.line_is;
+          wrote = written_before w d keeps;
           told = subst (λ (k : ℕ). ToldBy w d.first before heard k d.st) (less_one n) d.told;
         },
       ))
-  ends_by (halt.Over cause number) ran x grows raises is =
+  ends_by (halt.Over cause number) ran x grows raises keeps is =
       subst (λ (z : Ran). GoesOnAt p strings input numbers before heard new n frames (old.memory.rows ∷ earlier) (End z)) (sym is)
       (λ rows count s.
       let w = world_in p strings rows count in
       let d = at rows count (suits_same new.memory.rows (old.memory.rows ∷ earlier) frames rows count s) in
       let c = comes w p numbers old new d.st n (Err (halt.Over cause number)) d.along x (rows_of_both old new earlier frames rows count s) few in
-      (d.first, d.starts, (one_more w n d.first d.st d.runs ∙ c, (d.st, d.runs, d.told))))
-  ends_by halt.Unplaced ran x grows raises is = absurd is
-  ends_by halt.NoMemory ran x grows raises is = absurd is
+      (d.first, d.starts, (one_more w n d.first d.st d.runs ∙ c, (d.st, d.runs, written_before w d keeps, d.told))))
+  ends_by halt.Unplaced ran x grows raises keeps is = absurd is
+  ends_by halt.NoMemory ran x grows raises keeps is = absurd is
 
 -- ---- no picks are left
 pub ends_here : (p : Program) (strings : List (List ℕ)) (input : List ℕ) (numbers : Numbers) (before heard : Option Heard) (m : Machine) (n : ℕ)

@@ -72,7 +72,7 @@ module _ (world : World) (first : State) (before after : Option Heard) (output :
   HasEnded last status picks = (trace : List Entry) × (canonical_after world picks first ≡ Ends status output trace)
       × LastToldBy world first before after last picks (Ends status output trace)
 
-  -- the last of these picks raised the clause: an event, whose node stands in this line; what was told was so before it
+  -- the last of these picks raised the clause: an event, whose node stands in this line; before it this was written, and what was told was so
   pub record HasRaised (event : Event) (line : ℕ) (clause : Clause) (picks : ℕ) : Type 0 where
     pub st : State
     pub runs : canonical_after world (picks - 1) first ≡ Running st
@@ -80,17 +80,18 @@ module _ (world : World) (first : State) (before after : Option Heard) (output :
     pub raises : canonical_after world picks first ≡ Raises clause (entry ∷ st.trace)
     pub event_is : event_of world entry ≡ Some event
     pub line_is : entry.line ≡ line
+    pub wrote : st.store.output ≡ output
     pub told : ToldBy world first before after (picks - 1) st
 
   -- as is answered: that it has ended; that the last of the picks raised a clause, and wasn't told; that the watch stopped it, behind its last pick too;
-  -- that there are no picks left; or that the next pick passes a limit
+  -- that there are no picks left; or that the next pick passes a limit, before which this was written
   abbrev pub RunsTo : Ran → Type 0
   RunsTo (Ended status picks) = HasEnded go.On status picks
   RunsTo (Raised event line clause picks) = HasRaised event line clause picks
   RunsTo (Stopped picks) = IsStoppedAfter picks ⊎ ((status : ℕ) × HasEnded go.Stop status picks)
   RunsTo (OutOfSteps picks) = IsAfter picks
   RunsTo (Outside cause number picks) = (canonical_after world (suc picks) first ≡ Over cause number)
-      × ((st : State) × (canonical_after world picks first ≡ Running st) × ToldBy world first before after picks st)
+      × ((st : State) × (canonical_after world picks first ≡ Running st) × (st.store.output ≡ output) × ToldBy world first before after picks st)
 
 -- 4. The run so far.
 module _ (p : Program) (strings : List (List ℕ)) (input : List ℕ) (before after : Option Heard) where

@@ -33,3 +33,4 @@ mod Unwriting
 mod LibraryTaken
 mod LibraryNext
 mod LibraryCompletes
+mod Written

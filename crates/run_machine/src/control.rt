@@ -19,6 +19,7 @@ ghost use Rattle.run_answers.specs.Passing.{IsOnePassed, PassesAll, with_argumen
 ghost use Rattle.run_answers.specs.Moving.{GoesOn, IsGone, StepLeaves, TakesStep};
 ghost use Rattle.run_answers.specs.Rows.{GrowsByControl, GrowsByStep, KeepsMemory, KeepsTaken};
 ghost use Rattle.run_answers.specs.Settling.{HasSelected, HasUsed, left_by};
+ghost use Rattle.run_machine.specs.Written.{KeepsStreams};
 ghost use Rattle.run_state.specs.Operands.{operand_in};
 ghost use Rattle.prov_memory.specs.declared.value.Value.{Value as Kept_value};
 
@@ -48,6 +49,7 @@ pub fn control_step(machine: &mut Machine) -> Result<Option<u8>, Halt>
     ensures answers { AnswersControl machine.old machine.new result }
     ensures keeps { KeepsControl machine.old machine.new result }
     ensures rows { GrowsByControl machine.old machine.new result }
+    ensures streams { KeepsStreams machine.old machine.new result }
 {
     match machine.top.stage {
         Some(stage) => settle(machine, stage),
@@ -63,6 +65,7 @@ fn take_step<'c>(machine: &mut Machine<'_, 'c>, step: Step<'c>) -> Result<Option
     ensures answers { AnswersStep step.entry machine.old machine.new result }
     ensures keeps { machine.old.top.stage ≡ None → KeepsControl machine.old machine.new result }
     ensures rows { GrowsByStep step.entry machine.old machine.new result }
+    ensures streams { KeepsStreams machine.old machine.new result }
 {
     match step {
         Step::Begin(number, how) => begin(machine, number, how),
@@ -142,6 +145,7 @@ fn enter(machine: &mut Machine, number: u32) -> Result<Option<u8>, Halt>
     ensures work { machine.new.work ≡ machine.old.work }
     ensures enters { Enters machine.old number machine.new result }
     ensures stays { OnOk result (StaysSo machine.old machine.new) }
+    ensures streams { KeepsStreams machine.old machine.new result }
 {
     machine.entered = number;
     machine.top.turn = machine.top.turn.saturating_add(1);
@@ -160,6 +164,7 @@ fn create_objects(machine: &mut Machine, objects: &[ObjectCode], first: u32) -> 
     ensures work { machine.new.work ≡ machine.old.work }
     ensures born { CanBear machine.old first (length objects.now) → BearsAll machine.old objects.now first machine.new result }
     ensures fills { OnOk result (FillsObjects machine.old machine.new) }
+    ensures streams { KeepsStreams machine.old machine.new result }
 {
     let mut number: u32 = 0;
     for object in objects {
@@ -290,6 +295,7 @@ fn declare(machine: &mut Machine, object: u32) -> Result<Option<u8>, Halt>
     ensures answers { AnswersStep (steps.Unwrite object) machine.old machine.new result }
     ensures rest { OnOk result (machine.new ≡ record machine.old { memory = machine.new.memory; items = machine.new.items }) }
     ensures rows { KeepsTaken machine.old machine.new result }
+    ensures streams { KeepsStreams machine.old machine.new result }
 {
     let Some(block) = machine.work.block() else {
         return Err(Halt::NoMemory);

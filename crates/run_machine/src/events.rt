@@ -10,6 +10,7 @@ ghost use Rattle.run_answers.specs.Raising.{RaisesAt};
 ghost use Rattle.run_answers.specs.Rows.{GrowsAt, KeepsMemory};
 ghost use Rattle.run_answers.specs.Starting.{AnswersBody, AnswersCall, FunctionStands, FunctionSteps};
 ghost use Rattle.run_answers.specs.Taking.{past_event, AnswersEvent, DecidesBy, FollowsEvent};
+ghost use Rattle.run_machine.specs.Written.{KeepsStreams};
 
 use crate::picks::completed;
 use c_typed::Place;
@@ -47,6 +48,7 @@ pub fn take_event(machine: &mut Machine, due: &Due) -> Result<Pick, Halt>
     ensures completes_libraries { CompletesLibrary due.now machine.old machine.new result }
     ensures raised { RaisesAt machine.old due.now result }
     ensures rows { GrowsAt due.now machine.old machine.new result }
+    ensures streams { KeepsStreams machine.old machine.new result }
 {
     law_events();
     law_bodies();

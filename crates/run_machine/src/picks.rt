@@ -28,6 +28,7 @@ ghost use Rattle.run_answers.specs.Straying.{Reaches, TakesSo};
 ghost use Rattle.run_answers.specs.Taking.{AnswersNext};
 ghost use Rattle.run_answers.specs.Picks.{top_of, ahead_part, passed_part, kept_of, at_cursor, ByOrder, ComesNext, Decides, Follows, IsPick, IsStep, Permits};
 ghost use Rattle.run_answers.specs.Picks.{Refuses, Strays, Takes};
+ghost use Rattle.run_machine.specs.Written.{KeepsStreams};
 
 use crate::control::control_step;
 use crate::events::take_event;
@@ -55,6 +56,8 @@ pub fn canonical(machine: &mut Machine) -> Result<Pick, Halt>
     ensures completes_libraries { CompletesNextLibrary machine.old machine.new result }
     ensures raises { RaisesNext machine.old result }
     ensures rows { GrowsNext machine.old machine.new result }
+    // Where it raises a clause or passes a limit, nothing was written.
+    ensures streams { KeepsStreams machine.old machine.new result }
 {
     law_picks();
     let next = follow(machine)?;
@@ -72,6 +75,7 @@ fn take_control(machine: &mut Machine) -> Result<Pick, Halt>
     ensures answers { TakesControl machine.old machine.new result }
     ensures keeps { KeepsPick machine.old machine.new result }
     ensures rows { GrowsByControl machine.old machine.new result }
+    ensures streams { KeepsStreams machine.old machine.new result }
 {
     match control_step(machine) {
         Ok(status) => Ok(Pick::Step(status)),
@@ -208,6 +212,7 @@ fn passed_events(machine: &Machine, stage: Stage) -> Result<Done, NoMemory>
 #[inline(always)]
 fn follow<'p, 'c>(machine: &mut Machine<'p, 'c>) -> Result<Option<&'c Due<'p>>, NoMemory>
     ensures follows { IfOk result (Follows machine.old machine.new) }
+    ensures streams { machine.new.streams ≡ machine.old.streams }
     ensures named { IfOk result (λ due. IfSome due (λ d. IsDueOf machine.new.code.now.tables d.now)) }
     ensures frame { IfOk result (λ due. (machine.new.top.frame ≡ machine.old.top.frame) × (machine.new.top.turn ≡ machine.old.top.turn)) }
 {

@@ -1,7 +1,9 @@
+use Rattle.std.proofs.Common.{refl}
 use Rattle.run_machine.proofs.Keeping.{keeps_worked}
 use Rattle.run_machine.proofs.RowsStand.{control_rows, taken_same}
 use Rattle.run_answers.proofs.Staying.{control_answers}
 use Rattle.run_machine.proofs.Steering.{takes_step}
+use Rattle.run_machine.proofs.Written.{streams_none, streams_then}
 use Rattle.run_machine.proofs.control.control_step.Goals as goal
 
 pub returns-in-Some-clause-answers : goal.returns-in-Some-clause-answers
@@ -25,4 +27,9 @@ returns-in-Some-2 c = record {
   keeps = keeps_worked c.args.machine.now c.take_step.new.machine c.next.new.self c.take_step.result c.in-None.is (c.take_step.ensures.keeps c.in-None.is);
   rows = control_rows c.take_step.result c.in_ok-step-in-None.field-0 c.in-Some-2.step c.args.machine.now c.next.new.self.below c.next.new.self.now
       c.take_step.new.machine c.in-None.is c.in-Some-2.is c.in_ok-step-in-None.ensures.below c.in_ok-step-in-None.ensures.step c.take_step.ensures.rows;
+  streams = streams_then c.args.machine.now (record c.args.machine.now { work = c.next.new.self }) c.take_step.new.machine c.take_step.result refl
+      c.take_step.ensures.streams;
 }
+
+pub returns-in-Some-clause-streams : goal.returns-in-Some-clause-streams
+returns-in-Some-clause-streams c = streams_none c.args.machine.now c.settle.new.machine c.settle.result c.settle.ensures.memory

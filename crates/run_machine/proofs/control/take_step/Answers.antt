@@ -1,11 +1,13 @@
-use Rattle.std.proofs.Common.{None, Ok, refl}
+use Rattle.std.proofs.Common.{None, Ok, ap, refl}
 use Rattle.run_control.specs.declared.work.Step.TheVariants as taking
 use Rattle.run_machine.proofs.Entering.{enter_answers}
 use Rattle.run_machine.proofs.Keeping.{keeps_going, keeps_left, keeps_nothing, keeps_stays, keeps_writing}
 use Rattle.run_machine.proofs.Left.{block_answers}
 use Rattle.run_machine.proofs.RowsStand.{entered_rows, left_rows, taken_same}
+use Rattle.run_state.specs.declared.machine.Machine.{Machine}
 use Rattle.run_answers.proofs.Staying.{by_step, nothing_answers}
 use Rattle.run_machine.proofs.Steering.{block_left, gone_back, gone_on, gone_out, label_gone}
+use Rattle.run_machine.proofs.Written.{streams_none, streams_then}
 use Rattle.run_machine.proofs.control.take_step.Goals as goal
 
 pub returns-in-Begin-clause-answers : goal.returns-in-Begin-clause-answers
@@ -41,6 +43,9 @@ returns-in_ok-leave-in-Leave c = record {
       c.go_on.ensures.further;
   rows = λ world meaning st h.
       left_rows c.args.machine.now c.leave.new.machine c.go_on.new.machine _ c.go_on.result c.in_ok-leave-in-Leave.ensures.lives c.go_on.ensures.memory;
+  streams = streams_then c.args.machine.now c.leave.new.machine c.go_on.new.machine c.go_on.result
+      (ap (λ (k : Machine). k.streams) c.in_ok-leave-in-Leave.ensures.lives.2.rest)
+      (streams_none c.leave.new.machine c.go_on.new.machine c.go_on.result c.go_on.ensures.memory);
 }
 
 pub returns-in-Unwrite-clause-answers : goal.returns-in-Unwrite-clause-answers
@@ -71,6 +76,7 @@ returns-in-GoTo c = record {
   answers = by_step c.args.step (taking.GoTo c.in-GoTo.label) c.args.machine.now c.go_to.new.machine c.go_to.result c.in-GoTo.is c.go_to.ensures.answers;
   keeps = λ closed. keeps_going c.args.machine.now c.go_to.new.machine c.go_to.result closed c.go_to.ensures.rest;
   rows = λ world meaning st h. taken_same c.args.machine.now c.go_to.new.machine c.go_to.result c.go_to.ensures.memory;
+  streams = streams_none c.args.machine.now c.go_to.new.machine c.go_to.result c.go_to.ensures.memory;
 }
 
 pub returns-in-GoOut : goal.returns-in-GoOut
@@ -80,6 +86,7 @@ returns-in-GoOut c = record {
   answers = by_step c.args.step taking.GoOut c.args.machine.now c.go.new.machine c.go.result c.in-GoOut.is c.go.ensures.answers;
   keeps = λ closed. keeps_going c.args.machine.now c.go.new.machine c.go.result closed c.go.ensures.rest;
   rows = λ world meaning st h. taken_same c.args.machine.now c.go.new.machine c.go.result c.go.ensures.memory;
+  streams = streams_none c.args.machine.now c.go.new.machine c.go.result c.go.ensures.memory;
 }
 
 pub returns-in-GoOn : goal.returns-in-GoOn
@@ -89,6 +96,7 @@ returns-in-GoOn c = record {
   answers = by_step c.args.step taking.GoOn c.args.machine.now c.go-in-GoOn.new.machine c.go-in-GoOn.result c.in-GoOn.is c.go-in-GoOn.ensures.answers;
   keeps = λ closed. keeps_going c.args.machine.now c.go-in-GoOn.new.machine c.go-in-GoOn.result closed c.go-in-GoOn.ensures.rest;
   rows = λ world meaning st h. taken_same c.args.machine.now c.go-in-GoOn.new.machine c.go-in-GoOn.result c.go-in-GoOn.ensures.memory;
+  streams = streams_none c.args.machine.now c.go-in-GoOn.new.machine c.go-in-GoOn.result c.go-in-GoOn.ensures.memory;
 }
 
 pub returns-in-GoBack : goal.returns-in-GoBack
@@ -99,4 +107,17 @@ returns-in-GoBack c = record {
       c.go-in-GoBack.ensures.answers;
   keeps = λ closed. keeps_going c.args.machine.now c.go-in-GoBack.new.machine c.go-in-GoBack.result closed c.go-in-GoBack.ensures.rest;
   rows = λ world meaning st h. taken_same c.args.machine.now c.go-in-GoBack.new.machine c.go-in-GoBack.result c.go-in-GoBack.ensures.memory;
+  streams = streams_none c.args.machine.now c.go-in-GoBack.new.machine c.go-in-GoBack.result c.go-in-GoBack.ensures.memory;
 }
+
+pub returns-in-Begin-clause-streams : goal.returns-in-Begin-clause-streams
+returns-in-Begin-clause-streams c = streams_none c.args.machine.now c.begin.new.machine c.begin.result c.begin.ensures.memory
+
+pub returns-in-Enter-clause-streams : goal.returns-in-Enter-clause-streams
+returns-in-Enter-clause-streams c = c.enter.ensures.streams
+
+pub returns-in-Unwrite-clause-streams : goal.returns-in-Unwrite-clause-streams
+returns-in-Unwrite-clause-streams c = c.declare.ensures.streams
+
+pub returns-in-Nothing-clause-streams : goal.returns-in-Nothing-clause-streams
+returns-in-Nothing-clause-streams c = tt

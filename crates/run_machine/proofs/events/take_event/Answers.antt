@@ -9,6 +9,7 @@ use Rattle.run_machine.proofs.LibraryTaken.{called_done, called_ended, called_st
 use Rattle.run_machine.proofs.Raised.{finished_raises, raised_by}
 use Rattle.run_machine.proofs.RowsNext as next
 use Rattle.run_machine.proofs.RowsTaken as rows
+use Rattle.run_machine.proofs.Written.{finished_streams, stopped_streams}
 use Rattle.run_machine.proofs.events.take_event.Goals as goal
 
 pub returns-in-Ok-Done-clause-answers : goal.returns-in-Ok-Done-clause-answers
@@ -229,3 +230,20 @@ returns-in-Err-clause-rows c = record {
       c.perform.new.machine (event_at c.args.machine.now c.args.due.now.place) refl c.perform.result c.pass_event.ensures c.perform.ensures.calls
       c.in-Err.fault c.args.due.now.line c.of.result c.in-Err.is c.of.ensures;
 }
+
+pub returns-in-Ok-Done-clause-streams : goal.returns-in-Ok-Done-clause-streams
+returns-in-Ok-Done-clause-streams c =
+    finished_streams c.args.machine.now _ _ _ c.args.due.now _ c.finish_event.new.machine c.finish_event.result c.finish_event.ensures.follows
+
+pub returns-in-Ok-Started-clause-streams : goal.returns-in-Ok-Started-clause-streams
+returns-in-Ok-Started-clause-streams c = tt
+
+pub returns-in-Ok-End-clause-streams : goal.returns-in-Ok-End-clause-streams
+returns-in-Ok-End-clause-streams c =
+    finished_streams c.args.machine.now _ _ _ c.args.due.now _ c.finish_event-in-Ok-End.new.machine c.finish_event-in-Ok-End.result
+    c.finish_event-in-Ok-End.ensures.follows
+
+pub returns-in-Err-clause-streams : goal.returns-in-Err-clause-streams
+returns-in-Err-clause-streams c =
+    stopped_streams c.args.machine.now c.pass_event.new.machine c.perform.new.machine c.perform.result c.in-Err.fault c.of.result c.pass_event.ensures
+    c.in-Err.is c.perform.ensures.streams

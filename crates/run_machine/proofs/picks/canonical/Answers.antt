@@ -11,6 +11,7 @@ use Rattle.run_machine.proofs.Raised.{next_raises, none_raises}
 use Rattle.run_machine.proofs.RowsNext.{next_grows, step_grows}
 use Rattle.run_answers.proofs.Staying.{event_untold, followed, step_told, steps_taken}
 use Rattle.run_answers.proofs.Taken.{event_taken}
+use Rattle.run_machine.proofs.Written.{streams_then}
 use Rattle.run_machine.proofs.picks.canonical.Goals as goal
 
 pub returns-in-Some : goal.returns-in-Some
@@ -50,6 +51,8 @@ returns-in-Some c = record {
   rows = next_grows c.law_picks.ensures.next c.law_picks.ensures.follows c.args.machine.now c.follow.new.machine c.take_event.new.machine c.clear.new.self
       c.in_ok-next.next c.in-Some.due c.take_event.result c.in_ok-next.ensures.follows c.in-Some.is c.clear.ensures
       (c.law_picks.ensures.follows c.args.machine.now c.follow.new.machine c.in_ok-next.next c.in_ok-next.ensures.follows) c.take_event.ensures.rows;
+  streams = streams_then c.args.machine.now (record c.follow.new.machine { items = c.clear.new.self }) c.take_event.new.machine c.take_event.result
+      c.follow.ensures.streams c.take_event.ensures.streams;
 }
 
 pub returns-in-None : goal.returns-in-None
@@ -81,4 +84,6 @@ returns-in-None c = record {
   rows = step_grows c.args.machine.now c.follow.new.machine c.take_control.new.machine c.in_ok-next.next c.clear.new.self c.take_control.result
       c.in_ok-next.ensures.follows c.in-None.is c.clear.ensures
       (c.law_picks.ensures.follows c.args.machine.now c.follow.new.machine c.in_ok-next.next c.in_ok-next.ensures.follows) c.take_control.ensures.rows;
+  streams = streams_then c.args.machine.now (record c.follow.new.machine { items = c.clear.new.self }) c.take_control.new.machine c.take_control.result
+      c.follow.ensures.streams c.take_control.ensures.streams;
 }
