@@ -223,7 +223,7 @@ fn begin(
         fill_named(alloc, p, &places, m, t)?;
         fill_arguments(alloc, arguments.as_slice(), m, t)?;
         point(alloc, arguments.as_slice(), vector, m, t)?;
-        return Ok(standing(places, string_count(args) - 1, vector));
+        return Ok(standing(places, string_count(args), vector));
     }
     fill_named(alloc, p, &places, m, t)?;
     Ok(standing(places, 0, Pointer::null()))
