@@ -60,6 +60,7 @@ use Rattle.run_control.specs.Stacked.{Stacked}
 use Rattle.run_control.specs.View.{Meaning, after, is_nothing, todo_of, use_of}
 use Rattle.run_layout.specs.declared.steps.Operand.{Operand}
 use Rattle.run_state.specs.declared.halt.Halt.{Halt}
+use Rattle.run_state.specs.declared.halt.Halt.TheVariants as halt
 use Rattle.run_state.specs.declared.machine.Machine.{Machine}
 use Rattle.run_state.specs.declared.machine.Open.{Open}
 use Rattle.run_state.specs.declared.machine.Stage.{Stage}
