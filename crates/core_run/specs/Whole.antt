@@ -33,12 +33,12 @@ pub record CanRun (c : CoreProgram) (strings : List (List ℕ)) : Type 0 where
 
 -- 2. What a run comes to.
 
--- No pick was taken: this number passes the limit on created bytes; or none was asked for, and what the next one would come to isn't answered.
+-- no pick was taken, whatever the budget: this number passes the limit on created bytes
 abbrev pub IsOverBy : ℕ → Ran → Type 0
 IsOverBy count (Ended status picks) = ⊥
 IsOverBy count (Raised event line clause picks) = ⊥
 IsOverBy count (Stopped picks) = ⊥
-IsOverBy count (OutOfSteps picks) = picks ≡ 0
+IsOverBy count (OutOfSteps picks) = ⊥
 IsOverBy count (Outside why number picks) = (why ≡ cause.Created) × (number ≡ count) × (picks ≡ 0)
 
 module _ (p : Program) (strings : List (List ℕ)) (input : List ℕ) where
@@ -55,8 +55,7 @@ module _ (p : Program) (strings : List (List ℕ)) (input : List ℕ) where
     pub output : s.output ≡ []
     pub errors : s.errors ≡ []
 
-  -- Or it starts, and the picks that were told are those of the canonical order, with the end and what was written of the definitions. Where no pick was
-  -- asked for, it is out of steps in the state in which the definitions start.
+  -- Or it starts, and the picks that were told are those of the canonical order, with the end and what was written of the definitions.
   abbrev pub RunsAsDefined : (before after : Option Heard) → RunState → Type 0
   RunsAsDefined before after s =
       IsOverAtStart s ⊎ EndsOver p strings input before after (record { standard = s.output; errors = s.errors }) s.frames s.map s.ran

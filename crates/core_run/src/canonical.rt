@@ -85,7 +85,7 @@ pub fn run<W: Watch>(
     let program = p.program;
     let reached = start_bytes(program, args);
     if reached > MOST_CREATED {
-        return Ok(unstarted(alloc, reached, budget));
+        return Ok(unstarted(alloc, reached));
     }
     let code = code_of(alloc, program, p.terms.items.as_slice())?;
     let input = Bytes::from_slice(alloc, input)?;
@@ -141,11 +141,11 @@ fn written_and_placed(machine: Machine) -> (Bytes, Bytes, AddrMap)
     (standard, errors, memory.into_map())
 }
 
-// The start would pass the limit on created bytes.
-fn unstarted(alloc: Global, number: u64, budget: u64) -> RunState
+// The start would pass the limit on created bytes, by this number.
+fn unstarted(alloc: Global, number: u64) -> RunState
     ensures told { told_of result.ran ≡ 0 }
     ensures picks { picks_of result.ran ≡ 0 }
-    ensures out_of_steps { IsOutOfSteps result.ran → budget ≡ 0 }
+    ensures steps { ¬ IsOutOfSteps result.ran }
     ensures frames { result.frames ≡ [] }
     ensures unstopped { IsUnstopped result.ran }
     ensures over { IsOverBy number result.ran }
@@ -155,17 +155,12 @@ fn unstarted(alloc: Global, number: u64, budget: u64) -> RunState
 {
     let map = AddrMap::new(alloc);
     map.law_rows();
-    let ran = if budget == 0 {
-        Ran::OutOfSteps { picks: 0 }
-    } else {
-        Ran::Outside {
+    RunState {
+        ran: Ran::Outside {
             cause: Cause::Created,
             number,
             picks: 0,
-        }
-    };
-    RunState {
-        ran,
+        },
         output: Bytes::from_vec(Vec::new(alloc)),
         errors: Bytes::from_vec(Vec::new(alloc)),
         map,

@@ -1,4 +1,5 @@
 use Rattle.std.proofs.Common.{arith, subst}
+use Rattle.run_answers.specs.declared.pick.Pick.{Pick}
 use Rattle.run_answers.specs.Raising.{RaisesNext}
 use Rattle.run_answers.specs.Rows.{GrowsNext}
 use Rattle.run_machine.specs.Written.{KeepsStreams}
@@ -71,7 +72,8 @@ returns-in-Err-clause-canonical g c = λ p strings input numbers before earlier 
       keeps = c.canonical.ensures.keeps;
     })) (subst (GrowsNext c.args.machine.now c.canonical.new.machine) c.in-Err.is c.canonical.ensures.rows)
     (subst (RaisesNext c.args.machine.now) c.in-Err.is c.canonical.ensures.raises)
-    (subst (KeepsStreams c.args.machine.now c.canonical.new.machine) c.in-Err.is c.canonical.ensures.streams) c.in_ok-ended_by-in-Err.ensures.ended
+    (subst (KeepsStreams {A = Pick} c.args.machine.now c.canonical.new.machine) c.in-Err.is c.canonical.ensures.streams)
+    c.in_ok-ended_by-in-Err.ensures.ended
 
 pub returns-in-Stop-clause-grows : goal.returns-in-Stop-clause-grows
 returns-in-Stop-clause-grows g c = λ p strings input numbers before earlier at among.

@@ -19,6 +19,10 @@ pub returns-then-reached-gt-MOST_CREATED-clause-answers :
     goal.returns-then-reached-gt-MOST_CREATED-clause-answers
 returns-then-reached-gt-MOST_CREATED-clause-answers g c = answers_unstopped c.unstarted.result.ran _ c.unstarted.ensures.unstopped c.requires.ready
 
+pub returns-then-reached-gt-MOST_CREATED-clause-out_of_steps :
+    goal.returns-then-reached-gt-MOST_CREATED-clause-out_of_steps
+returns-then-reached-gt-MOST_CREATED-clause-out_of_steps g c = λ none. absurd (c.unstarted.ensures.steps none)
+
 pub returns-then-reached-gt-MOST_CREATED-clause-started :
     goal.returns-then-reached-gt-MOST_CREATED-clause-started
 returns-then-reached-gt-MOST_CREATED-clause-started g c =
