@@ -1,0 +1,16 @@
+pub mod Answered
+pub mod Around
+pub mod Barely
+pub mod Bodies
+pub mod Chosen
+pub mod Clear
+pub mod Firsts
+pub mod Fits
+pub mod Free
+pub mod Freshly
+pub mod Goes
+pub mod Items
+pub mod Leaves
+pub mod Paths
+pub mod Recorded
+pub mod Values
