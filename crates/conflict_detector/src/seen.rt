@@ -1,4 +1,4 @@
-// What a watch stops a run at.
+// A conflict that is seen.
 ghost use Rattle.evaluation_log.specs.FoundItems.{IsConflict};
 
 use evaluation_log::Found;

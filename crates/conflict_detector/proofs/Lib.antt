@@ -1,0 +1,9 @@
+mod Stands
+mod Pairs
+mod Leaving
+mod Rules
+mod Known
+mod Moved
+mod Sees
+mod Telling
+mod Parts
