@@ -7,3 +7,4 @@ mod Moved
 mod Sees
 mod Telling
 mod Parts
+mod Ends

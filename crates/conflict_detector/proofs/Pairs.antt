@@ -8,19 +8,18 @@ use Rattle.c_typed.specs.Order.{events}
 use Rattle.evaluation_log.specs.declared.found.Found.{Found}
 use Rattle.evaluation_log.specs.declared.sought.Sought.{Sought}
 use Rattle.evaluation_log.specs.declared.sought.Sought.TheVariants.{Any, Races}
-use Rattle.evaluation_search.proofs.FirstLemmas.{both}
 use Rattle.addr_map.specs.Conflict.{is_access, items_conflict, stands_at}
 use Rattle.ub_base.specs.declared.names.ObjName.{ObjName}
 use Rattle.ub_base.specs.declared.names.Item.{Item}
 use Rattle.ub_base.specs.declared.names.Item.TheVariants.{Read, Write}
 use Rattle.evaluation_log.specs.Clashes.{Clash, NoClash}
-use Rattle.evaluation_log.specs.FoundItems.{first_found}
 use Rattle.evaluation_search.specs.First.{IsFirst, IsFirstOf, sought_of}
-use Rattle.run_evaluations.specs.First.{AreOfOperands, IsConflictIn, IsOnce}
+use Rattle.run_evaluations.specs.First.{AreOfOperands, IsConflictIn}
 use Rattle.run_evaluations.specs.Listing.{IsBeginning}
 use Rattle.run_evaluations.specs.Shows.{IsAmong, NoneOfTwo}
 use Rattle.run_evaluations.specs.Told.{Evaluation, Opened, has}
 use Rattle.run_evaluations.proofs.ListingLemmas.{listings_tell}
+use Rattle.conflict_detector.specs.Complete.{AreDone, BeginningsDone}
 use Rattle.conflict_detector.specs.Shown.{IsDuePair}
 
 -- so many of the first ones
@@ -41,24 +40,24 @@ first_length (suc n) [] e h = absurd (cc)
 first_length (suc n) (d ∷ es) e h = ap suc (first_length n es e h)
 
 -- an evaluation that is done is due
-pub done_due : (t : Opened) → IsBeginning t → (e : Evaluation) → IsAmong t e → due_in t.scope.taken 0 t.scope.tree e.place ≡ true
+done_due : (t : Opened) → IsBeginning t → (e : Evaluation) → IsAmong t e → due_in t.scope.taken 0 t.scope.tree e.place ≡ true
 done_due t begins e among =
     let before : Opened = record t { done = first among.0 t.done } in
     let tells = listings_tell before (λ j d h. begins j d (first_get among.0 j t.done d h)) in
     tells.1 e.place (ap (slice_get (events t.scope.taken 0 t.scope.tree)) (first_length among.0 t.done e among.1) ∙ begins among.0 e among.1)
 
-pub once : (t : Opened) → IsBeginning t → IsOnce t
-once t begins = (listings_tell t begins).0
+pub beginnings_done : BeginningsDone
+beginnings_done t begins = record { due = done_due t begins; once = (listings_tell t begins).0 }
 
-pub due_pair : (t : Opened) → IsBeginning t → (frames : List FrameRow) (rows : List Row) (Pairs : Evaluation → Evaluation → Type 0) (f : Found) →
+pub due_pair : (t : Opened) → AreDone t → (frames : List FrameRow) (rows : List Row) (Pairs : Evaluation → Evaluation → Type 0) (f : Found) →
     IsConflictIn frames rows t Pairs f → IsDuePair t f
-due_pair t begins frames rows Pairs f x = record {
+due_pair t done frames rows Pairs f x = record {
   one = x.one.place;
   other = x.other.place;
   event = x.of.event;
   against = x.of.against;
-  one_due = done_due t begins x.one x.one_done;
-  other_due = done_due t begins x.other x.other_done;
+  one_due = done.due x.one x.one_done;
+  other_due = done.due x.other x.other_done;
   apart = x.apart;
   bodiless = x.of.bodiless;
 }
@@ -87,11 +86,6 @@ pub none_of_two : (frames : List FrameRow) (rows : List Row) (t : Opened) (n : �
     (f : Found) → IsConflictIn frames rows t (AreOfOperands t n) f → ⊥
 none_of_two frames rows t n none f x =
     conflict_clashes frames rows t (AreOfOperands t n) f x (none x.one x.other x.one_done x.other_done x.pair x.apart)
-
--- the first of the conflicts that one call finds, where another one finds none or the first of others
-pub first_of_both : (frames : List FrameRow) (P Q : Found → Type 0) (f : Found) (more : Option Found) → IsFirst frames P f → IsFirstOf frames Q more →
-    (g : Found) → first_found frames (Some f) more ≡ Some g → IsFirst frames (λ x. P x ⊎ Q x) g
-first_of_both frames P Q f more p q g e = subst (λ (o : Option Found). IsFirstOf frames (λ x. P x ⊎ Q x) o) e (both frames P Q (Some f) more p q)
 
 -- of operands where one call finds none, or the first
 pub first_of_operands : (frames : List FrameRow) (rows : List Row) (t : Opened) (n : ℕ) (r : Option Found) → IfNone r (NoneOfTwo rows t n) →

@@ -3,7 +3,7 @@ use Rattle.std.specs.Prelude.{◌≡◌, ◌≢◌, ℕ, List, [], ◌∷◌, �
 use Rattle.ub_base.specs.declared.clause.Kind.{Kind}
 use Rattle.ub_base.specs.declared.clause.Kind.TheVariants.{Eff}
 use Rattle.ub_base.specs.declared.names.Frame.{Frame}
-use Rattle.run_evaluations.specs.Follows.{Follows, FollowsBut}
+use Rattle.run_evaluations.specs.Follows.{Follows, FollowsBelow, FollowsBut}
 use Rattle.run_evaluations.specs.Told.{Opened}
 use Rattle.conflict_detector.specs.declared.frames.RecordedFrames.{RecordedFrames}
 
@@ -21,3 +21,8 @@ pub record AreFollowedBut (os : List Opened) (n : ℕ) (kind : Kind) (r : Record
   pub but : FollowsBut os n r.open
   pub now : kind ≢ Eff → Follows os r.open
   pub names : r.names.items ≡ names_of os
+
+-- the frames below the one on top are as was told, and that one is open still
+pub record AreFollowedBelow (t : Opened) (ts : List Opened) (r : RecordedFrames) : Type 0 where
+  pub below : FollowsBelow ts r.open
+  pub names : r.names.items ≡ names_of (t ∷ ts)

@@ -4,4 +4,5 @@ pub mod Followed
 pub mod Shown
 pub mod Telling
 pub mod Recorded
+pub mod Complete
 pub mod Parts

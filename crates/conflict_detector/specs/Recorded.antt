@@ -20,7 +20,7 @@ use Rattle.conflict_detector.specs.declared.detector.Detector.{Detector}
 use Rattle.conflict_detector.specs.declared.detector.Recording.{Recording}
 use Rattle.conflict_detector.specs.declared.detector.Recording.TheVariants.{Closes, Items, Event as Logs, Begins}
 use Rattle.conflict_detector.specs.declared.seen.Seen.{Seen}
-use Rattle.conflict_detector.specs.Examined.{AreRight, IsNumbered, IsQuietRoot}
+use Rattle.conflict_detector.specs.Examined.{AreRight, HasRules, IsNumbered, IsQuietRoot}
 use Rattle.conflict_detector.specs.Followed.{AreFollowed, AreFollowedBut}
 use Rattle.conflict_detector.specs.Shown.{IsLast, IsShown}
 use Rattle.conflict_detector.specs.Telling.{AreStarted, IsBare, IsReached, TellsEvent, fresh}
@@ -40,9 +40,10 @@ pub record IsRecording (roots : List (Bor Typed)) (os : List Opened) (d : Detect
   pub started : AreStarted os
   pub follows : AreFollowed os d.open
 
--- and an event of this node and kind was told last; a side effect is listed only as its node is complete
-pub record IsTelling (roots : List (Bor Typed)) (os : List Opened) (n : ℕ) (kind : Kind) (d : Detector) : Type 0 where
+-- and an event of this node and kind was told last, of this full expression, whose rules are known; a side effect is listed only as its node is complete
+pub record IsTelling (roots : List (Bor Typed)) (b : Begun) (os : List Opened) (n : ℕ) (kind : Kind) (d : Detector) : Type 0 where
   pub known : AreRight roots d.known
+  pub rules : HasRules d.known b.tree b.root.now
   pub some : 0 < d.recorded
   pub logged : d.logged ≡ true
   pub started : AreStarted os
@@ -67,7 +68,7 @@ done_by b e items t = told (evaluation e.node e.kind items) (chosen_by (taken_in
 pub record HasTold (roots : List (Bor Typed)) (b : Begun) (os : List Opened) (e : Event) (items : List Item) (top : Frame) (d : Detector) : Type 0 where
   pub frames : List Opened
   pub reached : IsReached e.frame os frames
-  pub stays : top ≡ e.frame → IsTelling roots (done_by b e items reached.top ∷ reached.below) e.node e.kind d
+  pub stays : top ≡ e.frame → IsTelling roots b (done_by b e items reached.top ∷ reached.below) e.node e.kind d
   pub enters : top ≢ e.frame → e.kind ≢ Eff → IsRecording roots (entered top ∷ done_by b e items reached.top ∷ reached.below) d
 
 -- none of these items is noted
@@ -125,3 +126,8 @@ IsDecided bs e items d Begins = d.recorded ≡ 0
 abbrev pub SeesFirst : List FrameRow → (Found → Type 0) → Type 0 → Option Seen → Type 0
 SeesFirst frames Q none None = none
 SeesFirst frames Q none (Some s) = IsFirst frames Q s.found
+
+-- the first one of these conflicts is seen
+abbrev pub IsSeen : List FrameRow → (Found → Type 0) → Option Seen → Type 0
+IsSeen frames Q None = ⊥
+IsSeen frames Q (Some s) = IsFirst frames Q s.found

@@ -1,33 +1,27 @@
 // The open evaluations of a run, and its first conflict.
 ghost use Rattle.std.specs.Borrow.{Bor};
-ghost use Rattle.std.specs.Prelude.{◌≡◌, ◌≢◌, ◌<◌, [], ◌∷◌, ℕ, List, IfOk, OnOk, slice_get, Contains, Some, true, false};
-ghost use Rattle.ub_base.specs.declared.names.Item.{Item};
+ghost use Rattle.std.specs.Prelude.{◌≡◌, ◌≢◌, ◌×◌, ◌<◌, ◌-◌, [], List, None, IfOk, OnOk, Contains, true, false, length};
 ghost use Rattle.ub_base.specs.declared.clause.Kind.TheVariants.{Body};
 ghost use Rattle.ub_base.specs.declared.names.Item.TheVariants.{Ending};
 ghost use Rattle.c_typed.specs.declared.tree.Typed.{Typed};
 ghost use Rattle.elaborate.specs.Roots.{trees_at};
-ghost use Rattle.evaluation_log.specs.FoundItems.{ItemsConflict};
-ghost use Rattle.run_evaluations.specs.First.{AreOfOperands, IsConflictIn};
-ghost use Rattle.run_evaluations.specs.Listing.{IsBeginning};
-ghost use Rattle.run_evaluations.specs.Shows.{NoneOfTwo};
-ghost use Rattle.run_evaluations.specs.Told.{Opened, gathered};
+ghost use Rattle.run_evaluations.specs.Told.{Opened};
 ghost use Rattle.run_state.specs.declared.watch.Begun.{Begun};
-ghost use Rattle.conflict_detector.specs.Apart.{FoundApart, SeenApart};
-ghost use Rattle.conflict_detector.specs.Examined.{IsNumbered};
+ghost use Rattle.conflict_detector.specs.Apart.{SeenApart};
+ghost use Rattle.conflict_detector.specs.Complete.{IsEnded, MayEnd};
+ghost use Rattle.conflict_detector.specs.Examined.{AreRight, IsNumbered, IsQuietRoot};
 ghost use Rattle.conflict_detector.specs.Recorded.{HasBegun, HasTold, IsDecided, IsFollowed, IsFollowedIdle, IsIdle, IsQuietTop, IsRecording};
-ghost use Rattle.conflict_detector.specs.Recorded.{MayTell, NoneNoted, SeesFirst};
-ghost use Rattle.conflict_detector.specs.Shown.{IsLast, IsShown};
-ghost use Rattle.conflict_detector.specs.Telling.{IsOpen, TellsAt};
+ghost use Rattle.conflict_detector.specs.Recorded.{MayTell, NoneNoted};
+ghost use Rattle.conflict_detector.specs.Shown.{IsLast};
+ghost use Rattle.conflict_detector.specs.Telling.{IsOpen};
 
 use crate::examined::Expressions;
 use crate::frames::RecordedFrames;
 use crate::seen::Seen;
-use crate::standing::{apart_in, last_of, seen_of};
+use crate::standing::last_of;
 use c_typed::Typed;
-use evaluation_log::{Found, first_of, last_operand_of};
 use quiet_trees::some_noted;
-use run_evaluations::Order;
-use run_state::{Begun, View};
+use run_state::View;
 use std::alloc::Global;
 use ub_base::{Event, Item, Kind, NoMemory};
 
@@ -99,6 +93,12 @@ impl Detector {
             IsFollowed roots.now b os event items.now v.now.top self.new) }
         ensures idle { OnOk result ((b : Begun) → ((event.kind ≡ Body) → Contains items.now Ending → ⊥) → IsLast v.now.begun.now b → b.frame ≡ event.frame →
             IsIdle roots.now self.old → IsFollowedIdle roots.now b event items.now v.now.top self.new) }
+        ensures goes_on { ((event.kind ≡ Body) → Contains items.now Ending → ⊥) → IfOk result (λ r. r ≡ None) }
+        ensures ends { (b : Begun) (os : List Opened) → event.kind ≡ Body → Contains items.now Ending → v.now.top ≡ event.frame →
+            IsLast v.now.begun.now b → IsNumbered roots.now b.tree b.root.now → IsRecording roots.now os self.old → IsOpen event.frame os →
+            MayTell roots.now b os event → MayEnd roots.now v.now.begun.now self.old.recorded b os event items.now → IfOk result
+            (IsEnded v.now.frames.now v.now.map.now (length v.now.begun.now - (self.old.recorded - 1)) b os event items.now) }
+        ensures none { self.old.recorded ≡ 0 → event.kind ≡ Body → IfOk result (λ r. r ≡ None) }
     {
         self.logged = false;
         if self.passes_over(event, items) {
@@ -112,6 +112,7 @@ impl Detector {
     fn passes_over(&self, event: Event, items: &[Item]) -> bool
         ensures noted { result ≡ true → event.kind ≢ Body → NoneNoted items.now }
         ensures none { result ≡ true → self.now.recorded ≡ 0 }
+        ensures body { result ≡ false → self.now.recorded ≡ 0 → event.kind ≢ Body }
     {
         self.recorded == 0 && (event.kind == Kind::Body || !some_noted(items))
     }
@@ -131,15 +132,21 @@ impl Detector {
             IsFollowed roots.now b os event items.now v.now.top self.new) }
         ensures idle { OnOk result ((b : Begun) → ((event.kind ≡ Body) → Contains items.now Ending → ⊥) → IsLast v.now.begun.now b → b.frame ≡ event.frame →
             IsIdle roots.now self.old → IsFollowedIdle roots.now b event items.now v.now.top self.new) }
+        ensures goes_on { ((event.kind ≡ Body) → Contains items.now Ending → ⊥) → IfOk result (λ r. r ≡ None) }
+        ensures ends { (b : Begun) (os : List Opened) → event.kind ≡ Body → Contains items.now Ending → v.now.top ≡ event.frame →
+            IsLast v.now.begun.now b → IsNumbered roots.now b.tree b.root.now → IsRecording roots.now os self.old → IsOpen event.frame os →
+            MayTell roots.now b os event → MayEnd roots.now v.now.begun.now self.old.recorded b os event items.now → IfOk result
+            (IsEnded v.now.frames.now v.now.map.now (length v.now.begun.now - (self.old.recorded - 1)) b os event items.now) }
     {
         let logs = self.log(v, event, items)?;
         if !logs {
             return Ok(None);
         }
-        if is_end(event, items) {
-            return self.end(roots, v);
+        if !is_end(event, items) {
+            return Ok(None);
         }
-        Ok(None)
+        let seen = self.end(roots, v)?;
+        Ok(seen)
     }
 
     // Records what is to be recorded of an event, and says whether that is the event itself.
@@ -149,6 +156,11 @@ impl Detector {
             IsFollowed roots b os event items.now v.now.top self.new) }
         ensures idle { OnOk result ((roots : List (Bor Typed)) (b : Begun) → IsLast v.now.begun.now b → b.frame ≡ event.frame → IsIdle roots self.old →
             IsFollowedIdle roots b event items.now v.now.top self.new) }
+        ensures told { IfOk result (λ l. l ≡ true → (roots : List (Bor Typed)) (b : Begun) (os : List Opened) → IsLast v.now.begun.now b →
+            IsRecording roots os self.old → IsOpen event.frame os → MayTell roots b os event →
+            HasTold roots b os event items.now v.now.top self.new × (self.new.recorded ≡ self.old.recorded)) }
+        ensures left { IfOk result (λ l. l ≡ false → event.kind ≡ Body → (roots : List (Bor Typed)) (b : Begun) → AreRight roots self.old.known →
+            IsLast v.now.begun.now b → IsNumbered roots b.tree b.root.now → IsQuietRoot b.root.now) }
     {
         match self.recording(v, event, items) {
             Recording::Closes => {
@@ -213,6 +225,7 @@ impl Detector {
         ensures follows { OnOk result ((roots : List (Bor Typed)) (b : Begun) (os : List Opened) → IsLast v.now.begun.now b →
             IsRecording roots os self.old → IsOpen event.frame os → MayTell roots b os event →
             HasTold roots b os event items.now v.now.top self.new) }
+        ensures counts { self.new.recorded ≡ self.old.recorded }
     {
         self.logged = true;
         self.open.reach(event.frame)?;
@@ -223,170 +236,13 @@ impl Detector {
         self.open.tell(v.top, event, items, rule.0, rule.1)?;
         Ok(())
     }
-
-    // An end of the run: the first conflict of all that have both sides by now.
-    fn end(&mut self, roots: &[&Typed], v: &View) -> Result<Option<Seen>, NoMemory>
-        ensures apart { IfOk result (SeenApart (trees_at roots.now)) }
-    {
-        let mut best = None;
-        for (i, begun) in v.begun.iter().enumerate().rev() {
-            best = self.ended_at(roots, v, i, begun, best)?;
-            if i >= self.recorded {
-                self.open.leave()?;
-            }
-        }
-        Ok(seen_of(v, best))
-    }
-
-    // The first conflict so far, with those in the full expression of this place, if it is recorded.
-    fn ended_at(
-        &mut self,
-        roots: &[&Typed],
-        v: &View,
-        i: usize,
-        begun: &Begun,
-        best: Option<Found>,
-    ) -> Result<Option<Found>, NoMemory>
-        requires { ItemsConflict best }
-        ensures conflict { IfOk result ItemsConflict }
-        ensures apart { FoundApart (trees_at roots.now) best → IfOk result (FoundApart (trees_at roots.now)) }
-    {
-        if i < self.recorded.saturating_sub(1) {
-            return Ok(best);
-        }
-        let found = self.ended(v, begun)?;
-        let stands = apart_in(roots, begun, found);
-        Ok(first_of(v.frames, best, stands))
-    }
-
-    // The first conflict of those in this full expression that have both sides where the run ends.
-    fn ended(&mut self, v: &View, begun: &Begun) -> Result<Option<Found>, NoMemory>
-        ensures conflict { IfOk result ItemsConflict }
-    {
-        let number = begun.tree;
-        self.known.examine(self.alloc, number, begun.root)?;
-        match self.known.rules(number) {
-            Some(rules) => self.open.open.ended(v.frames, v.map, begun.root, rules),
-            None => Ok(None),
-        }
-    }
-
-    /// The operands of this node of the top full expression are done. Gives the first conflict between two of them.
-    #[inline(always)]
-    pub fn operands_done(
-        &mut self,
-        roots: &[&Typed],
-        v: &View,
-        node: u32,
-    ) -> Result<Option<Seen>, NoMemory>
-        ensures apart { IfOk result (SeenApart (trees_at roots.now)) }
-        ensures follows { OnOk result ((b : Begun) (t : Opened) (ts : List Opened) → IsLast v.now.begun.now b → IsShown roots.now b t → TellsAt t node →
-            IsRecording roots.now (t ∷ ts) self.old → IsRecording roots.now (gathered node t ∷ ts) self.new) }
-        ensures first { (b : Begun) (t : Opened) (ts : List Opened) → IsLast v.now.begun.now b → IsShown roots.now b t → TellsAt t node →
-            IsRecording roots.now (t ∷ ts) self.old → t.parts node ≡ false → IsBeginning t → IfOk result
-            (SeesFirst v.now.frames.now (IsConflictIn v.now.frames.now v.now.map.now t (AreOfOperands t node)) (NoneOfTwo v.now.map.now t node)) }
-    {
-        if self.recorded == 0 {
-            return Ok(None);
-        }
-        let seen = self.recorded_operands(roots, v, node)?;
-        Ok(seen)
-    }
-
-    // The same in a full expression that is recorded.
-    #[inline(never)]
-    fn recorded_operands(
-        &mut self,
-        roots: &[&Typed],
-        v: &View,
-        node: u32,
-    ) -> Result<Option<Seen>, NoMemory>
-        ensures apart { IfOk result (SeenApart (trees_at roots.now)) }
-        ensures follows { OnOk result ((b : Begun) (t : Opened) (ts : List Opened) → IsLast v.now.begun.now b → IsShown roots.now b t → TellsAt t node →
-            IsRecording roots.now (t ∷ ts) self.old → IsRecording roots.now (gathered node t ∷ ts) self.new) }
-        ensures first { (b : Begun) (t : Opened) (ts : List Opened) → IsLast v.now.begun.now b → IsShown roots.now b t → TellsAt t node →
-            IsRecording roots.now (t ∷ ts) self.old → t.parts node ≡ false → IsBeginning t → IfOk result
-            (SeesFirst v.now.frames.now (IsConflictIn v.now.frames.now v.now.map.now t (AreOfOperands t node)) (NoneOfTwo v.now.map.now t node)) }
-    {
-        let Some(begun) = last_of(v) else {
-            return Ok(None);
-        };
-        let rule = self.known.rule_of(self.alloc, begun, node)?;
-        let found = self
-            .open
-            .open
-            .operands_done(v.frames, v.map, node, rule.0, rule.1)?;
-        let stands = apart_in(roots, begun, found);
-        Ok(seen_of(v, stands))
-    }
-
-    /// This node of the top full expression is done. Gives the first conflict between one of its own events and one below it, or of those between the
-    /// operands of the node above, where this one is the last of them.
-    #[inline(always)]
-    pub fn node_done(
-        &mut self,
-        roots: &[&Typed],
-        v: &View,
-        node: u32,
-    ) -> Result<Option<Seen>, NoMemory>
-        ensures apart { IfOk result (SeenApart (trees_at roots.now)) }
-    {
-        if !self.logged {
-            return Ok(None);
-        }
-        self.logged_done(roots, v, node)
-    }
-
-    // The same where the last pick was recorded.
-    #[inline(never)]
-    fn logged_done(
-        &mut self,
-        roots: &[&Typed],
-        v: &View,
-        node: u32,
-    ) -> Result<Option<Seen>, NoMemory>
-        ensures apart { IfOk result (SeenApart (trees_at roots.now)) }
-    {
-        let Some(begun) = last_of(v) else {
-            return Ok(None);
-        };
-        let order = Order {
-            root: begun.root,
-            taken: &begun.taken,
-        };
-        let found = self.open.open.node_done(v.frames, v.map, order, node)?;
-        if found.is_none() {
-            return Ok(None);
-        }
-        let more = self.operands_above(v, begun, node)?;
-        let first = first_of(v.frames, found, more);
-        let stands = apart_in(roots, begun, first);
-        Ok(seen_of(v, stands))
-    }
-
-    // The first conflict between the operands of the node above this one, where this is the last of them.
-    fn operands_above(
-        &mut self,
-        v: &View,
-        begun: &Begun,
-        node: u32,
-    ) -> Result<Option<Found>, NoMemory>
-        ensures conflict { IfOk result ItemsConflict }
-    {
-        let Some(above) = last_operand_of(begun.root, node) else {
-            return Ok(None);
-        };
-        let rule = self.known.rule_of(self.alloc, begun, above)?;
-        self.open
-            .open
-            .operands_done(v.frames, v.map, above, rule.0, rule.1)
-    }
 }
 
 // Whether the run ends in this event, or in the frame that it started.
 fn is_end(event: Event, items: &[Item]) -> bool
     ensures body { result ≡ true → event.kind ≡ Body }
     ensures ending { result ≡ true → Contains items.now Ending }
+    ensures no { result ≡ false → event.kind ≡ Body → Contains items.now Ending → ⊥ }
 {
     event.kind == Kind::Body && items.contains(&Item::Ending)
 }

@@ -1,6 +1,6 @@
 // What is known of full expressions once they have begun.
 ghost use Rattle.std.specs.Borrow.{Bor};
-ghost use Rattle.std.specs.Prelude.{◌≡◌, ◌<◌, [], ◌==◌, List, length, set, vec_len, true, false, not, IfOk, OnOk, slice_get};
+ghost use Rattle.std.specs.Prelude.{◌≡◌, ◌<◌, [], ◌==◌, List, Some, None, length, set, vec_len, true, false, not, IfOk, IfSome, OnOk, slice_get};
 ghost use Rattle.c_typed.specs.declared.tree.Typed.{Typed};
 ghost use Rattle.c_typed.specs.Tree.{tree_of};
 ghost use Rattle.evaluation_log.specs.Ruled.{rules_of};
@@ -12,6 +12,7 @@ ghost use Rattle.run_evaluations.specs.Scopes.{IsRuled};
 ghost use Rattle.run_evaluations.specs.Told.{Opened};
 ghost use Rattle.conflict_detector.specs.Shown.{IsShown};
 ghost use Rattle.conflict_detector.specs.Telling.{TellsAt};
+ghost use Rattle.conflict_detector.specs.declared.examined.Examined.{Examined};
 ghost use Rattle.conflict_detector.specs.Examined.{AreRight, HasRules, IsNumbered, is_known, is_said_quiet, rule_by};
 
 use c_typed::Typed;
@@ -133,7 +134,10 @@ impl Expressions {
     }
 
     /// The rules of the full expression of this number, where it has begun once.
-    pub fn rules(&self, number: u32) -> Option<&Rules> {
+    pub fn rules(&self, number: u32) -> Option<&Rules>
+        ensures some { IfSome result (λ r. (e : Examined) × (slice_get self.now.list.items number ≡ Some e) × (r.now ≡ e.rules)) }
+        ensures none { result ≡ None → (e : Examined) → slice_get self.now.list.items number ≡ Some e → ⊥ }
+    {
         match self.list.get(number as usize) {
             Some(examined) => Some(&examined.rules),
             None => None,
@@ -151,6 +155,8 @@ impl Expressions {
             AreRight roots self.new) }
         ensures ruled { IfOk result (λ r. (roots : List (Bor Typed)) (t : Opened) (own : TellsAt t node) → AreRight roots self.old →
             IsShown roots begun.now t → IsRuled t.scope node own.class own.operands r.0 r.1) }
+        ensures known { OnOk result ((roots : List (Bor Typed)) → AreRight roots self.old → IsNumbered roots begun.now.tree begun.now.root.now →
+            HasRules self.new begun.now.tree begun.now.root.now) }
         ensures free { IfOk result (λ r. (roots : List (Bor Typed)) (t : Opened) → AreRight roots self.old → IsShown roots begun.now t →
             SequencesNone t.scope node r.0) }
     {

@@ -6,7 +6,7 @@ ghost use Rattle.c_typed.specs.Order.{place};
 ghost use Rattle.run_evaluations.specs.Follows.{Follows, HasStarted};
 ghost use Rattle.run_evaluations.specs.Scopes.{Scope};
 ghost use Rattle.run_evaluations.specs.Told.{Opened, Tells, entered, evaluation, given, settled, told};
-ghost use Rattle.conflict_detector.specs.Followed.{AreFollowed, AreFollowedBut};
+ghost use Rattle.conflict_detector.specs.Followed.{AreFollowed, AreFollowedBelow, AreFollowedBut};
 ghost use Rattle.conflict_detector.specs.Telling.{AreStarted, IsBare, IsOpen, IsReached, fresh};
 
 use evaluation_log::Rule;
@@ -57,6 +57,8 @@ impl RecordedFrames {
     /// The frame on top is left.
     pub fn leave(&mut self) -> Result<(), NoMemory>
         ensures follows { OnOk result ((t u : Opened) (us : List Opened) → AreFollowed (t ∷ u ∷ us) self.old → HasStarted u us →
+            (body : Item → Bool) × AreFollowed (given body u ∷ us) self.new) }
+        ensures below { OnOk result ((t u : Opened) (us : List Opened) → AreFollowedBelow t (u ∷ us) self.old → HasStarted u us →
             (body : Item → Bool) × AreFollowed (given body u ∷ us) self.new) }
     {
         let _ = self.names.pop();

@@ -1,4 +1,5 @@
 // What holds of full expressions of which a part is recorded.
+ghost use Rattle.conflict_detector.specs.Complete.{BeginningsDone};
 ghost use Rattle.conflict_detector.specs.Parts.{LeavesNone, PartsShow};
 
 use quiet_trees::law_quiet_items;
@@ -11,3 +12,8 @@ pub fn law_parts()
 {
     law_quiet_items();
 }
+
+/// Where what is done is a beginning of the listing of the full expression's events, each evaluation is due, and done once.
+pub fn law_beginnings()
+    ensures { BeginningsDone }
+{}

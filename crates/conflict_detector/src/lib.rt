@@ -1,7 +1,9 @@
 //! Follows the evaluations of a run, and finds its first conflict.
 #![tactic(auto)]
 
+mod completions;
 mod detector;
+mod ends;
 mod examined;
 mod frames;
 mod laws;
@@ -12,5 +14,5 @@ mod steps;
 pub use detector::Detector;
 pub use examined::{Examined, Expressions};
 pub use frames::RecordedFrames;
-pub use laws::law_parts;
+pub use laws::{law_beginnings, law_parts};
 pub use seen::Seen;

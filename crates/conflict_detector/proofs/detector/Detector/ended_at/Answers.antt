@@ -1,4 +1,7 @@
+use Rattle.std.proofs.Common.{◌∙◌, ap}
 use Rattle.elaborate.specs.Roots.{trees_at}
+use Rattle.evaluation_log.specs.FoundItems.{first_found}
+use Rattle.conflict_detector.proofs.Ends.{end_stands}
 use Rattle.conflict_detector.proofs.Stands.{first_apart}
 use Rattle.conflict_detector.proofs.detector.Detector.ended_at.Goals as goal
 

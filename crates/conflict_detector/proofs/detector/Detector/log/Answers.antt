@@ -51,3 +51,18 @@ returns-in_ok-log_event-in-Event-clause-follows c = λ roots b os last numbered 
 
 pub returns-in_ok-log_event-in-Event-clause-idle : goal.returns-in_ok-log_event-in-Event-clause-idle
 returns-in_ok-log_event-in-Event-clause-idle c = λ roots b last same i. absurd (let z = i.none in omega (arith, z, c.in-Event.ensures))
+
+pub returns-in_ok-close-in-Closes-clause-left : goal.returns-in_ok-close-in-Closes-clause-left
+returns-in_ok-close-in-Closes-clause-left c = λ no body roots b right last numbered. c.in-Closes.ensures.decided.2 roots b right last numbered
+
+pub returns-in_ok-step-in-Items-clause-left : goal.returns-in_ok-step-in-Items-clause-left
+returns-in_ok-step-in-Items-clause-left c = λ no body roots b right last numbered. absurd (c.in-Items.ensures.decided.1 body)
+
+pub returns-in_ok-log_event-in-Begins-clause-told : goal.returns-in_ok-log_event-in-Begins-clause-told
+returns-in_ok-log_event-in-Begins-clause-told c = λ yes roots b os last r in_it may. absurd (let some = r.some in omega (arith, some, c.in-Begins.ensures))
+
+pub returns-in_ok-log_event-in-Event-clause-told : goal.returns-in_ok-log_event-in-Event-clause-told
+returns-in_ok-log_event-in-Event-clause-told c = λ yes roots b os last r in_it may. (
+  c.in_ok-log_event-in-Event.ensures.follows roots b os last r in_it may,
+  c.in_ok-log_event-in-Event.ensures.counts,
+)
