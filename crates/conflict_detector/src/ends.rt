@@ -53,7 +53,8 @@ impl Detector {
         ensures conflict { IfOk result ItemsConflict }
         ensures apart { FoundApart (trees_at roots.now) best → IfOk result (FoundApart (trees_at roots.now)) }
         ensures counts { self.new.recorded ≡ self.old.recorded }
-        ensures follows { OnOk result ((b : Begun) (t : Opened) (ts : List Opened) → slice_get v.now.begun.now i ≡ Some b → IsNumbered roots.now b.tree b.root.now →
+        ensures follows { OnOk result ((b : Begun) (t : Opened) (ts : List Opened) → slice_get v.now.begun.now i ≡ Some b →
+            IsNumbered roots.now b.tree b.root.now →
             AreRight roots.now self.old.known → AreFollowed (t ∷ ts) self.old.open →
             AreRight roots.now self.new.known × AreFollowedBelow t ts self.new.open) }
         ensures first { (b : Begun) (t : Opened) (ts : List Opened) → slice_get v.now.begun.now i ≡ Some b → IsShown roots.now b t → CanEnd t →
@@ -84,10 +85,7 @@ impl Detector {
         let Some(rules) = self.known.rules(number) else {
             return Ok(None);
         };
-        let found = self
-            .open
-            .open
-            .ended(v.frames, v.map, begun.root, rules)?;
+        let found = self.open.open.ended(v.frames, v.map, begun.root, rules)?;
         Ok(found)
     }
 }

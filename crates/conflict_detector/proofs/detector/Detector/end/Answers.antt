@@ -36,6 +36,8 @@ loop-i-preserved c =
           (omega (arith, some, c.loop-i-test.true))
           (ending_more c.args.v.now.frames.now c.args.v.now.map.now c.args.roots.now bs from k (length bs - from) at os c.loop-i.best c.in_ok-best.best
           c.loop-i.self c.ended_at.new.self _ (omega (arith, some, c.loop-i-test.true))
-          (λ b t ts there shown can right f. (c.in_ok-best.ensures.first b t ts there shown can right f,
-          c.in_ok-best.ensures.follows b t ts there shown.numbered right f)) refl c.in_ok-leave.ensures.below h);
+          (λ b t ts there shown can right f. (
+            c.in_ok-best.ensures.first b t ts there shown can right f,
+            c.in_ok-best.ensures.follows b t ts there shown.numbered right f,
+          )) refl c.in_ok-leave.ensures.below h);
     }

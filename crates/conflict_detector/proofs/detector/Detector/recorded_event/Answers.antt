@@ -39,7 +39,5 @@ returns-clause-goes_on c = λ goes.
 pub returns-clause-ends : goal.returns-clause-ends
 returns-clause-ends c = λ b os body ending top last numbered r in_it may all.
     let told = c.in_ok-logs.ensures.told c.if-not-logs.false c.args.roots.now b os last r in_it may in
-    inr (
-      ends_told c.args.v.now.frames.now c.args.v.now.map.now c.args.roots.now c.args.v.now.begun.now b os c.args.event c.args.items.now c.args.v.now.top
-          c.args.self.now.recorded c.log.new.self _ told.0 top body told.1 all c.in_ok-seen.ensures.first,
-    )
+    inr (ends_told c.args.v.now.frames.now c.args.v.now.map.now c.args.roots.now c.args.v.now.begun.now b os c.args.event c.args.items.now
+    c.args.v.now.top c.args.self.now.recorded c.log.new.self _ told.0 top body told.1 all c.in_ok-seen.ensures.first)
