@@ -17,6 +17,8 @@ use Rattle.type_scope.specs.Tagged.{has_constant}
 use Rattle.type_scope.specs.declared.fault.TypeFault.{TypeFault}
 use Rattle.type_scope.specs.declared.state.State.{State}
 use Rattle.type_declarators.specs.Finds.{Finds}
+use Rattle.type_declarators.proofs.ConstantsKept.{told}
+use Rattle.type_expressions.specs.Forms.{member_by}
 use Rattle.type_expressions.specs.Seen.{Namings, operand_seen}
 use Rattle.type_expressions.specs.Standing.{layouts_in}
 use Rattle.type_expressions.specs.Tells.{Tells, ReadsAs, line_by}
@@ -45,6 +47,13 @@ pub none_behind : {A B C D : Type 0} (view : Namings → A → B) (view2 : Namin
     → ReadsAs view t old mid p (Err e) → ReadsAs view2 t old new (λ n. p n >>= f n) (Err e)
 none_behind {A} {B} {C} {D} view view2 t old mid new p f e first = λ n off before env h other.
     ap (λ (o : Option (B × Env)). and_then o (f n)) (first n off before env h other)
+
+-- the same by another name
+pub same_read : {A B : Type 0} (view : Namings → A → B) (t : TokenText) (old new : State) (p q : Namings → Typing B) (result : Result A TypeFault)
+    → ((n : Namings) (env : Env) → q n env ≡ p n env) → ReadsAs view t old new p result → ReadsAs view t old new q result
+same_read {A} {B} view t old new p q result e h = λ n off before env tells.
+    let P : Option (B × Env) → Type 0 = λ o. Follows (view n) (Tells n t off before new) o result in
+    subst P (sym (e n env)) (h n off before env tells)
 
 -- what is found of what is known
 pub found_follows : {A B : Type 0} (view : A → B) (Q : Env → Type 0) (here : Env) (o : Option B) (result : Result A TypeFault)
@@ -101,8 +110,18 @@ modifying_read t s at line make result e f = λ n off before env h.
     let P : Option Expression → Type 0 = λ o. Finds (operand_seen n) o result in
     found_follows (operand_seen n) (Tells n t off before s) env (make n (layouts_of env.tags) (constants env.tags) (line_of env at)) result h
     (subst P (ap (λ (l : ℕ). make n (layouts_in s) (has_constant s) l) (line_told n t off before s env at line h e)
-    ∙ ap (λ (c : ℕ → Bool). make n (layouts_in s) c (line_of env at)) (fun_ext h.constants)
+    ∙ ap (λ (c : ℕ → Bool). make n (layouts_in s) c (line_of env at)) (fun_ext (told s (h.tags).1))
     ∙ ap (λ tags. make n (layouts_of tags) (constants tags) (line_of env at)) (sym (tags_told n t off before s env h))) (f n))
+
+-- a member, by the spelling of its name (6.5.2.3)
+pub member_read : (t : TokenText) (s : State) (at line name : ℕ) (arrow : Bool) (a : Operand) (result : Result Operand TypeFault)
+    → line ≡ line_by t at → ((n : Namings) → Finds (operand_seen n) (member_by arrow (layouts_in s) (operand_seen n a) (text_at t name) line) result)
+    → ReadsAs operand_seen t s s (λ n. known >>= λ k. made at (λ tags. member_by arrow tags (operand_seen n a) (spelling k name))) result
+member_read t s at line name arrow a result e f = λ n off before env h.
+    let P : List ℕ → Type 0 =
+    λ text. Follows (operand_seen n) (Tells n t off before s) (made at (λ tags. member_by arrow tags (operand_seen n a) text) env) result in
+    subst P (sym (spelling_told n t off before s env name h))
+    (made_read t s at line (λ n tags. member_by arrow tags (operand_seen n a) (text_at t name)) result e f n off before env h)
 
 -- the value of an integer constant expression, whose literals are forgotten (6.6p6)
 pub constant_read : (t : TokenText) (old mid new : State) (e : Expr) (a : Operand) (result : Result ℤ TypeFault)

@@ -11,7 +11,7 @@ use Rattle.type_scope.specs.Objects.{IsOneToOne, HasObjects}
 use Rattle.type_scope.specs.Uses.{with_use, HasUses, count_of}
 use Rattle.type_scope.specs.declared.state.State.{State}
 use Rattle.type_expressions.specs.Seen.{Namings}
-use Rattle.type_expressions.specs.Standing.{TellsConstants}
+use Rattle.type_expressions.specs.Standing.{Notes}
 use Rattle.type_expressions.specs.Tells.{Tells, noted}
 
 -- 1. A use more, or none.
@@ -32,14 +32,14 @@ noted_more true before u n s now h = h
 noted_more false before u n s now h = h
 
 pub use_tells : (n : Namings) (t : TokenText) (off : Bool) (before : List Use) (u : Use) (old new : State) (env : Env)
-    → Tells n t off before old env → IsKnown n.objects t new env → TellsConstants new → HasObjects n.objects new env → new.unevaluated ≡ old.unevaluated
+    → Tells n t off before old env → IsKnown n.objects t new env → Notes t new → HasObjects n.objects new env → new.unevaluated ≡ old.unevaluated
     → ((us : List Use) → HasUses n.objects old us → HasUses n.objects new (with_use old.unevaluated u us))
     → Tells n t off before new (using (u ∷ []) env)
-use_tells n t off before u old new env h known constants objects same uses =
+use_tells n t off before u old new env h known told objects same uses =
     let P : Bool → Type 0 = λ b. HasUses n.objects new (with_use b u (noted off before env.uses)) in
     record {
       known = ap (using (u ∷ [])) known;
-      constants = constants;
+      tags = told;
       distinct = h.distinct;
       objects = objects;
       evaluated = same ∙ h.evaluated;
@@ -53,8 +53,9 @@ pub object_tells : (n : Namings) (t : TokenText) (off : Bool) (before : List Use
     → Tells n t off before new (using (u ∷ []) env)
 object_tells n t off before u old new env e h rows uses =
     let K : State → Type 0 = λ s. IsKnown n.objects t s env in
-    let C : State → Type 0 = λ s. TellsConstants s in
-    use_tells n t off before u old new env h (subst K (sym e) h.known) (subst C (sym e) h.constants) (rows env h.objects)
+    let C : State → Type 0 = λ s. Notes t s in
+    use_tells n t off before u old new env h (subst K (sym e) h.known) (subst C (sym e) ((h.tags).0, record
+    { rows = ((h.tags).1).rows; noted = ((h.tags).1).noted; none = ((h.tags).1).none })) (rows env h.objects)
     (ap (λ (s : State). s.unevaluated) e) (uses h.distinct)
 
 pub function_tells : (n : Namings) (t : TokenText) (off : Bool) (before : List Use) (u : Use) (old new : State) (env : Env)
@@ -62,9 +63,10 @@ pub function_tells : (n : Namings) (t : TokenText) (off : Bool) (before : List U
     → ((us : List Use) → HasUses n.objects old us → HasUses n.objects new (with_use old.unevaluated u us))
     → Tells n t off before new (using (u ∷ []) env)
 function_tells n t off before u old new env e h known uses =
-    let C : State → Type 0 = λ s. TellsConstants s in
+    let C : State → Type 0 = λ s. Notes t s in
     let O : State → Type 0 = λ s. HasObjects n.objects s env in
-    use_tells n t off before u old new env h (h.known ∙ sym known) (subst C (sym e) h.constants) (subst O (sym e) h.objects)
+    use_tells n t off before u old new env h (h.known ∙ sym known) (subst C (sym e) ((h.tags).0, record
+    { rows = ((h.tags).1).rows; noted = ((h.tags).1).noted; none = ((h.tags).1).none })) (subst O (sym e) h.objects)
     (ap (λ (s : State). s.unevaluated) e) uses
 
 pub unused_tells : (n : Namings) (t : TokenText) (off : Bool) (before : List Use) (s : State) (env : Env)
@@ -79,6 +81,33 @@ stays n t off before old new env e h = let P : State → Type 0 = λ s. Tells n 
 
 -- 2. An operand that isn't evaluated.
 
+pub suspended : (n : Namings) (t : TokenText) (off : Bool) (before : List Use) (old new : State) (env : Env)
+    → new ≡ record old { unevaluated = true } → Tells n t off before old env → Tells n t true (noted off before env.uses) new env
+suspended n t off before old new env e h =
+    let P : State → Type 0 = λ s. Tells n t true (noted off before env.uses) s env in
+    subst P (sym e) (record {
+      known = h.known;
+      tags = ((h.tags).0, record { rows = ((h.tags).1).rows; noted = ((h.tags).1).noted; none = ((h.tags).1).none });
+      distinct = h.distinct;
+      objects = h.objects;
+      evaluated = refl;
+      uses = h.uses;
+    })
+
+pub resumed : (n : Namings) (t : TokenText) (off : Bool) (before : List Use) (old mid new : State) (was : Bool) (env here : Env)
+    → new ≡ record mid { literals = new.literals; unevaluated = was } → was ≡ old.unevaluated → Tells n t off before old env
+    → Tells n t true (noted off before env.uses) mid here → Tells n t off before new (record here { uses = env.uses })
+resumed n t off before old mid new was env here e is h k =
+    let P : State → Type 0 = λ s. Tells n t off before s (record here { uses = env.uses }) in
+    subst P (sym e) (record {
+      known = ap (λ (x : Env). record x { uses = env.uses }) k.known;
+      tags = ((k.tags).0, record { rows = ((k.tags).1).rows; noted = ((k.tags).1).noted; none = ((k.tags).1).none });
+      distinct = k.distinct;
+      objects = k.objects;
+      evaluated = is ∙ h.evaluated;
+      uses = k.uses;
+    })
+
 -- 3. Literals that are forgotten.
 
 pub forgotten : (n : Namings) (t : TokenText) (off : Bool) (before : List Use) (mid new : State) (env : Env)
@@ -87,7 +116,7 @@ forgotten n t off before mid new env e h =
     let P : State → Type 0 = λ s. Tells n t off before s env in
     subst P (sym e) (record {
       known = h.known;
-      constants = h.constants;
+      tags = ((h.tags).0, record { rows = ((h.tags).1).rows; noted = ((h.tags).1).noted; none = ((h.tags).1).none });
       distinct = h.distinct;
       objects = h.objects;
       evaluated = h.evaluated;
