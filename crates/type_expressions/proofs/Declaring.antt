@@ -31,7 +31,7 @@ use Rattle.type_declarators.specs.declared.declarator.Derivation.TheVariants as 
 use Rattle.type_declarators.specs.declared.words.Words as held_words
 use Rattle.type_declarators.proofs.Applied.{last_seen}
 use Rattle.type_expressions.specs.Seen.{Namings}
-use Rattle.type_expressions.specs.Tells.{Tells, ReadsAs}
+use Rattle.type_expressions.specs.Tells.{Tells, Past, ReadsAs}
 use Rattle.type_expressions.specs.TypeNames.{type_by, parameters_of, FollowsSo, IsSpecified, AreParts}
 use Rattle.type_expressions.specs.Plain.{IsPlain, IsPlainDeclarator, AllPlainParams}
 use Rattle.type_expressions.proofs.Following.{found_follows, tags_told}
@@ -65,13 +65,13 @@ name_step : (name : Option ℕ) (env : Env) → derivations (declarator.Ident na
 unfolding derivations
 name_step name env = refl
 
-pub inner_pointer : (words : List Word) (d : Declarator) → IsPlainDeclarator (declarator.Pointer words d) → IsPlainDeclarator d
+pub inner_pointer : (t : TokenText) (words : List Word) (d : Declarator) → IsPlainDeclarator t (declarator.Pointer words d) → IsPlainDeclarator t d
 unfolding hidden-the_row-Declarator-2 hidden
-inner_pointer words d h = h
+inner_pointer t words d h = h
 
-pub inner_array : (d : Declarator) → IsPlainDeclarator (declarator.Array d None) → IsPlainDeclarator d
+pub inner_array : (t : TokenText) (d : Declarator) → IsPlainDeclarator t (declarator.Array d None) → IsPlainDeclarator t d
 unfolding hidden-the_row-Declarator-2 hidden-the_row-Expr-3 hidden
-inner_array d h = h
+inner_array t d h = h
 
 inner_none : (o : Option Derivation) (p : Typing (List Derivation)) (env : Env) → p env ≡ None
     → and_then (found_in env o) (λ x. p >>= λ ds. pure (x ∷ ds)) ≡ None
@@ -79,14 +79,14 @@ inner_none None p env e = refl
 inner_none (Some x) p env e = ap (λ (q : Option (List Derivation × Env)). and_then q (λ ds. pure (x ∷ ds))) e
 
 pub name_read : (t : TokenText) (s : State) (d : Declarator) (parts : List held.Derivation) (name : Option ℕ) → d ≡ declarator.Ident name
-    → (n : Namings) (off : Bool) (before : List Use) (env : Env) → Tells n t off before s env
+    → (n : Namings) (off : Bool) (before : Past) (env : Env) → Tells n t off before s env
     → FollowsSo (AreParts parts parts) (Tells n t off before s) (derivations d env) (Ok name)
 name_read t s d parts name is n off before env h =
     ([], (env, (ap (λ x. derivations x env) is ∙ name_step name env, ((refl, λ all. all), h))))
 
 pub pointer_read : (t : TokenText) (new : State) (d inside : Declarator) (words : List Word) (first mid parts : List held.Derivation) (p : held.Derivation)
     (name : Option ℕ) → d ≡ declarator.Pointer words inside → pointer_by (said words) ≡ Some (part_seen p) → FitsCount p → parts ≡ mid ++ p ∷ []
-    → (n : Namings) (off : Bool) (before : List Use) (env : Env)
+    → (n : Namings) (off : Bool) (before : Past) (env : Env)
     → FollowsSo (AreParts first mid) (Tells n t off before new) (derivations inside env) (Ok name)
     → FollowsSo (AreParts first parts) (Tells n t off before new) (derivations d env) (Ok name)
 pointer_read t new d inside words first mid parts p name is found fits longer n off before env g = (
@@ -104,7 +104,7 @@ pointer_read t new d inside words first mid parts p name is found fits longer n 
 
 pub array_read : (t : TokenText) (new : State) (d inside : Declarator) (first mid parts : List held.Derivation) (name : Option ℕ)
     → d ≡ declarator.Array inside None → parts ≡ mid ++ part.Array None ∷ []
-    → (n : Namings) (off : Bool) (before : List Use) (env : Env)
+    → (n : Namings) (off : Bool) (before : Past) (env : Env)
     → FollowsSo (AreParts first mid) (Tells n t off before new) (derivations inside env) (Ok name)
     → FollowsSo (AreParts first parts) (Tells n t off before new) (derivations d env) (Ok name)
 array_read t new d inside first mid parts name is longer n off before env g = (
@@ -157,13 +157,13 @@ size_step d x env = size_behind x (derivations d env)
 abbrev pub Small : Expr → Type 0
 Small x = (env here : Env) (z : ℤ) → constant x env ≡ Some (z, here) → z <ℤ pos (2 ^ 64)
 
-pub inner_size : (d : Declarator) (x : Expr) → IsPlainDeclarator (declarator.Array d (Some x)) → IsPlainDeclarator d × (IsPlain x.node × Small x)
+pub inner_size : (t : TokenText) (d : Declarator) (x : Expr) → IsPlainDeclarator t (declarator.Array d (Some x)) → IsPlainDeclarator t d × (IsPlain t x.node × Small x)
 unfolding constant_in constant hidden-the_row-Declarator-2 hidden-the_row-Expr-3 hidden
-inner_size d x h = (h.0, (h.1.0.0, h.1.1))
+inner_size t d x h = (h.0, (h.1.0.0, h.1.1))
 
 pub size_read : (t : TokenText) (mid new : State) (d inside : Declarator) (x : Expr) (first held_before parts : List held.Derivation) (z : ℤ)
     (name : Option ℕ) → d ≡ declarator.Array inside (Some x) → Small x → parts ≡ held_before ++ part.Array (Some z) ∷ []
-    → ReadsAs (λ _ (k : ℤ). k) t mid new (λ _. constant x) (Ok z) → (n : Namings) (off : Bool) (before : List Use) (env : Env)
+    → ReadsAs (λ _ (k : ℤ). k) t mid new (λ _. constant x) (Ok z) → (n : Namings) (off : Bool) (before : Past) (env : Env)
     → FollowsSo (AreParts first held_before) (Tells n t off before mid) (derivations inside env) (Ok name)
     → FollowsSo (AreParts first parts) (Tells n t off before new) (derivations d env) (Ok name)
 size_read t mid new d inside x first held_before parts z name is small longer second n off before env g =
@@ -188,7 +188,7 @@ size_none d inside x env is e =
 
 pub count_none : (t : TokenText) (mid new : State) (d inside : Declarator) (x : Expr) (first held_before : List held.Derivation) (name : Option ℕ)
     (e : TypeFault) → d ≡ declarator.Array inside (Some x) → ReadsAs (λ _ (k : ℤ). k) t mid new (λ _. constant x) (Err e) → e ≢ NoMemory
-    → (n : Namings) (off : Bool) (before : List Use) (env : Env)
+    → (n : Namings) (off : Bool) (before : Past) (env : Env)
     → FollowsSo (AreParts first held_before) (Tells n t off before mid) (derivations inside env) (Ok name) → derivations d env ≡ None
 count_none t mid new d inside x first held_before name e is second other n off before env g =
     ap (λ y. derivations y env) is ∙ size_step inside x env
@@ -224,15 +224,15 @@ function_step d ps v env =
     (λ ds. in_prototype b (parameters v 0 (hidden-the_row-Param-4 ps)) >>= λ qs. pure (function_of qs v ∷ ds))) (own_is d)
     ∙ ap (λ (p : Typing Params). and_then (derivations d env) (λ ds. in_prototype (is_name d) p >>= λ qs. pure (function_of qs v ∷ ds))) (row_is v 0 ps)
 
-pub inner_function : (d : Declarator) (ps : List Param) (v : Bool) → IsPlainDeclarator (declarator.Function d ps v)
-    → IsPlainDeclarator d × (AllPlainParams ps × (length ps < 2 ^ 32))
+pub inner_function : (t : TokenText) (d : Declarator) (ps : List Param) (v : Bool) → IsPlainDeclarator t (declarator.Function d ps v)
+    → IsPlainDeclarator t d × (AllPlainParams t ps × (length ps < 2 ^ 32))
 unfolding hidden-the_row-Declarator-2 hidden
-inner_function d ps v h = (h.0, (row_plain ps h.1.0, subst (λ (k : ℕ). k < 2 ^ 32) (row_length ps) h.1.1))
+inner_function t d ps v h = (h.0, (row_plain t ps h.1.0, subst (λ (k : ℕ). k < 2 ^ 32) (row_length ps) h.1.1))
 
 pub function_read : (t : TokenText) (mid new : State) (d inside : Declarator) (ps : List Param) (v : Bool) (first held_before parts : List held.Derivation)
     (qs : List Qual) (name : Option ℕ) → d ≡ declarator.Function inside ps v → parts ≡ held_before ++ part.Function qs v ∷ []
     → ReadsAs (λ _ (xs : List Qual). params_of (map qualified_of xs)) t mid new (λ _. in_prototype (is_name inside) (parameters_of v 0 ps)) (Ok qs)
-    → (n : Namings) (off : Bool) (before : List Use) (env : Env)
+    → (n : Namings) (off : Bool) (before : Past) (env : Env)
     → FollowsSo (AreParts first held_before) (Tells n t off before mid) (derivations inside env) (Ok name)
     → FollowsSo (AreParts first parts) (Tells n t off before new) (derivations d env) (Ok name)
 function_read t mid new d inside ps v first held_before parts qs name is longer second n off before env g =
@@ -258,7 +258,7 @@ function_none d inside ps v env is e =
 pub prototype_left : (t : TokenText) (mid new : State) (d inside : Declarator) (ps : List Param) (v : Bool) (first held_before : List held.Derivation)
     (name : Option ℕ) (e : TypeFault) → d ≡ declarator.Function inside ps v
     → ReadsAs (λ _ (xs : List Qual). params_of (map qualified_of xs)) t mid new (λ _. in_prototype (is_name inside) (parameters_of v 0 ps)) (Err e)
-    → e ≢ NoMemory → (n : Namings) (off : Bool) (before : List Use) (env : Env)
+    → e ≢ NoMemory → (n : Namings) (off : Bool) (before : Past) (env : Env)
     → FollowsSo (AreParts first held_before) (Tells n t off before mid) (derivations inside env) (Ok name) → derivations d env ≡ None
 prototype_left t mid new d inside ps v first held_before name e is second other n off before env g =
     ap (λ y. derivations y env) is ∙ function_step inside ps v env
@@ -279,7 +279,7 @@ declared_step q d env = refl
 pub declared_read : {A : Type 0} (view : A → Qualified) (t : TokenText)
     (old s : State) (d : Declarator) (parts : List held.Derivation) (name : Option ℕ) (q : Qualified)
     (r : Result A TypeFault)
-    → ((n : Namings) (off : Bool) (before : List Use) (env : Env) → Tells n t off before old env
+    → ((n : Namings) (off : Bool) (before : Past) (env : Env) → Tells n t off before old env
     → FollowsSo (AreParts [] parts) (Tells n t off before s) (derivations d env) (Ok name))
     → (AllFit parts → Finds view (derived (map tag_seen s.tags) (parts_seen parts) q) r) → ReadsAs (λ _. view) t old s (λ _. declared q d) r
 declared_read {A} view t old s d parts name q r first f = λ n off before env h.
@@ -296,7 +296,7 @@ declared_read {A} view t old s d parts name q r first f = λ n off before env h.
 
 pub declared_none : {A : Type 0} (view : A → Qualified) (t : TokenText)
     (old mid s : State) (d : Declarator) (parts : List held.Derivation) (q : Qualified) (e : TypeFault)
-    → ((n : Namings) (off : Bool) (before : List Use) (env : Env) → Tells n t off before old env
+    → ((n : Namings) (off : Bool) (before : Past) (env : Env) → Tells n t off before old env
     → FollowsSo (AreParts [] parts) (Tells n t off before mid) (derivations d env) (Err e))
     → ReadsAs (λ _. view) t old s (λ _. declared q d) (Err e)
 declared_none {A} view t old mid s d parts q e first = λ n off before env h other.
@@ -321,7 +321,7 @@ unguarded false p env e = refl
 unguarded true p env e = absurd (cc)
 
 pub type_read : (t : TokenText) (old mid new : State) (name : TypeName) (h : held_words.Words) (q : Qual) (are : Bool) (r : Result Qual TypeFault)
-    → ((n : Namings) (off : Bool) (before : List Use) (env : Env) → Tells n t off before old env
+    → ((n : Namings) (off : Bool) (before : Past) (env : Env) → Tells n t off before old env
     → FollowsSo IsSpecified (Tells n t off before mid) (specified name.specs.words name.specs.base false env) (Ok (h, q)))
     → ((ws : Words) → IsSaid h ws → are ≡ are_qualified ws) → are ≡ true
     → ReadsAs (λ _. qualified_of) t mid new (λ _. declared (qualified_of q) name.declarator) r → ReadsAs (λ _. qualified_of) t old new (λ _. type_by name) r
@@ -338,7 +338,7 @@ type_read t old mid new name h q are r first same is second = λ n off before en
 
 -- other words stand among them
 pub words_left : (t : TokenText) (old mid new : State) (name : TypeName) (h : held_words.Words) (q : Qual) (are : Bool) (e : TypeFault)
-    → ((n : Namings) (off : Bool) (before : List Use) (env : Env) → Tells n t off before old env
+    → ((n : Namings) (off : Bool) (before : Past) (env : Env) → Tells n t off before old env
     → FollowsSo IsSpecified (Tells n t off before mid) (specified name.specs.words name.specs.base false env) (Ok (h, q)))
     → ((ws : Words) → IsSaid h ws → are ≡ are_qualified ws) → are ≡ false → ReadsAs (λ _. qualified_of) t old new (λ _. type_by name) (Err e)
 words_left t old mid new name h q are e first same none = λ n off before env tells other.
@@ -348,7 +348,7 @@ words_left t old mid new name h q are e first same none = λ n off before env te
     ∙ unguarded (are_qualified s.words) (declared s.qual name.declarator) g.1.0 (sym (same s.words g.1.1.1.0.0) ∙ none)
 
 pub type_none : (t : TokenText) (old mid new : State) (name : TypeName) (e : TypeFault)
-    → ((n : Namings) (off : Bool) (before : List Use) (env : Env) → Tells n t off before old env
+    → ((n : Namings) (off : Bool) (before : Past) (env : Env) → Tells n t off before old env
     → FollowsSo IsSpecified (Tells n t off before mid) (specified name.specs.words name.specs.base false env) (Err e))
     → ReadsAs (λ _. qualified_of) t old new (λ _. type_by name) (Err e)
 type_none t old mid new name e first = λ n off before env tells other.

@@ -23,7 +23,7 @@ use Rattle.type_scope.specs.declared.fault.TypeFault.{TypeFault}
 use Rattle.type_scope.specs.declared.state.State.{State}
 use Rattle.type_expressions.specs.Plain.{IsPlain, ArePlainEnumerators, AllPlainEnumerators, IsPlainEnumerator}
 use Rattle.type_expressions.specs.Seen.{Namings}
-use Rattle.type_expressions.specs.Tells.{Tells, ReadsAs}
+use Rattle.type_expressions.specs.Tells.{Tells, Past, ReadsAs}
 use Rattle.type_expressions.specs.TypeNames.{named_by, written, value_in, enumerators_of, enumeration_with, type_before}
 
 -- 1. A list, and the row of the tree that stands for it.
@@ -37,10 +37,10 @@ row_read before (e ∷ es) env =
 row_is : (before : Option ℤ) (all : List Enumerator) → enumerators before (hidden-the_row-Enumerator-1 all) ≡ enumerators_of before all
 row_is before all = fun_ext (row_read before all)
 
-pub row_plain : (all : List Enumerator) → ArePlainEnumerators (hidden-the_row-Enumerator-1 all) → AllPlainEnumerators all
+pub row_plain : (t : TokenText) (all : List Enumerator) → ArePlainEnumerators t (hidden-the_row-Enumerator-1 all) → AllPlainEnumerators t all
 unfolding hidden-the_row-Enumerator-1 hidden
-row_plain [] h = tt
-row_plain (e ∷ es) h = (h.0, row_plain es h.1)
+row_plain t [] h = tt
+row_plain t (e ∷ es) h = (h.0, row_plain t es h.1)
 
 list_raw : (b : Bool) (ws : Words) (tag : Option ℕ) (es : List Enumerator) (env : Env)
     → type_before b ws (base_form.Enumerated tag (Some es)) env
@@ -94,9 +94,9 @@ some_given : (at : ℕ) (x : ExprNode) (env : Env)
 unfolding value_given constant
 some_given at x env = regroup (expression at x env)
 
-pub value_is_plain : (e : Enumerator) (x : Expr) → written e ≡ Some x → IsPlainEnumerator e → IsPlain x.node
-value_is_plain (Enumerator' at Enumerator-value-None') x is h = absurd (none-some x is)
-value_is_plain (Enumerator' at (Enumerator-value-Some' m node)) x is h = let P : Expr → Type 0 = λ y. IsPlain y.node in subst P
+pub value_is_plain : (t : TokenText) (e : Enumerator) (x : Expr) → written e ≡ Some x → IsPlainEnumerator t e → IsPlain t x.node
+value_is_plain t (Enumerator' at Enumerator-value-None') x is h = absurd (none-some x is)
+value_is_plain t (Enumerator' at (Enumerator-value-Some' m node)) x is h = let P : Expr → Type 0 = λ y. IsPlain t y.node in subst P
     (same_Some (record { at = m; node = node }) x is) h
 
 pub no_value : (t : TokenText) (s : State) (e : Enumerator) → written e ≡ None → ReadsAs (λ _ (v : Option ℤ). v) t s s (λ _. value_in e) (Ok None)
@@ -123,23 +123,23 @@ value_none t old mid new e x fault is read = λ n off before env h other.
 -- 3. After the first of them.
 
 pub record StandsAt (t : TokenText) (old now : State) (all : List Enumerator) (i : ℕ) (last : Option ℤ) : Type 0 where
-  pub plain : AllPlainEnumerators (drop i all)
-  pub read : (n : Namings) (off : Bool) (before : List Use) (env : Env) → Tells n t off before old env
+  pub plain : AllPlainEnumerators t (drop i all)
+  pub read : (n : Namings) (off : Bool) (before : Past) (env : Env) → Tells n t off before old env
       → (here : Env) × ((enumerators_of None all env ≡ enumerators_of last (drop i all) here) × Tells n t off before now here)
 
-pub first_stands : (t : TokenText) (s : State) (all : List Enumerator) → AllPlainEnumerators all → StandsAt t s s all 0 None
+pub first_stands : (t : TokenText) (s : State) (all : List Enumerator) → AllPlainEnumerators t all → StandsAt t s s all 0 None
 first_stands t s all plain = record { plain = plain; read = λ n off before env h. (env, (refl, h)) }
 
 split : (all : List Enumerator) (i : ℕ) (e : Enumerator) → i < length all → e ≡ get_or all i e → drop i all ≡ e ∷ drop (i + 1) all
 split all i e h is = drop_more all i e h ∙ ap (λ y. y ∷ drop (i + 1) all) (sym is)
 
-next_plain : (all : List Enumerator) (i : ℕ) (e : Enumerator) → i < length all → e ≡ get_or all i e → AllPlainEnumerators (drop i all)
-    → IsPlainEnumerator e × AllPlainEnumerators (drop (i + 1) all)
-next_plain all i e h is plain = let P : List Enumerator → Type 0 = λ es. AllPlainEnumerators es in subst P (split all i e h is) plain
+next_plain : (t : TokenText) (all : List Enumerator) (i : ℕ) (e : Enumerator) → i < length all → e ≡ get_or all i e → AllPlainEnumerators t (drop i all)
+    → IsPlainEnumerator t e × AllPlainEnumerators t (drop (i + 1) all)
+next_plain t all i e h is plain = let P : List Enumerator → Type 0 = λ es. AllPlainEnumerators t es in subst P (split all i e h is) plain
 
 pub next_is_plain : (t : TokenText) (old now : State) (all : List Enumerator) (i : ℕ) (last : Option ℤ) (e : Enumerator) → i < length all
-    → e ≡ get_or all i e → StandsAt t old now all i last → IsPlainEnumerator e
-next_is_plain t old now all i last e h is s = (next_plain all i e h is s.plain).0
+    → e ≡ get_or all i e → StandsAt t old now all i last → IsPlainEnumerator t e
+next_is_plain t old now all i last e h is s = (next_plain t all i e h is s.plain).0
 
 -- the next one
 one_read : (all : List Enumerator) (i : ℕ) (last : Option ℤ) (e : Enumerator) (env : Env) → i < length all → e ≡ get_or all i e
@@ -157,7 +157,7 @@ pub next_stands : (t : TokenText) (old mid later new : State) (all : List Enumer
     → i < length all → e ≡ get_or all i e → StandsAt t old mid all i last → ReadsAs (λ _ x. x) t mid later (λ _. value_in e) (Ok v)
     → ReadsAs (λ _ k. k) t later new (λ _. enumerated (named_by e) v last) (Ok z) → StandsAt t old new all (i + 1) (Some z)
 next_stands t old mid later new all i last e v z h is s values declares = record {
-  plain = (next_plain all i e h is s.plain).1;
+  plain = (next_plain t all i e h is s.plain).1;
   read = λ n off before env tells.
       let g = s.read n off before env tells in
       let k = values n off before g.0 g.1.1 in

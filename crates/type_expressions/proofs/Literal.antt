@@ -19,7 +19,8 @@ use Rattle.type_scope.specs.declared.state.State.{State}
 use Rattle.type_declarators.specs.Finds.{Finds}
 use Rattle.type_declarators.specs.Literals as held
 use Rattle.type_expressions.specs.Seen.{Namings, expression_seen, operand_seen}
-use Rattle.type_expressions.specs.Tells.{Tells, ReadsAs, line_by}
+use Rattle.type_expressions.specs.Tells.{Tells, ReadsAs, ReadsMore, line_by}
+use Rattle.type_expressions.proofs.More.{as_more}
 use Rattle.type_expressions.proofs.Following.{same_read, found_follows, line_told, spelling_told}
 
 -- a constant has one form under all names
@@ -57,8 +58,8 @@ character_step at m env = refl
 
 pub number_form : (t : TokenText) (s : State) (at m : ℕ) (nd : ExprNode) (result : Result Operand TypeFault)
     → nd ≡ node.Number m → Finds expression_of (held.literal_in (line_by t m) (int_value (text_at t m))) result
-    → ReadsAs operand_seen t s s (λ _. expression at nd) result
-number_form t s at m nd result is f = λ n off before env h.
+    → ReadsMore operand_seen t s s (λ _. expression at nd) result
+number_form t s at m nd result is f = as_more operand_seen t s s (λ _. expression at nd) result (λ n off before env h.
     let line = line_by t m in
     let P : Option (Expression × Env) → Type 0 = λ o. Follows (operand_seen n) (Tells n t off before s) o result in
     subst P (sym (ap (λ x. expression at x env) is ∙ number_step at m env
@@ -66,12 +67,12 @@ number_form t s at m nd result is f = λ n off before env h.
     ∙ ap (λ x. found_in env (literal_in line (int_value x))) (spelling_told n t off before s env m h)
     ∙ ap (found_in env) (sym (literal_same line (int_value (text_at t m))))))
     (found_follows (operand_seen n) (Tells n t off before s) env (held.literal_in line (int_value (text_at t m))) result h
-    (finds_seen n (held.literal_in line (int_value (text_at t m))) result (literal_seen n line (int_value (text_at t m))) f))
+    (finds_seen n (held.literal_in line (int_value (text_at t m))) result (literal_seen n line (int_value (text_at t m))) f)))
 
 pub character_form : (t : TokenText) (s : State) (at m : ℕ) (nd : ExprNode) (result : Result Operand TypeFault)
     → nd ≡ node.CharLit m → Finds expression_of (held.character_in (line_by t m) (char_value (text_at t m))) result
-    → ReadsAs operand_seen t s s (λ _. expression at nd) result
-character_form t s at m nd result is f = λ n off before env h.
+    → ReadsMore operand_seen t s s (λ _. expression at nd) result
+character_form t s at m nd result is f = as_more operand_seen t s s (λ _. expression at nd) result (λ n off before env h.
     let line = line_by t m in
     let P : Option (Expression × Env) → Type 0 = λ o. Follows (operand_seen n) (Tells n t off before s) o result in
     subst P (sym (ap (λ x. expression at x env) is ∙ character_step at m env
@@ -79,14 +80,15 @@ character_form t s at m nd result is f = λ n off before env h.
     ∙ ap (λ x. found_in env (character_in line (char_value x))) (spelling_told n t off before s env m h)
     ∙ ap (found_in env) (sym (character_same line (char_value (text_at t m))))))
     (found_follows (operand_seen n) (Tells n t off before s) env (held.character_in line (char_value (text_at t m))) result h
-    (finds_seen n (held.character_in line (char_value (text_at t m))) result (character_seen n line (char_value (text_at t m))) f))
+    (finds_seen n (held.character_in line (char_value (text_at t m))) result (character_seen n line (char_value (text_at t m))) f)))
 
 name_step : (at m : ℕ) (env : Env) → expression at (node.Name m) env ≡ spec.named m env
 unfolding expression
 name_step at m env = refl
 
 pub name_form : (t : TokenText) (old new : State) (at m : ℕ) (nd : ExprNode) (result : Result Operand TypeFault) → nd ≡ node.Name m
-    → ReadsAs operand_seen t old new (λ _. spec.named m) result → ReadsAs operand_seen t old new (λ _. expression at nd) result
+    → ReadsAs operand_seen t old new (λ _. spec.named m) result → ReadsMore operand_seen t old new (λ _. expression at nd) result
 name_form t old new at m nd result is r =
-    same_read operand_seen t old new (λ _. spec.named m) (λ _. expression at nd) result
-    (λ n env. ap (λ x. expression at x env) is ∙ name_step at m env) r
+    as_more operand_seen t old new (λ _. expression at nd) result
+    (same_read operand_seen t old new (λ _. spec.named m) (λ _. expression at nd) result
+    (λ n env. ap (λ x. expression at x env) is ∙ name_step at m env) r)

@@ -24,7 +24,7 @@ use Rattle.type_declarators.specs.declared.declarator.Declared as held_declared
 use Rattle.type_declarators.specs.declared.words.Words as held_words
 use Rattle.type_expressions.specs.Plain.{ArePlainParams, AllPlainParams, IsPlainBase, IsPlainDeclarator, params_in}
 use Rattle.type_expressions.specs.Seen.{Namings}
-use Rattle.type_expressions.specs.Tells.{Tells, ReadsAs}
+use Rattle.type_expressions.specs.Tells.{Tells, Past, ReadsAs}
 use Rattle.type_expressions.specs.TypeNames.{specifying, parameter_in, none_left, with_parameter, parameters_of, FollowsSo, IsParameter}
 
 -- 1. A list, and the row of the tree that stands for it.
@@ -81,10 +81,10 @@ row_read variadic index (p ∷ ps) env =
 pub row_is : (variadic : Bool) (index : ℕ) (ps : List Param) → parameters variadic index (hidden-the_row-Param-4 ps) ≡ parameters_of variadic index ps
 row_is variadic index ps = fun_ext (row_read variadic index ps)
 
-pub row_plain : (ps : List Param) → ArePlainParams (hidden-the_row-Param-4 ps) → AllPlainParams ps
+pub row_plain : (t : TokenText) (ps : List Param) → ArePlainParams t (hidden-the_row-Param-4 ps) → AllPlainParams t ps
 unfolding hidden-the_row-Param-4 hidden
-row_plain [] h = tt
-row_plain (p ∷ ps) h = (h.0, row_plain ps h.1)
+row_plain t [] h = tt
+row_plain t (p ∷ ps) h = (h.0, row_plain t ps h.1)
 
 pub row_length : (ps : List Param) → params_in (hidden-the_row-Param-4 ps) ≡ length ps
 unfolding hidden-the_row-Param-4 hidden
@@ -121,13 +121,13 @@ before_end (q ∷ qs) = ap (λ (y : Params). more q.constant q.ty y) (before_end
 
 -- those that were read, behind which those that are left are read
 pub record StandsAt (t : TokenText) (variadic : Bool) (old now : State) (all : List Param) (i : ℕ) (qs : List Qual) : Type 0 where
-  pub plain : AllPlainParams (drop i all)
+  pub plain : AllPlainParams t (drop i all)
   pub count : length qs ≡ i
-  pub read : (n : Namings) (off : Bool) (before : List Use) (env : Env) → Tells n t off before old env
+  pub read : (n : Namings) (off : Bool) (before : Past) (env : Env) → Tells n t off before old env
       → (here : Env)
       × ((parameters_of variadic 0 all env ≡ behind (map qualified_of qs) (parameters_of variadic i (drop i all) here)) × Tells n t off before now here)
 
-pub first_stands : (t : TokenText) (variadic : Bool) (s : State) (all : List Param) (qs : List Qual) → qs ≡ [] → AllPlainParams all
+pub first_stands : (t : TokenText) (variadic : Bool) (s : State) (all : List Param) (qs : List Qual) → qs ≡ [] → AllPlainParams t all
     → StandsAt t variadic s s all 0 qs
 first_stands t variadic s all qs e plain =
     let P : List Qual → Type 0 = λ xs. StandsAt t variadic s s all 0 xs in
@@ -137,13 +137,13 @@ first_stands t variadic s all qs e plain =
 split : (all : List Param) (i : ℕ) (p : Param) → i < length all → p ≡ get_or all i p → drop i all ≡ p ∷ drop (i + 1) all
 split all i p h is = drop_more all i p h ∙ ap (λ y. y ∷ drop (i + 1) all) (sym is)
 
-next_plain : (all : List Param) (i : ℕ) (p : Param) → i < length all → p ≡ get_or all i p → AllPlainParams (drop i all)
-    → (IsPlainBase p.specs.base × IsPlainDeclarator p.declarator) × AllPlainParams (drop (i + 1) all)
-next_plain all i p h is plain = let P : List Param → Type 0 = λ ps. AllPlainParams ps in subst P (split all i p h is) plain
+next_plain : (t : TokenText) (all : List Param) (i : ℕ) (p : Param) → i < length all → p ≡ get_or all i p → AllPlainParams t (drop i all)
+    → (IsPlainBase t p.specs.base × IsPlainDeclarator t p.declarator) × AllPlainParams t (drop (i + 1) all)
+next_plain t all i p h is plain = let P : List Param → Type 0 = λ ps. AllPlainParams t ps in subst P (split all i p h is) plain
 
 pub next_is_plain : (t : TokenText) (variadic : Bool) (old now : State) (all : List Param) (i : ℕ) (qs : List Qual) (p : Param)
-    → i < length all → p ≡ get_or all i p → StandsAt t variadic old now all i qs → IsPlainBase p.specs.base × IsPlainDeclarator p.declarator
-next_is_plain t variadic old now all i qs p h is s = (next_plain all i p h is s.plain).0
+    → i < length all → p ≡ get_or all i p → StandsAt t variadic old now all i qs → IsPlainBase t p.specs.base × IsPlainDeclarator t p.declarator
+next_is_plain t variadic old now all i qs p h is s = (next_plain t all i p h is s.plain).0
 
 -- there are fewer than there may be
 pub few_read : (t : TokenText) (variadic : Bool) (old now : State) (all : List Param) (i : ℕ) (qs : List Qual) (m : ℕ) → StandsAt t variadic old now all i qs
@@ -217,7 +217,7 @@ void_is all i variadic lone void p h found x e below named voids said =
 -- a parameter that is read
 abbrev pub Read : TokenText → (old new : State) → Param → held_words.Words → held_declared.Declared → Type 0
 Read t old new p h found =
-    (n : Namings) (off : Bool) (before : List Use) (env : Env) → Tells n t off before old env
+    (n : Namings) (off : Bool) (before : Past) (env : Env) → Tells n t off before old env
     → FollowsSo IsParameter (Tells n t off before new) (parameter_in p env) (Ok (h, found))
 
 pub lone_stands : (t : TokenText) (variadic : Bool) (old mid later : State) (all : List Param) (i : ℕ) (qs : List Qual) (p : Param) (h : held_words.Words)
@@ -270,7 +270,7 @@ pub next_stands : (t : TokenText) (variadic : Bool) (old mid later new : State) 
 next_stands t variadic old mid later new all i m qs extended p h found lone void q below at e s read named voids kept index declares longer =
     let P : List Qual → Type 0 = λ xs. StandsAt t variadic old new all (i + 1) xs in
     subst P (sym longer) (record {
-      plain = (next_plain all i p below at s.plain).1;
+      plain = (next_plain t all i p below at s.plain).1;
       count = length-append qs (q ∷ []) ∙ ap (λ (k : ℕ). k + 1) s.count;
       read = λ n off before env tells.
           let g = s.read n off before env tells in
@@ -296,7 +296,7 @@ pub next_none : {A : Type 0} (view : A → Params) (t : TokenText)
     (variadic : Bool) (old mid later new : State) (all : List Param) (i : ℕ) (qs : List Qual) (p : Param)
     (x : TypeFault)
     → i < length all → p ≡ get_or all i p → StandsAt t variadic old mid all i qs
-    → ((n : Namings) (off : Bool) (before : List Use) (env : Env) → Tells n t off before mid env → x ≢ NoMemory → parameter_in p env ≡ None)
+    → ((n : Namings) (off : Bool) (before : Past) (env : Env) → Tells n t off before mid env → x ≢ NoMemory → parameter_in p env ≡ None)
     → ReadsAs (λ _. view) t old new (λ _. parameters_of variadic 0 all) (Err x)
 next_none view t variadic old mid later new all i qs p x below at s read = λ n off before env tells other.
     let g = s.read n off before env tells in

@@ -35,7 +35,7 @@ use Rattle.type_declarators.specs.declared.declarator.Derivation.TheVariants as 
 use Rattle.type_declarators.specs.declared.words.Words as held_words
 use Rattle.type_expressions.specs.Plain.{IsPlain, IsPlainDeclarator, AllPlainParams, AllPlainEnumerators}
 use Rattle.type_expressions.specs.Seen.{Namings}
-use Rattle.type_expressions.specs.Tells.{Tells, ReadsAs}
+use Rattle.type_expressions.specs.Tells.{Tells, Past, ReadsAs}
 use Rattle.type_expressions.specs.TypeNames.{specifying, parameter_in, enumeration_with, AllPlainOption, FollowsSo, IsSpecified, IsParameter, AreParts}
 use Rattle.type_expressions.specs.TypeNames.{named_by, parameters_of}
 use Rattle.type_expressions.proofs.Declaring.{Small, declared_read, inner_pointer, inner_array, inner_size, inner_function}
@@ -47,7 +47,7 @@ use Rattle.type_expressions.proofs.Specifying.{specified_by, so_specified}
 -- what specifiers give, from a state to another
 abbrev pub Specifies : TokenText → (old new : State) → Param → Result (held_words.Words × Qual) TypeFault → Type 0
 Specifies t old new p result =
-    (n : Namings) (off : Bool) (before : List Use) (env : Env) → Tells n t off before old env
+    (n : Namings) (off : Bool) (before : Past) (env : Env) → Tells n t off before old env
     → FollowsSo IsSpecified (Tells n t off before new) (specified p.specs.words p.specs.base false env) result
 
 abbrev Declares : TokenText → (old new : State) → Param → Qual → Result held_declared.Declared TypeFault → Type 0
@@ -63,7 +63,7 @@ behind_type ws o = and_then o (λ y. pure (specifying ws y))
 
 pub parameter_read : (t : TokenText) (old mid new : State) (p : Param) (h : held_words.Words) (q : Qual) (found : held_declared.Declared)
     → Specifies t old mid p (Ok (h, q)) → Declares t mid new p q (Ok found)
-    → (n : Namings) (off : Bool) (before : List Use) (env : Env) → Tells n t off before old env
+    → (n : Namings) (off : Bool) (before : Past) (env : Env) → Tells n t off before old env
     → FollowsSo IsParameter (Tells n t off before new) (parameter_in p env) (Ok (h, found))
 parameter_read t old mid new p h q found first second n off before env tells =
     let g = first n off before env tells in
@@ -82,7 +82,7 @@ parameter_read t old mid new p h q found first second n off before env tells =
 
 pub parameter_none : (t : TokenText) (old mid new : State) (p : Param) (h : held_words.Words) (q : Qual) (e : TypeFault)
     → Specifies t old mid p (Ok (h, q)) → Declares t mid new p q (Err e)
-    → (n : Namings) (off : Bool) (before : List Use) (env : Env) → Tells n t off before old env → e ≢ NoMemory → parameter_in p env ≡ None
+    → (n : Namings) (off : Bool) (before : Past) (env : Env) → Tells n t off before old env → e ≢ NoMemory → parameter_in p env ≡ None
 parameter_none t old mid new p h q e first second n off before env tells other =
     let g = first n off before env tells in
     ap (λ (o : Option (Specified × Env)). and_then o (behind p)) g.1.1.0
@@ -90,12 +90,12 @@ parameter_none t old mid new p h q e first second n off before env tells other =
     ∙ ap (behind_type (g.0).words) (second n off before g.1.0 g.1.1.1.1 other)
 
 pub unspecified_none : (t : TokenText) (old mid : State) (p : Param) (e : TypeFault) → Specifies t old mid p (Err e)
-    → (n : Namings) (off : Bool) (before : List Use) (env : Env) → Tells n t off before old env → e ≢ NoMemory → parameter_in p env ≡ None
+    → (n : Namings) (off : Bool) (before : Past) (env : Env) → Tells n t off before old env → e ≢ NoMemory → parameter_in p env ≡ None
 unspecified_none t old mid p e first n off before env tells other =
     ap (λ (o : Option (Specified × Env)). and_then o (behind p)) (first n off before env tells other)
 
 -- specifiers, where the code names their keywords so
-pub same_specified : (t : TokenText) (new : State) (words all some : List Word) (base : Base) (alone bare : Bool) (n : Namings) (off : Bool) (before : List Use)
+pub same_specified : (t : TokenText) (new : State) (words all some : List Word) (base : Base) (alone bare : Bool) (n : Namings) (off : Bool) (before : Past)
     (env : Env) (result : Result (held_words.Words × Qual) TypeFault) → all ≡ words → some ≡ words → bare ≡ (alone && is_no_word some)
     → FollowsSo IsSpecified (Tells n t off before new) (specified_by bare (said all) base env) result
     → FollowsSo IsSpecified (Tells n t off before new) (specified words base alone env) result
@@ -136,8 +136,8 @@ listed view t old new tag all es r is h =
     let P : Option (List Enumerator) → Type 0 = λ x. ReadsAs (λ _. view) t old new (λ _. enumeration_with tag x) r in
     subst P (sym is) h
 
-pub listed_plain : (all : Option (List Enumerator)) (es : List Enumerator) → all ≡ Some es → AllPlainOption all → AllPlainEnumerators es
-listed_plain all es is h = let P : Option (List Enumerator) → Type 0 = λ x. AllPlainOption x in subst P is h
+pub listed_plain : (t : TokenText) (all : Option (List Enumerator)) (es : List Enumerator) → all ≡ Some es → AllPlainOption t all → AllPlainEnumerators t es
+listed_plain t all es is h = let P : Option (List Enumerator) → Type 0 = λ x. AllPlainOption t x in subst P is h
 
 pub no_members : {A : Type 0} (ms : Option A) (es : A) → ms ≡ None → ms ≡ Some es → ⊥
 no_members ms es none some = none-some es (sym none ∙ some)
@@ -175,28 +175,28 @@ parameter_kept t old new m ws name q r kept f = known_read qualified_of t old ne
 pub declared_from : {A : Type 0} (view : A → Qualified) (t : TokenText) (old s : State) (d : Declarator) (first parts : List held.Derivation) (name : Option ℕ)
     (q : Qualified) (r : Result A TypeFault)
     → first ≡ []
-    → ((n : Namings) (off : Bool) (before : List Use) (env : Env) → Tells n t off before old env
+    → ((n : Namings) (off : Bool) (before : Past) (env : Env) → Tells n t off before old env
     → FollowsSo (AreParts first parts) (Tells n t off before s) (derivations d env) (Ok name))
     → (AllFit parts → Finds view (derived (map tag_seen s.tags) (parts_seen parts) q) r) → ReadsAs (λ _. view) t old s (λ _. declared q d) r
 declared_from view t old s d first parts name q r none reads f =
-    let P : List held.Derivation → Type 0 = λ xs. (n : Namings) (off : Bool) (before : List Use) (env : Env) → Tells n t off before old env
+    let P : List held.Derivation → Type 0 = λ xs. (n : Namings) (off : Bool) (before : Past) (env : Env) → Tells n t off before old env
     → FollowsSo (AreParts xs parts) (Tells n t off before s) (derivations d env) (Ok name) in
     declared_read view t old s d parts name q r (subst P none reads) f
 
 -- the declarator inside
-pub pointer_inside : (d inside : Declarator) (words : List Word) → d ≡ declarator.Pointer words inside → IsPlainDeclarator d → IsPlainDeclarator inside
-pointer_inside d inside words is h = inner_pointer words inside (subst IsPlainDeclarator is h)
+pub pointer_inside : (t : TokenText) (d inside : Declarator) (words : List Word) → d ≡ declarator.Pointer words inside → IsPlainDeclarator t d → IsPlainDeclarator t inside
+pointer_inside t d inside words is h = inner_pointer t words inside (subst (IsPlainDeclarator t) is h)
 
-pub array_inside : (d inside : Declarator) → d ≡ declarator.Array inside None → IsPlainDeclarator d → IsPlainDeclarator inside
-array_inside d inside is h = inner_array inside (subst IsPlainDeclarator is h)
+pub array_inside : (t : TokenText) (d inside : Declarator) → d ≡ declarator.Array inside None → IsPlainDeclarator t d → IsPlainDeclarator t inside
+array_inside t d inside is h = inner_array t inside (subst (IsPlainDeclarator t) is h)
 
-pub size_inside : (d inside : Declarator) (x : Expr) → d ≡ declarator.Array inside (Some x) → IsPlainDeclarator d
-    → IsPlainDeclarator inside × (IsPlain x.node × Small x)
-size_inside d inside x is h = inner_size inside x (subst IsPlainDeclarator is h)
+pub size_inside : (t : TokenText) (d inside : Declarator) (x : Expr) → d ≡ declarator.Array inside (Some x) → IsPlainDeclarator t d
+    → IsPlainDeclarator t inside × (IsPlain t x.node × Small x)
+size_inside t d inside x is h = inner_size t inside x (subst (IsPlainDeclarator t) is h)
 
-pub function_inside : (d inside : Declarator) (ps : List Param) (v : Bool) → d ≡ declarator.Function inside ps v → IsPlainDeclarator d
-    → IsPlainDeclarator inside × (AllPlainParams ps × (length ps < 2 ^ 32))
-function_inside d inside ps v is h = inner_function inside ps v (subst IsPlainDeclarator is h)
+pub function_inside : (t : TokenText) (d inside : Declarator) (ps : List Param) (v : Bool) → d ≡ declarator.Function inside ps v → IsPlainDeclarator t d
+    → IsPlainDeclarator t inside × (AllPlainParams t ps × (length ps < 2 ^ 32))
+function_inside t d inside ps v is h = inner_function t inside ps v (subst (IsPlainDeclarator t) is h)
 
 -- as the code names its parts
 pub pointer_is : (d inside got : Declarator) (words : List Word) → d ≡ declarator.Pointer words inside → got ≡ inside → d ≡ declarator.Pointer words got

@@ -29,7 +29,7 @@ use Rattle.type_declarators.specs.Parts.{is_plain, with_keywords}
 use Rattle.type_declarators.specs.declared.words.Words as held
 use Rattle.type_expressions.specs.Plain.{IsPlainBase}
 use Rattle.type_expressions.specs.Seen.{Namings}
-use Rattle.type_expressions.specs.Tells.{Tells, ReadsAs}
+use Rattle.type_expressions.specs.Tells.{Tells, Past, ReadsAs}
 use Rattle.type_expressions.specs.TypeNames.{type_before, enumeration_with, AllPlainOption, FollowsSo, IsSpecified}
 use Rattle.type_expressions.proofs.Enumerators.{row_plain, with_list}
 use Rattle.type_expressions.proofs.Following.{found_follows, same_read}
@@ -108,7 +108,7 @@ specified_is words (Enumerated' tag all) alone env = enumerated_is (alone && is_
 pub specified_ok : (t : TokenText) (old new : State) (b : Bool) (o : Option Words) (base : Base) (h : held.Words) (q q2 : Qual)
     → Says h o → ((ws : Words) → IsSaid h ws → ReadsAs (λ _. qualified_of) t old new (λ _. type_before b ws base) (Ok q))
     → ((some : Option Words) → Says h some → Finds qualified_of (with_keywords (is_plain base) some (qualified_of q)) (Ok q2))
-    → (n : Namings) (off : Bool) (before : List Use) (env : Env) → Tells n t off before old env
+    → (n : Namings) (off : Bool) (before : Past) (env : Env) → Tells n t off before old env
     → FollowsSo IsSpecified (Tells n t off before new) (specified_by b o base env) (Ok (h, q2))
 specified_ok t old new b None base h q q2 says read suits n off before env tells = absurd (none-some (qualified_of q2) (suits None says))
 specified_ok t old new b (Some ws) base h q q2 says read suits n off before env tells =
@@ -130,7 +130,7 @@ specified_ok t old new b (Some ws) base h q q2 says read suits n off before env 
 pub specified_none : (t : TokenText) (old mid new : State) (b : Bool) (o : Option Words) (base : Base) (h : held.Words) (q : Qual) (e : TypeFault)
     → Says h o → ((ws : Words) → IsSaid h ws → ReadsAs (λ _. qualified_of) t old mid (λ _. type_before b ws base) (Ok q))
     → ((some : Option Words) → Says h some → Finds qualified_of (with_keywords (is_plain base) some (qualified_of q)) (Err e))
-    → (n : Namings) (off : Bool) (before : List Use) (env : Env) → Tells n t off before old env → e ≢ NoMemory → specified_by b o base env ≡ None
+    → (n : Namings) (off : Bool) (before : Past) (env : Env) → Tells n t off before old env → e ≢ NoMemory → specified_by b o base env ≡ None
 specified_none t old mid new b None base h q e says read suits n off before env tells other = refl
 specified_none t old mid new b (Some ws) base h q e says read suits n off before env tells other =
     let g = read ws says n off before env tells in
@@ -141,14 +141,14 @@ specified_none t old mid new b (Some ws) base h q e says read suits n off before
 -- .. and where there is no type
 pub untyped_none : (t : TokenText) (old mid : State) (b : Bool) (o : Option Words) (base : Base) (h : held.Words) (e : TypeFault)
     → Says h o → ((ws : Words) → IsSaid h ws → ReadsAs (λ _. qualified_of) t old mid (λ _. type_before b ws base) (Err e))
-    → (n : Namings) (off : Bool) (before : List Use) (env : Env) → Tells n t off before old env → e ≢ NoMemory → specified_by b o base env ≡ None
+    → (n : Namings) (off : Bool) (before : Past) (env : Env) → Tells n t off before old env → e ≢ NoMemory → specified_by b o base env ≡ None
 untyped_none t old mid b None base h e says read n off before env tells other = refl
 untyped_none t old mid b (Some ws) base h e says read n off before env tells other =
     ap (λ (p : Option (Qualified × Env)). and_then p (λ x. found (specified_with ws (if is_plain base || is_no_word ws.types then with_qualifiers ws x
     else None)))) (read ws says n off before env tells other)
 
 -- as specifiers
-pub so_specified : (t : TokenText) (new : State) (words : List Word) (base : Base) (alone : Bool) (n : Namings) (off : Bool) (before : List Use) (env : Env)
+pub so_specified : (t : TokenText) (new : State) (words : List Word) (base : Base) (alone : Bool) (n : Namings) (off : Bool) (before : Past) (env : Env)
     (result : Result (held.Words × Qual) TypeFault)
     → FollowsSo IsSpecified (Tells n t off before new) (specified_by (alone && is_no_word words) (said words) base env) result
     → FollowsSo IsSpecified (Tells n t off before new) (specified words base alone env) result
@@ -220,21 +220,21 @@ unqualified_read t old new p ty q is h = λ n off before env tells.
     (g.0, g.1 ∙ ap (λ (x : Qualified). let r : Qualified × Env = (x, g.0) in Some r) (sym is), g.2)
 
 -- one with a list is left
-plain_tag : (is_union : Bool) (tag : Option ℕ) (ms : Option (List MemberEntry)) → IsPlainBase (base_form.Tagged is_union tag ms) → ms ≡ None
-plain_tag is_union tag None h = refl
-plain_tag is_union tag (Some all) h = absurd h
+plain_tag : (t : TokenText) (is_union : Bool) (tag : Option ℕ) (ms : Option (List MemberEntry)) → IsPlainBase t (base_form.Tagged is_union tag ms) → ms ≡ None
+plain_tag t is_union tag None h = refl
+plain_tag t is_union tag (Some all) h = absurd h
 
-pub tag_is_plain : (base : Base) (is_union : Bool) (tag : Option ℕ) (ms : Option (List MemberEntry)) → base ≡ base_form.Tagged is_union tag ms
-    → IsPlainBase base → ms ≡ None
-tag_is_plain base is_union tag ms is h = plain_tag is_union tag ms (let P : Base → Type 0 = λ b. IsPlainBase b in subst P is h)
+pub tag_is_plain : (t : TokenText) (base : Base) (is_union : Bool) (tag : Option ℕ) (ms : Option (List MemberEntry)) → base ≡ base_form.Tagged is_union tag ms
+    → IsPlainBase t base → ms ≡ None
+tag_is_plain t base is_union tag ms is h = plain_tag t is_union tag ms (let P : Base → Type 0 = λ b. IsPlainBase t b in subst P is h)
 
-plain_enumeration : (tag : Option ℕ) (all : Option (List Enumerator)) → IsPlainBase (base_form.Enumerated tag all) → AllPlainOption all
-plain_enumeration tag None h = tt
-plain_enumeration tag (Some es) h = row_plain es h
+plain_enumeration : (t : TokenText) (tag : Option ℕ) (all : Option (List Enumerator)) → IsPlainBase t (base_form.Enumerated tag all) → AllPlainOption t all
+plain_enumeration t tag None h = tt
+plain_enumeration t tag (Some es) h = row_plain t es h
 
-pub enumeration_is_plain : (base : Base) (tag : Option ℕ) (all : Option (List Enumerator)) → base ≡ base_form.Enumerated tag all → IsPlainBase base
-    → AllPlainOption all
-enumeration_is_plain base tag all is h = plain_enumeration tag all (let P : Base → Type 0 = λ b. IsPlainBase b in subst P is h)
+pub enumeration_is_plain : (t : TokenText) (base : Base) (tag : Option ℕ) (all : Option (List Enumerator)) → base ≡ base_form.Enumerated tag all → IsPlainBase t base
+    → AllPlainOption t all
+enumeration_is_plain t base tag all is h = plain_enumeration t tag all (let P : Base → Type 0 = λ b. IsPlainBase t b in subst P is h)
 
 -- no keyword
 pub is_no_words : (words : List Word) → (length words == 0) ≡ is_no_word words

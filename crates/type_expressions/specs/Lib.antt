@@ -2,5 +2,6 @@ pub mod Forms
 pub mod Plain
 pub mod Seen
 pub mod Standing
+pub mod Strings
 pub mod Tells
 pub mod TypeNames

@@ -1,5 +1,6 @@
 -- Type names, specifiers, declarators and parameters, by their parts (6.7, 6.7.2, 6.7.6, 6.7.7).
 use Rattle.std.specs.Prelude.{◌≡◌, ◌≢◌, ℕ, ◌+◌, Bool, true, false, if◌then◌else◌, List, [], ◌∷◌, ◌++◌, ℤ, Option, Some, None, Result, Ok, Err}
+use Rattle.c_lex.specs.TokenText.{TokenText}
 use Rattle.c_ast.specs.declared.declaration.Base.TheBlock.{Plain, Tagged', Enumerated', Typedef}
 use Rattle.c_ast.specs.declared.declaration.Base.TheBlock.{Held-Enumerator-value, Enumerator-value-None', Enumerator-value-Some'}
 use Rattle.c_ast.specs.declared.declaration.Base.{Base}
@@ -93,9 +94,9 @@ abbrev pub enumeration_with : Option ℕ → Option (List Enumerator) → Typing
 enumeration_with tag None = enumeration_reference tag
 enumeration_with tag (Some es) = open_enumeration tag >>= λ n. enumerators_of None es >>= λ _. close_enumeration n
 
-abbrev pub AllPlainOption : Option (List Enumerator) → Type 0
-AllPlainOption None = Unit {0}
-AllPlainOption (Some es) = AllPlainEnumerators es
+abbrev pub AllPlainOption : TokenText → Option (List Enumerator) → Type 0
+AllPlainOption t None = Unit {0}
+AllPlainOption t (Some es) = AllPlainEnumerators t es
 
 -- 4. What calls answer.
 

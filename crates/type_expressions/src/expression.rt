@@ -5,7 +5,7 @@ ghost use Rattle.c_types.specs.Types.{type_of, qualified_of, params_of};
 ghost use Rattle.type_conversions.specs.Casts as casts;
 ghost use Rattle.type_calls.specs.Choices.{chosen};
 ghost use Rattle.type_operators.specs.Operators.{indexed};
-ghost use Rattle.typing_env.specs.Env.{Env, Use, spelling, unevaluated};
+ghost use Rattle.typing_env.specs.Env.{Env, spelling, unevaluated};
 ghost use Rattle.typing_env.specs.Names.{in_prototype};
 ghost use Rattle.typing_words.specs.Words as spec_words;
 ghost use Rattle.typing_spec.specs.Expressions as spec;
@@ -14,7 +14,7 @@ ghost use Rattle.type_expressions.specs.Forms.{member_by};
 ghost use Rattle.type_expressions.specs.Plain.{IsPlain, IsPlainBase, IsPlainDeclarator, IsPlainName, AllPlain, AllPlainParams, AllPlainEnumerators};
 ghost use Rattle.type_expressions.specs.Plain.{IsPlainEnumerator, operands_of};
 ghost use Rattle.type_expressions.specs.Seen.{Namings, operand_seen};
-ghost use Rattle.type_expressions.specs.Tells.{Tells, ReadsAs, line_by, read_then};
+ghost use Rattle.type_expressions.specs.Tells.{Tells, Past, ReadsAs, ReadsMore, line_by, read_then};
 ghost use Rattle.type_expressions.specs.TypeNames.{type_by, type_before, parameter_in, parameters_of, value_in, enumerators_of, enumeration_with};
 ghost use Rattle.type_expressions.specs.TypeNames.{AllPlainOption, FollowsSo, IsSpecified, IsParameter, AreParts};
 
@@ -38,7 +38,7 @@ use ub_base::Items;
 /// nesting costs the host's stack little.
 #[cycle(expression)]
 pub fn expression(source: &Source<'_>, state: &mut State, e: &Expr) -> Result<Operand, TypeFault>
-    ensures { IsPlain e.now.node → ReadsAs operand_seen source.now state.old state.new (λ _. spec.expr e.now) result }
+    ensures { IsPlain source.now e.now.node → ReadsMore operand_seen source.now state.old state.new (λ _. spec.expr e.now) result }
 {
     let line = source.line(e.at);
     match &e.node {
@@ -96,8 +96,8 @@ fn unary(
     op: UnaryOp,
     line: u32,
 ) -> Result<Operand, TypeFault>
-    ensures { (at : ℕ) → line ≡ line_by source.now at → IsPlain a.now.node →
-        ReadsAs operand_seen source.now state.old state.new (λ _. read_then (spec.expr a.now) (λ y. spec.made_modifying at (spec.unary op y))) result }
+    ensures { (at : ℕ) → line ≡ line_by source.now at → IsPlain source.now a.now.node →
+        ReadsMore operand_seen source.now state.old state.new (λ _. read_then (spec.expr a.now) (λ y. spec.made_modifying at (spec.unary op y))) result }
 {
     let a = expression(source, state, a)?;
     apply::unary(state, op, a, line)
@@ -113,8 +113,8 @@ fn postfix(
     op: PostOp,
     line: u32,
 ) -> Result<Operand, TypeFault>
-    ensures { (at : ℕ) → line ≡ line_by source.now at → IsPlain a.now.node →
-        ReadsAs operand_seen source.now state.old state.new (λ _. read_then (spec.expr a.now) (λ y. spec.made_modifying at (spec.postfix op y))) result }
+    ensures { (at : ℕ) → line ≡ line_by source.now at → IsPlain source.now a.now.node →
+        ReadsMore operand_seen source.now state.old state.new (λ _. read_then (spec.expr a.now) (λ y. spec.made_modifying at (spec.postfix op y))) result }
 {
     let a = expression(source, state, a)?;
     apply::postfix(state, op, a, line)
@@ -131,8 +131,8 @@ fn binary(
     a: Operand,
     line: u32,
 ) -> Result<Operand, TypeFault>
-    ensures { (at : ℕ) → line ≡ line_by source.now at → IsPlain b.now.node →
-        ReadsAs operand_seen source.now state.old state.new
+    ensures { (at : ℕ) → line ≡ line_by source.now at → IsPlain source.now b.now.node →
+        ReadsMore operand_seen source.now state.old state.new
         (λ n. read_then (spec.expr b.now) (λ w. spec.made at (spec.binary op (operand_seen n a) w))) result }
 {
     let b = expression(source, state, b)?;
@@ -150,7 +150,7 @@ fn assignment(
     a: Operand,
     line: u32,
 ) -> Result<Operand, TypeFault>
-    ensures { (at : ℕ) → line ≡ line_by source.now at → IsPlain b.now.node → ReadsAs operand_seen source.now state.old state.new
+    ensures { (at : ℕ) → line ≡ line_by source.now at → IsPlain source.now b.now.node → ReadsMore operand_seen source.now state.old state.new
         (λ n. read_then (spec.expr b.now) (λ w. spec.made_modifying at (spec.assigned op (operand_seen n a) w))) result }
 {
     let b = expression(source, state, b)?;
@@ -168,7 +168,7 @@ fn conditional(
     b: Operand,
     line: u32,
 ) -> Result<Operand, TypeFault>
-    ensures { (at : ℕ) → line ≡ line_by source.now at → IsPlain c.now.node → ReadsAs operand_seen source.now state.old state.new
+    ensures { (at : ℕ) → line ≡ line_by source.now at → IsPlain source.now c.now.node → ReadsMore operand_seen source.now state.old state.new
         (λ n. read_then (spec.expr c.now) (λ z. spec.made at (λ tags. chosen tags (operand_seen n a) (operand_seen n b) z))) result }
 {
     let c = expression(source, state, c)?;
@@ -185,7 +185,7 @@ fn subscript(
     a: Operand,
     line: u32,
 ) -> Result<Operand, TypeFault>
-    ensures { (at : ℕ) → line ≡ line_by source.now at → IsPlain b.now.node → ReadsAs operand_seen source.now state.old state.new
+    ensures { (at : ℕ) → line ≡ line_by source.now at → IsPlain source.now b.now.node → ReadsMore operand_seen source.now state.old state.new
         (λ n. read_then (spec.expr b.now) (λ w. spec.made at (λ tags. indexed tags (operand_seen n a) w))) result }
 {
     let b = expression(source, state, b)?;
@@ -203,7 +203,7 @@ fn member(
     name: u32,
     line: u32,
 ) -> Result<Operand, TypeFault>
-    ensures { (at : ℕ) → line ≡ line_by source.now at → IsPlain a.now.node → ReadsAs operand_seen source.now state.old state.new
+    ensures { (at : ℕ) → line ≡ line_by source.now at → IsPlain source.now a.now.node → ReadsMore operand_seen source.now state.old state.new
         (λ _. read_then (spec.expr a.now) (λ y k. spec.made at (λ tags. member_by arrow tags y (spelling k name)) k)) result }
 {
     let a = expression(source, state, a)?;
@@ -220,7 +220,7 @@ fn cast(
     to: Qual,
     line: u32,
 ) -> Result<Operand, TypeFault>
-    ensures { (at : ℕ) → line ≡ line_by source.now at → IsPlain a.now.node → ReadsAs operand_seen source.now state.old state.new
+    ensures { (at : ℕ) → line ≡ line_by source.now at → IsPlain source.now a.now.node → ReadsMore operand_seen source.now state.old state.new
         (λ _. read_then (spec.expr a.now) (λ y. spec.made at (λ tags. casts.cast tags (qualified_of to).ty y))) result }
 {
     let a = expression(source, state, a)?;
@@ -236,8 +236,8 @@ fn size_of_operand(
     a: &Expr,
     line: u32,
 ) -> Result<Operand, TypeFault>
-    ensures { (at : ℕ) → line ≡ line_by source.now at → IsPlain a.now.node →
-        ReadsAs operand_seen source.now state.old state.new (λ _. read_then (unevaluated (spec.expr a.now)) (λ y. spec.measured_operand at y)) result }
+    ensures { (at : ℕ) → line ≡ line_by source.now at → IsPlain source.now a.now.node →
+        ReadsMore operand_seen source.now state.old state.new (λ _. read_then (unevaluated (spec.expr a.now)) (λ y. spec.measured_operand at y)) result }
 {
     let mark = state.suspend();
     let a = expression(source, state, a)?;
@@ -254,7 +254,7 @@ fn size_of_type(
     ty: &TypeName,
     at: u32,
 ) -> Result<Operand, TypeFault>
-    ensures { IsPlainName ty.now → ReadsAs operand_seen source.now state.old state.new
+    ensures { IsPlainName source.now ty.now → ReadsMore operand_seen source.now state.old state.new
         (λ _. read_then (type_by ty.now) (λ q. spec.measured at (λ e. e.size) q.ty)) result }
 {
     let qual = type_name(source, state, ty, at)?;
@@ -270,7 +270,7 @@ fn alignment_of_type(
     ty: &TypeName,
     at: u32,
 ) -> Result<Operand, TypeFault>
-    ensures { IsPlainName ty.now → ReadsAs operand_seen source.now state.old state.new
+    ensures { IsPlainName source.now ty.now → ReadsMore operand_seen source.now state.old state.new
         (λ _. read_then (type_by ty.now) (λ q. spec.measured at (λ e. e.align) q.ty)) result }
 {
     let qual = type_name(source, state, ty, at)?;
@@ -283,7 +283,7 @@ fn expressions(
     state: &mut State,
     all: &[Expr],
 ) -> Result<Vec<Operand>, TypeFault>
-    ensures { AllPlain all.now → ReadsAs (λ n v. map (operand_seen n) v.items) source.now state.old state.new (λ _. operands_of all.now) result }
+    ensures { AllPlain source.now all.now → ReadsMore (λ n v. map (operand_seen n) v.items) source.now state.old state.new (λ _. operands_of all.now) result }
 {
     let mut operands = Vec::new(state.alloc);
     for e in all {
@@ -301,7 +301,7 @@ pub fn constant(
     e: &Expr,
     reason: Reason,
 ) -> Result<i128, TypeFault>
-    ensures { IsPlain e.now.node → ReadsAs (λ _ z. z) source.now state.old state.new (λ _. spec.constant e.now) result }
+    ensures { IsPlain source.now e.now.node → ReadsAs (λ _ z. z) source.now state.old state.new (λ _. spec.constant e.now) result }
 {
     let mark = state.mark();
     let operand = expression(source, state, e)?;
@@ -317,7 +317,7 @@ pub fn type_name(
     name: &TypeName,
     at: u32,
 ) -> Result<Qual, TypeFault>
-    ensures { IsPlainName name.now → ReadsAs (λ _. qualified_of) source.now state.old state.new (λ _. type_by name.now) result }
+    ensures { IsPlainName source.now name.now → ReadsAs (λ _. qualified_of) source.now state.old state.new (λ _. type_by name.now) result }
 {
     let (words, base) = specified(source, state, &name.specs, at, false)?;
     if !are_qualified(&words) {
@@ -343,7 +343,7 @@ pub fn specified(
     at: u32,
     alone: bool,
 ) -> Result<(Words, Qual), TypeFault>
-    ensures { IsPlainBase specs.now.base → (n : Namings) (off : Bool) (before : List Use) (env : Env) → Tells n source.now off before state.old env →
+    ensures { IsPlainBase source.now specs.now.base → (n : Namings) (off : Bool) (before : Past) (env : Env) → Tells n source.now off before state.old env →
         FollowsSo IsSpecified (Tells n source.now off before state.new) (spec.specified specs.now.words specs.now.base alone env) result }
 {
     let words = read_words(specs.words.as_slice());
@@ -370,7 +370,7 @@ fn type_before(
     at: u32,
     alone: bool,
 ) -> Result<Qual, TypeFault>
-    ensures { IsPlainBase specs.now.base → (ws : spec_words.Words) → IsSaid words.now ws →
+    ensures { IsPlainBase source.now specs.now.base → (ws : spec_words.Words) → IsSaid words.now ws →
         ReadsAs (λ _. qualified_of) source.now state.old state.new (λ _. type_before alone ws specs.now.base) result }
 {
     match &specs.base {
@@ -425,7 +425,7 @@ fn enumeration(
     enumerators: &Option<Items<Enumerator>>,
     at: u32,
 ) -> Result<Ty, TypeFault>
-    ensures { AllPlainOption enumerators.now → ReadsAs (λ _ ty. spec_words.plain (type_of ty)) source.now state.old state.new
+    ensures { AllPlainOption source.now enumerators.now → ReadsAs (λ _ ty. spec_words.plain (type_of ty)) source.now state.old state.new
         (λ _. enumeration_with tag enumerators.now) result }
 {
     match enumerators {
@@ -499,7 +499,7 @@ fn members(
 // The constants of an enumeration: each in scope behind itself (6.7.2.2).
 #[cycle(expression)]
 fn enumerated(source: &Source<'_>, state: &mut State, list: &[Enumerator]) -> Result<(), TypeFault>
-    ensures { AllPlainEnumerators list.now → ReadsAs (λ _ u. u) source.now state.old state.new (λ _. enumerators_of None list.now) result }
+    ensures { AllPlainEnumerators source.now list.now → ReadsAs (λ _ u. u) source.now state.old state.new (λ _. enumerators_of None list.now) result }
 {
     let mut before = None;
     for e in list {
@@ -517,7 +517,7 @@ fn enumerator_value(
     state: &mut State,
     e: &Enumerator,
 ) -> Result<Option<i128>, TypeFault>
-    ensures { IsPlainEnumerator e.now → ReadsAs (λ _ v. v) source.now state.old state.new (λ _. value_in e.now) result }
+    ensures { IsPlainEnumerator source.now e.now → ReadsAs (λ _ v. v) source.now state.old state.new (λ _. value_in e.now) result }
 {
     match &e.value {
         None => Ok(None),
@@ -537,7 +537,7 @@ pub fn declared(
     base: Qual,
     at: u32,
 ) -> Result<Declared, TypeFault>
-    ensures reads { IsPlainDeclarator d.now → ReadsAs (λ _ found. qualified_of found.qual) source.now state.old state.new
+    ensures reads { IsPlainDeclarator source.now d.now → ReadsAs (λ _ found. qualified_of found.qual) source.now state.old state.new
         (λ _. spec.declared (qualified_of base) d.now) result }
     ensures name { IfOk result (λ found. found.name ≡ name_of d.now) }
 {
@@ -558,7 +558,7 @@ fn derivations(
     parts: &mut Vec<Derivation>,
 ) -> Result<Option<u32>, TypeFault>
     ensures name { IfOk result (λ name. name ≡ name_of d.now) }
-    ensures reads { IsPlainDeclarator d.now → (n : Namings) (off : Bool) (before : List Use) (env : Env) → Tells n source.now off before state.old env →
+    ensures reads { IsPlainDeclarator source.now d.now → (n : Namings) (off : Bool) (before : Past) (env : Env) → Tells n source.now off before state.old env →
         FollowsSo (AreParts parts.old.items parts.new.items) (Tells n source.now off before state.new) (spec.derivations d.now env) result }
 {
     match d {
@@ -599,7 +599,7 @@ fn prototype(
     at: u32,
     own: bool,
 ) -> Result<Items<Qual>, TypeFault>
-    ensures { AllPlainParams params.now → length params.now < 2 ^ 32 → ReadsAs (λ _ quals. params_of (map qualified_of quals)) source.now state.old state.new
+    ensures { AllPlainParams source.now params.now → length params.now < 2 ^ 32 → ReadsAs (λ _ quals. params_of (map qualified_of quals)) source.now state.old state.new
         (λ _. in_prototype own (parameters_of variadic 0 params.now)) result }
 {
     state.enter_scope()?;
@@ -632,7 +632,7 @@ fn parameters(
     lone: bool,
     at: u32,
 ) -> Result<Items<Qual>, TypeFault>
-    ensures { (variadic : Bool) → lone ≡ ((length params.now == 1) && not variadic) → AllPlainParams params.now → length params.now < 2 ^ 32 →
+    ensures { (variadic : Bool) → lone ≡ ((length params.now == 1) && not variadic) → AllPlainParams source.now params.now → length params.now < 2 ^ 32 →
         ReadsAs (λ _ quals. params_of (map qualified_of quals)) source.now state.old state.new (λ _. parameters_of variadic 0 params.now) result }
 {
     let mut quals = Items::new(state.alloc);
@@ -654,7 +654,7 @@ fn parameter(
     param: &Param,
     at: u32,
 ) -> Result<(Words, Declared), TypeFault>
-    ensures reads { IsPlainBase param.now.specs.base → IsPlainDeclarator param.now.declarator → (n : Namings) (off : Bool) (before : List Use) (env : Env) →
+    ensures reads { IsPlainBase source.now param.now.specs.base → IsPlainDeclarator source.now param.now.declarator → (n : Namings) (off : Bool) (before : Past) (env : Env) →
         Tells n source.now off before state.old env → FollowsSo IsParameter (Tells n source.now off before state.new) (parameter_in param.now env) result }
     ensures name { IfOk result (λ p. (p.1).name ≡ name_of param.now.declarator) }
 {

@@ -17,12 +17,13 @@ use Rattle.type_expressions.specs.Forms.{member_by}
 use Rattle.type_expressions.specs.Plain.{operands_of}
 use Rattle.type_expressions.specs.Seen.{operand_seen}
 use Rattle.type_expressions.specs.TypeNames.{type_by, type_before, parameters_of}
-use Rattle.type_expressions.proofs.Following.{read_behind, none_behind, made_read, modifying_read, member_read, constant_read, constant_none}
+use Rattle.type_expressions.proofs.More.{read_more, none_more, as_more, none_as, made_more, modifying_more, member_more, measured_more, constant_read, constant_none}
+use Rattle.type_expressions.proofs.Strings.{strings_form}
 use Rattle.type_expressions.proofs.Lists.{first_stands, next_is_plain, next_stands, next_none, all_stand}
 use Rattle.type_expressions.proofs.Literal.{number_form, character_form, name_form}
 use Rattle.type_expressions.proofs.Nodes.{unary_form, postfix_form, binary_form, assign_form, cond_form, comma_form, call_form, index_form}
-use Rattle.type_expressions.proofs.Nodes.{dot_form, arrow_form, size_form, cast_form, type_size_form, alignment_form, no_strings}
-use Rattle.type_expressions.proofs.Sizes.{unevaluated_read, unevaluated_none, operand_read, measured_read}
+use Rattle.type_expressions.proofs.Nodes.{dot_form, arrow_form, size_form, cast_form, type_size_form, alignment_form}
+use Rattle.type_expressions.proofs.Sizes.{size_read, size_none}
 use Rattle.type_expressions.proofs.Declaring.{name_read, pointer_read, array_read, size_read, function_read, pointer_none, words_none, array_none}
 use Rattle.type_expressions.proofs.Declaring.{size_none, count_none, function_none, prototype_left, declared_none, type_read, words_left, type_none}
 use Rattle.type_expressions.proofs.Moved.{known_read, state_kept, enumerations_kept, known_always, entered_tells, left_tells}
@@ -38,113 +39,109 @@ use Rattle.type_expressions.proofs.expression.+expression.Goals as goal
 
 pub unary-returns-in_err-a : goal.unary-returns-in_err-a
 unary-returns-in_err-a t c at e plain =
-    none_behind operand_seen operand_seen c.args.source.now c.args.state.now c.expression-a.new.state c.expression-a.new.state
+    none_more operand_seen operand_seen c.args.source.now c.args.state.now c.expression-a.new.state c.expression-a.new.state
     (λ _. expr c.args.a.now) (λ n y. made_modifying at (unary c.args.op y)) _ (c.in_err-a.ensures plain)
 
 pub unary-returns : goal.unary-returns
 unary-returns t c at e plain =
     let mid = c.expression-a.new.state in
-    read_behind operand_seen operand_seen c.args.source.now c.args.state.now mid mid (λ _. expr c.args.a.now) (λ n y. made_modifying at (unary c.args.op y))
+    read_more operand_seen operand_seen c.args.source.now c.args.state.now mid mid (λ _. expr c.args.a.now) (λ n y. made_modifying at (unary c.args.op y))
     c.in_ok-a.a c.unary.result (c.in_ok-a.ensures plain)
-    (modifying_read c.args.source.now mid at c.args.line (λ n. unary c.args.op (operand_seen n c.in_ok-a.a)) c.unary.result e c.unary.ensures)
+    (modifying_more c.args.source.now mid at c.args.line (λ n. unary c.args.op (operand_seen n c.in_ok-a.a)) c.unary.result e c.unary.ensures)
 
 pub postfix-returns-in_err-a : goal.postfix-returns-in_err-a
 postfix-returns-in_err-a t c at e plain =
-    none_behind operand_seen operand_seen c.args.source.now c.args.state.now c.expression-a.new.state c.expression-a.new.state
+    none_more operand_seen operand_seen c.args.source.now c.args.state.now c.expression-a.new.state c.expression-a.new.state
     (λ _. expr c.args.a.now) (λ n y. made_modifying at (postfix c.args.op y)) _ (c.in_err-a.ensures plain)
 
 pub postfix-returns : goal.postfix-returns
 postfix-returns t c at e plain =
     let mid = c.expression-a.new.state in
-    read_behind operand_seen operand_seen c.args.source.now c.args.state.now mid mid (λ _. expr c.args.a.now) (λ n y. made_modifying at (postfix c.args.op y))
+    read_more operand_seen operand_seen c.args.source.now c.args.state.now mid mid (λ _. expr c.args.a.now) (λ n y. made_modifying at (postfix c.args.op y))
     c.in_ok-a.a c.postfix.result (c.in_ok-a.ensures plain)
-    (modifying_read c.args.source.now mid at c.args.line (λ n. postfix c.args.op (operand_seen n c.in_ok-a.a)) c.postfix.result e c.postfix.ensures)
+    (modifying_more c.args.source.now mid at c.args.line (λ n. postfix c.args.op (operand_seen n c.in_ok-a.a)) c.postfix.result e c.postfix.ensures)
 
 pub binary-returns-in_err-b : goal.binary-returns-in_err-b
 binary-returns-in_err-b t c at e plain =
-    none_behind operand_seen operand_seen c.args.source.now c.args.state.now c.expression-b.new.state c.expression-b.new.state
+    none_more operand_seen operand_seen c.args.source.now c.args.state.now c.expression-b.new.state c.expression-b.new.state
     (λ _. expr c.args.b.now) (λ n y. made at (binary c.args.op (operand_seen n c.args.a) y)) _ (c.in_err-b.ensures plain)
 
 pub binary-returns : goal.binary-returns
 binary-returns t c at e plain =
     let mid = c.expression-b.new.state in
-    read_behind operand_seen operand_seen c.args.source.now c.args.state.now mid mid (λ _. expr c.args.b.now)
+    read_more operand_seen operand_seen c.args.source.now c.args.state.now mid mid (λ _. expr c.args.b.now)
     (λ n y. made at (binary c.args.op (operand_seen n c.args.a) y))
     c.in_ok-b.b c.binary.result (c.in_ok-b.ensures plain)
-    (made_read c.args.source.now mid at c.args.line (λ n. binary c.args.op (operand_seen n c.args.a) (operand_seen n c.in_ok-b.b)) c.binary.result e
+    (made_more c.args.source.now mid at c.args.line (λ n. binary c.args.op (operand_seen n c.args.a) (operand_seen n c.in_ok-b.b)) c.binary.result e
     c.binary.ensures)
 
 pub assignment-returns-in_err-b : goal.assignment-returns-in_err-b
 assignment-returns-in_err-b t c at e plain =
-    none_behind operand_seen operand_seen c.args.source.now c.args.state.now c.expression-b.new.state c.expression-b.new.state
+    none_more operand_seen operand_seen c.args.source.now c.args.state.now c.expression-b.new.state c.expression-b.new.state
     (λ _. expr c.args.b.now) (λ n y. made_modifying at (assigned c.args.op (operand_seen n c.args.a) y)) _ (c.in_err-b.ensures plain)
 
 pub assignment-returns : goal.assignment-returns
 assignment-returns t c at e plain =
     let mid = c.expression-b.new.state in
-    read_behind operand_seen operand_seen c.args.source.now c.args.state.now mid mid (λ _. expr c.args.b.now)
+    read_more operand_seen operand_seen c.args.source.now c.args.state.now mid mid (λ _. expr c.args.b.now)
     (λ n y. made_modifying at (assigned c.args.op (operand_seen n c.args.a) y))
     c.in_ok-b.b c.assignment.result (c.in_ok-b.ensures plain)
-    (modifying_read c.args.source.now mid at c.args.line (λ n. assigned c.args.op (operand_seen n c.args.a) (operand_seen n c.in_ok-b.b)) c.assignment.result e
+    (modifying_more c.args.source.now mid at c.args.line (λ n. assigned c.args.op (operand_seen n c.args.a) (operand_seen n c.in_ok-b.b)) c.assignment.result e
     c.assignment.ensures)
 
 pub conditional-returns-in_err-c : goal.conditional-returns-in_err-c
 conditional-returns-in_err-c t c at e plain =
-    none_behind operand_seen operand_seen c.args.source.now c.args.state.now c.expression-c.new.state c.expression-c.new.state
+    none_more operand_seen operand_seen c.args.source.now c.args.state.now c.expression-c.new.state c.expression-c.new.state
     (λ _. expr c.args.c.now) (λ n y. made at (λ tags. chosen tags (operand_seen n c.args.a) (operand_seen n c.args.b) y)) _ (c.in_err-c.ensures plain)
 
 pub conditional-returns : goal.conditional-returns
 conditional-returns t c at e plain =
     let mid = c.expression-c.new.state in
-    read_behind operand_seen operand_seen c.args.source.now c.args.state.now mid mid (λ _. expr c.args.c.now)
+    read_more operand_seen operand_seen c.args.source.now c.args.state.now mid mid (λ _. expr c.args.c.now)
     (λ n y. made at (λ tags. chosen tags (operand_seen n c.args.a) (operand_seen n c.args.b) y))
     c.in_ok-c.c c.conditional.result (c.in_ok-c.ensures plain)
-    (made_read c.args.source.now mid at c.args.line (λ n. λ tags. chosen tags (operand_seen n c.args.a) (operand_seen n c.args.b) (operand_seen n c.in_ok-c.c))
+    (made_more c.args.source.now mid at c.args.line (λ n. λ tags. chosen tags (operand_seen n c.args.a) (operand_seen n c.args.b) (operand_seen n c.in_ok-c.c))
     c.conditional.result e c.conditional.ensures)
 
 pub subscript-returns-in_err-b : goal.subscript-returns-in_err-b
 subscript-returns-in_err-b t c at e plain =
-    none_behind operand_seen operand_seen c.args.source.now c.args.state.now c.expression-b.new.state c.expression-b.new.state
+    none_more operand_seen operand_seen c.args.source.now c.args.state.now c.expression-b.new.state c.expression-b.new.state
     (λ _. expr c.args.b.now) (λ n y. made at (λ tags. indexed tags (operand_seen n c.args.a) y)) _ (c.in_err-b.ensures plain)
 
 pub subscript-returns : goal.subscript-returns
 subscript-returns t c at e plain =
     let mid = c.expression-b.new.state in
-    read_behind operand_seen operand_seen c.args.source.now c.args.state.now mid mid (λ _. expr c.args.b.now)
+    read_more operand_seen operand_seen c.args.source.now c.args.state.now mid mid (λ _. expr c.args.b.now)
     (λ n y. made at (λ tags. indexed tags (operand_seen n c.args.a) y))
     c.in_ok-b.b c.subscript.result (c.in_ok-b.ensures plain)
-    (made_read c.args.source.now mid at c.args.line (λ n. λ tags. indexed tags (operand_seen n c.args.a) (operand_seen n c.in_ok-b.b)) c.subscript.result e
+    (made_more c.args.source.now mid at c.args.line (λ n. λ tags. indexed tags (operand_seen n c.args.a) (operand_seen n c.in_ok-b.b)) c.subscript.result e
     c.subscript.ensures)
 
 pub member-returns-in_err-a : goal.member-returns-in_err-a
 member-returns-in_err-a t c at e plain =
-    none_behind operand_seen operand_seen c.args.source.now c.args.state.now c.expression-a.new.state c.expression-a.new.state
+    none_more operand_seen operand_seen c.args.source.now c.args.state.now c.expression-a.new.state c.expression-a.new.state
     (λ _. expr c.args.a.now) (λ n y. known >>= λ k. made at (λ tags. member_by c.args.arrow tags y (spelling k c.args.name))) _ (c.in_err-a.ensures plain)
 
 pub member-returns : goal.member-returns
 member-returns t c at e plain =
     let mid = c.expression-a.new.state in
-    read_behind operand_seen operand_seen c.args.source.now c.args.state.now mid mid (λ _. expr c.args.a.now)
+    read_more operand_seen operand_seen c.args.source.now c.args.state.now mid mid (λ _. expr c.args.a.now)
     (λ n y. known >>= λ k. made at (λ tags. member_by c.args.arrow tags y (spelling k c.args.name)))
     c.in_ok-a.a c.member.result (c.in_ok-a.ensures plain)
-    (member_read c.args.source.now mid at c.args.line c.args.name c.args.arrow c.in_ok-a.a c.member.result e c.member.ensures)
+    (member_more c.args.source.now mid at c.args.line c.args.name c.args.arrow c.in_ok-a.a c.member.result e c.member.ensures)
 
 pub size_of_operand-returns-in_err-a : goal.size_of_operand-returns-in_err-a
 size_of_operand-returns-in_err-a t c at e plain =
-    none_behind operand_seen operand_seen c.args.source.now c.args.state.now c.expression-a.new.state c.expression-a.new.state
-    (λ _. unevaluated (expr c.args.a.now)) (λ n y. measured_operand at y) _
-    (unevaluated_none c.args.source.now c.args.state.now c.suspend-mark.new.self c.expression-a.new.state c.expression-a.new.state (expr c.args.a.now) _
-    c.suspend-mark.ensures.rest (c.in_err-a.ensures plain))
+    let new = c.expression-a.new.state in
+    size_none c.args.source.now c.args.state.now c.suspend-mark.new.self new new at (expr c.args.a.now) _ c.suspend-mark.ensures.rest
+    (c.in_err-a.ensures plain)
 
 pub size_of_operand-returns : goal.size_of_operand-returns
 size_of_operand-returns t c at e plain =
-    let new = c.resume.new.self in
-    read_behind operand_seen operand_seen c.args.source.now c.args.state.now new new (λ _. unevaluated (expr c.args.a.now)) (λ n y. measured_operand at y)
-    c.in_ok-a.a c.size_of_operand.result
-    (unevaluated_read c.args.source.now c.args.state.now c.suspend-mark.new.self c.expression-a.new.state new (c.suspend-mark.result).unevaluated
-    (expr c.args.a.now) c.in_ok-a.a c.suspend-mark.ensures.rest c.resume.ensures.rest
-    (ap (λ m. m.unevaluated) c.suspend-mark.ensures.mark) (c.in_ok-a.ensures plain))
-    (operand_read c.args.source.now new at c.args.line (λ n. operand_seen n c.in_ok-a.a) c.size_of_operand.result e c.size_of_operand.ensures)
+    size_read c.args.source.now c.args.state.now c.suspend-mark.new.self c.expression-a.new.state c.resume.new.self (c.suspend-mark.result).unevaluated
+    (c.suspend-mark.result).literals at c.args.line (expr c.args.a.now) c.in_ok-a.a c.size_of_operand.result c.suspend-mark.ensures.rest
+    c.resume.ensures.rest (ap (λ m. m.unevaluated) c.suspend-mark.ensures.mark) (ap (λ m. m.literals) c.suspend-mark.ensures.mark) c.resume.ensures.named
+    (c.in_ok-a.ensures plain) e c.size_of_operand.ensures
 
 pub constant-returns-in_err-operand : goal.constant-returns-in_err-operand
 constant-returns-in_err-operand t c plain =
@@ -153,8 +150,9 @@ constant-returns-in_err-operand t c plain =
 
 pub constant-returns : goal.constant-returns
 constant-returns t c plain =
-    constant_read c.args.source.now c.args.state.now c.expression-operand.new.state c.forget_literals.new.self c.args.e.now c.in_ok-operand.operand
-    c.constant_of.result c.forget_literals.ensures.rest (c.in_ok-operand.ensures plain) c.constant_of.ensures
+    constant_read c.args.source.now c.args.state.now c.expression-operand.new.state c.forget_literals.new.self c.args.e.now (c.mark-mark.result).literals
+    c.in_ok-operand.operand c.constant_of.result c.forget_literals.ensures.rest (ap (λ m. m.literals) c.mark-mark.ensures) c.forget_literals.ensures.named
+    (c.in_ok-operand.ensures plain) c.constant_of.ensures
 
 pub expression-returns-in-Name : goal.expression-returns-in-Name
 expression-returns-in-Name t c plain =
@@ -171,7 +169,9 @@ expression-returns-in-CharLit t c plain =
     c.character.ensures
 
 pub expression-returns-in-Strings : goal.expression-returns-in-Strings
-expression-returns-in-Strings t c plain = absurd (no_strings (c.args.e.now).node c.in-Strings.first c.in-Strings.count c.in-Strings.is plain)
+expression-returns-in-Strings t c =
+    strings_form c.args.source.now c.args.state.now c.strings.new.state (c.args.e.now).at c.in-Strings.first c.in-Strings.count (c.args.e.now).node
+    c.strings.result c.in-Strings.is c.strings.ensures.reads c.strings.ensures.named c.strings.ensures.rest
 
 pub expression-returns-in-Unary : goal.expression-returns-in-Unary
 expression-returns-in-Unary t c =
@@ -187,14 +187,14 @@ pub expression-returns-in_err-a : goal.expression-returns-in_err-a
 expression-returns-in_err-a t c =
     binary_form c.args.source.now c.args.state.now c.expression-a.new.state (c.args.e.now).at (c.args.e.now).node c.in-Binary.op c.in-Binary.a c.in-Binary.b
     c.get-in-Binary.result.now c.in-Binary.b _ c.in-Binary.is c.get-in-Binary.ensures refl
-    (λ p q. none_behind operand_seen operand_seen c.args.source.now c.args.state.now c.expression-a.new.state c.expression-a.new.state
+    (λ p q. none_more operand_seen operand_seen c.args.source.now c.args.state.now c.expression-a.new.state c.expression-a.new.state
     (λ _. expr c.get-in-Binary.result.now) (λ n y. expr c.in-Binary.b >>= λ w. made (c.args.e.now).at (binary c.in-Binary.op y w)) _ (c.in_err-a.ensures p))
 
 pub expression-returns-in-Binary : goal.expression-returns-in-Binary
 expression-returns-in-Binary t c =
     binary_form c.args.source.now c.args.state.now c.binary.new.state (c.args.e.now).at (c.args.e.now).node c.in-Binary.op c.in-Binary.a c.in-Binary.b
     c.get-in-Binary.result.now c.get-in-Binary-2.result.now c.binary.result c.in-Binary.is c.get-in-Binary.ensures c.get-in-Binary-2.ensures
-    (λ p q. read_behind operand_seen operand_seen c.args.source.now c.args.state.now c.expression-a.new.state c.binary.new.state
+    (λ p q. read_more operand_seen operand_seen c.args.source.now c.args.state.now c.expression-a.new.state c.binary.new.state
     (λ _. expr c.get-in-Binary.result.now) (λ n y. expr c.get-in-Binary-2.result.now >>= λ w. made (c.args.e.now).at (binary c.in-Binary.op y w)) c.in_ok-a.a
     c.binary.result
     (c.in_ok-a.ensures p) (c.binary.ensures (c.args.e.now).at c.line-line.ensures q))
@@ -203,7 +203,7 @@ pub expression-returns-in-Assign : goal.expression-returns-in-Assign
 expression-returns-in-Assign t c =
     assign_form c.args.source.now c.args.state.now c.assignment.new.state (c.args.e.now).at (c.args.e.now).node c.in-Assign.op c.in-Assign.a c.in-Assign.b
     c.get-in-Assign.result.now c.get-in-Assign-2.result.now c.assignment.result c.in-Assign.is c.get-in-Assign.ensures c.get-in-Assign-2.ensures
-    (λ p q. read_behind operand_seen operand_seen c.args.source.now c.args.state.now c.expression-a-in-Assign.new.state c.assignment.new.state
+    (λ p q. read_more operand_seen operand_seen c.args.source.now c.args.state.now c.expression-a-in-Assign.new.state c.assignment.new.state
     (λ _. expr c.get-in-Assign.result.now) (λ n y. expr c.get-in-Assign-2.result.now >>= λ w. made_modifying (c.args.e.now).at (assigned c.in-Assign.op y w))
     c.in_ok-a-in-Assign.a
     c.assignment.result (c.in_ok-a-in-Assign.ensures p) (c.assignment.ensures (c.args.e.now).at c.line-line.ensures q))
@@ -212,7 +212,7 @@ pub expression-returns-in-Index : goal.expression-returns-in-Index
 expression-returns-in-Index t c =
     index_form c.args.source.now c.args.state.now c.subscript.new.state (c.args.e.now).at (c.args.e.now).node c.in-Index.a c.in-Index.b
     c.get-in-Index.result.now c.get-in-Index-2.result.now c.subscript.result c.in-Index.is c.get-in-Index.ensures c.get-in-Index-2.ensures
-    (λ p q. read_behind operand_seen operand_seen c.args.source.now c.args.state.now c.expression-a-in-Index.new.state c.subscript.new.state
+    (λ p q. read_more operand_seen operand_seen c.args.source.now c.args.state.now c.expression-a-in-Index.new.state c.subscript.new.state
     (λ _. expr c.get-in-Index.result.now) (λ n y. expr c.get-in-Index-2.result.now >>= λ w. made (c.args.e.now).at (λ tags. indexed tags y w))
     c.in_ok-a-in-Index.a c.subscript.result
     (c.in_ok-a-in-Index.ensures p) (c.subscript.ensures (c.args.e.now).at c.line-line.ensures q))
@@ -222,12 +222,12 @@ expression-returns-in-Cond t c =
     cond_form c.args.source.now c.args.state.now c.conditional.new.state (c.args.e.now).at (c.args.e.now).node c.in-Cond.a c.in-Cond.b c.in-Cond.c
     c.get-in-Cond.result.now c.get-in-Cond-2.result.now c.get-in-Cond-3.result.now c.conditional.result c.in-Cond.is c.get-in-Cond.ensures
     c.get-in-Cond-2.ensures c.get-in-Cond-3.ensures
-    (λ p q r. read_behind operand_seen operand_seen c.args.source.now c.args.state.now c.expression-a-in-Cond.new.state c.conditional.new.state
+    (λ p q r. read_more operand_seen operand_seen c.args.source.now c.args.state.now c.expression-a-in-Cond.new.state c.conditional.new.state
     (λ _. expr c.get-in-Cond.result.now)
     (λ n y. expr c.get-in-Cond-2.result.now >>= λ w. expr c.get-in-Cond-3.result.now >>= λ z. made (c.args.e.now).at (λ tags. chosen tags y w z))
     c.in_ok-a-in-Cond.a
     c.conditional.result (c.in_ok-a-in-Cond.ensures p)
-    (read_behind operand_seen operand_seen c.args.source.now c.expression-a-in-Cond.new.state c.expression-b.new.state c.conditional.new.state
+    (read_more operand_seen operand_seen c.args.source.now c.expression-a-in-Cond.new.state c.expression-b.new.state c.conditional.new.state
     (λ _. expr c.get-in-Cond-2.result.now)
     (λ n w. expr c.get-in-Cond-3.result.now >>= λ z. made (c.args.e.now).at (λ tags. chosen tags (operand_seen n c.in_ok-a-in-Cond.a) w z)) c.in_ok-b.b
     c.conditional.result (c.in_ok-b.ensures q) (c.conditional.ensures (c.args.e.now).at c.line-line.ensures r)))
@@ -236,25 +236,25 @@ pub expression-returns-in-Comma : goal.expression-returns-in-Comma
 expression-returns-in-Comma t c =
     comma_form c.args.source.now c.args.state.now c.expressions-operands.new.state (c.args.e.now).at (c.args.e.now).node c.in-Comma.operands
     c.as_slice.result.now c.sequence.result c.in-Comma.is c.as_slice.ensures
-    (λ p. read_behind (λ n v. map (operand_seen n) v.items) operand_seen c.args.source.now c.args.state.now c.expressions-operands.new.state
+    (λ p. read_more (λ n v. map (operand_seen n) v.items) operand_seen c.args.source.now c.args.state.now c.expressions-operands.new.state
     c.expressions-operands.new.state
     (λ _. operands_of c.as_slice.result.now) (λ n es. made (c.args.e.now).at (λ tags. sequenced tags es)) c.in_ok-operands.operands c.sequence.result
     (c.in_ok-operands.ensures p)
-    (made_read c.args.source.now c.expressions-operands.new.state (c.args.e.now).at c.line-line.result
+    (made_more c.args.source.now c.expressions-operands.new.state (c.args.e.now).at c.line-line.result
     (λ n tags. sequenced tags (map (operand_seen n) c.in_ok-operands.operands.items)) c.sequence.result c.line-line.ensures c.sequence.ensures))
 
 pub expression-returns-in-Call : goal.expression-returns-in-Call
 expression-returns-in-Call t c =
     call_form c.args.source.now c.args.state.now c.expressions-arguments.new.state (c.args.e.now).at (c.args.e.now).node c.in-Call.f c.get-in-Call.result.now
     c.in-Call.arguments c.as_slice-in-Call.result.now c.call.result c.in-Call.is c.get-in-Call.ensures c.as_slice-in-Call.ensures
-    (λ p q. read_behind operand_seen operand_seen c.args.source.now c.args.state.now c.expression-f.new.state c.expressions-arguments.new.state
+    (λ p q. read_more operand_seen operand_seen c.args.source.now c.args.state.now c.expression-f.new.state c.expressions-arguments.new.state
     (λ _. expr c.get-in-Call.result.now) (λ n y. operands_of c.as_slice-in-Call.result.now >>= λ es. made (c.args.e.now).at (λ tags. called tags y es))
     c.in_ok-f.f c.call.result (c.in_ok-f.ensures p)
-    (read_behind (λ n v. map (operand_seen n) v.items) operand_seen c.args.source.now c.expression-f.new.state c.expressions-arguments.new.state
+    (read_more (λ n v. map (operand_seen n) v.items) operand_seen c.args.source.now c.expression-f.new.state c.expressions-arguments.new.state
     c.expressions-arguments.new.state
     (λ _. operands_of c.as_slice-in-Call.result.now) (λ n es. made (c.args.e.now).at (λ tags. called tags (operand_seen n c.in_ok-f.f) es))
     c.in_ok-arguments.arguments c.call.result (c.in_ok-arguments.ensures q)
-    (made_read c.args.source.now c.expressions-arguments.new.state (c.args.e.now).at c.line-line.result
+    (made_more c.args.source.now c.expressions-arguments.new.state (c.args.e.now).at c.line-line.result
     (λ n tags. called tags (operand_seen n c.in_ok-f.f) (map (operand_seen n) c.in_ok-arguments.arguments.items)) c.call.result c.line-line.ensures
     c.call.ensures)))
 
@@ -264,7 +264,7 @@ expression-returns-in_err-a-in-Assign t c =
     assign_form c.args.source.now c.args.state.now new (c.args.e.now).at (c.args.e.now).node c.in-Assign.op c.in-Assign.a c.in-Assign.b
     c.get-in-Assign.result.now c.in-Assign.b _ c.in-Assign.is
     c.get-in-Assign.ensures refl
-    (λ p q. none_behind operand_seen operand_seen c.args.source.now c.args.state.now new new (λ _. expr c.get-in-Assign.result.now)
+    (λ p q. none_more operand_seen operand_seen c.args.source.now c.args.state.now new new (λ _. expr c.get-in-Assign.result.now)
     (λ n y. expr c.in-Assign.b >>= λ w. made_modifying (c.args.e.now).at (assigned c.in-Assign.op y w)) _ (c.in_err-a-in-Assign.ensures p))
 
 pub expression-returns-in_err-a-in-Index : goal.expression-returns-in_err-a-in-Index
@@ -272,7 +272,7 @@ expression-returns-in_err-a-in-Index t c =
     let new = c.expression-a-in-Index.new.state in
     index_form c.args.source.now c.args.state.now new (c.args.e.now).at (c.args.e.now).node c.in-Index.a c.in-Index.b c.get-in-Index.result.now c.in-Index.b _
     c.in-Index.is c.get-in-Index.ensures refl
-    (λ p q. none_behind operand_seen operand_seen c.args.source.now c.args.state.now new new (λ _. expr c.get-in-Index.result.now)
+    (λ p q. none_more operand_seen operand_seen c.args.source.now c.args.state.now new new (λ _. expr c.get-in-Index.result.now)
     (λ n y. expr c.in-Index.b >>= λ w. made (c.args.e.now).at (λ tags. indexed tags y w)) _ (c.in_err-a-in-Index.ensures p))
 
 pub expression-returns-in_err-a-in-Cond : goal.expression-returns-in_err-a-in-Cond
@@ -281,7 +281,7 @@ expression-returns-in_err-a-in-Cond t c =
     cond_form c.args.source.now c.args.state.now new (c.args.e.now).at (c.args.e.now).node c.in-Cond.a c.in-Cond.b c.in-Cond.c c.get-in-Cond.result.now
     c.in-Cond.b c.in-Cond.c _ c.in-Cond.is
     c.get-in-Cond.ensures refl refl
-    (λ p q r. none_behind operand_seen operand_seen c.args.source.now c.args.state.now new new (λ _. expr c.get-in-Cond.result.now)
+    (λ p q r. none_more operand_seen operand_seen c.args.source.now c.args.state.now new new (λ _. expr c.get-in-Cond.result.now)
     (λ n y. expr c.in-Cond.b >>= λ w. expr c.in-Cond.c >>= λ z. made (c.args.e.now).at (λ tags. chosen tags y w z)) _ (c.in_err-a-in-Cond.ensures p))
 
 pub expression-returns-in_err-b : goal.expression-returns-in_err-b
@@ -291,10 +291,10 @@ expression-returns-in_err-b t c =
     cond_form c.args.source.now c.args.state.now new (c.args.e.now).at (c.args.e.now).node c.in-Cond.a c.in-Cond.b c.in-Cond.c c.get-in-Cond.result.now
     c.get-in-Cond-2.result.now c.in-Cond.c _ c.in-Cond.is
     c.get-in-Cond.ensures c.get-in-Cond-2.ensures refl
-    (λ p q r. read_behind operand_seen operand_seen c.args.source.now c.args.state.now mid new (λ _. expr c.get-in-Cond.result.now)
+    (λ p q r. read_more operand_seen operand_seen c.args.source.now c.args.state.now mid new (λ _. expr c.get-in-Cond.result.now)
     (λ n y. expr c.get-in-Cond-2.result.now >>= λ w. expr c.in-Cond.c >>= λ z. made (c.args.e.now).at (λ tags. chosen tags y w z)) c.in_ok-a-in-Cond.a _
     (c.in_ok-a-in-Cond.ensures p)
-    (none_behind operand_seen operand_seen c.args.source.now mid new new (λ _. expr c.get-in-Cond-2.result.now)
+    (none_more operand_seen operand_seen c.args.source.now mid new new (λ _. expr c.get-in-Cond-2.result.now)
     (λ n w. expr c.in-Cond.c >>= λ z. made (c.args.e.now).at (λ tags. chosen tags (operand_seen n c.in_ok-a-in-Cond.a) w z)) _ (c.in_err-b.ensures q)))
 
 pub expression-returns-in_err-operands : goal.expression-returns-in_err-operands
@@ -302,7 +302,7 @@ expression-returns-in_err-operands t c =
     let new = c.expressions-operands.new.state in
     comma_form c.args.source.now c.args.state.now new (c.args.e.now).at (c.args.e.now).node c.in-Comma.operands c.as_slice.result.now _ c.in-Comma.is
     c.as_slice.ensures
-    (λ p. none_behind (λ n v. map (operand_seen n) v.items) operand_seen c.args.source.now c.args.state.now new new (λ _. operands_of c.as_slice.result.now)
+    (λ p. none_more (λ n v. map (operand_seen n) v.items) operand_seen c.args.source.now c.args.state.now new new (λ _. operands_of c.as_slice.result.now)
     (λ n es. made (c.args.e.now).at (λ tags. sequenced tags es)) _ (c.in_err-operands.ensures p))
 
 pub expression-returns-in_err-f : goal.expression-returns-in_err-f
@@ -310,7 +310,7 @@ expression-returns-in_err-f t c =
     let new = c.expression-f.new.state in
     call_form c.args.source.now c.args.state.now new (c.args.e.now).at (c.args.e.now).node c.in-Call.f c.get-in-Call.result.now c.in-Call.arguments
     c.in-Call.arguments _ c.in-Call.is c.get-in-Call.ensures refl
-    (λ p q. none_behind operand_seen operand_seen c.args.source.now c.args.state.now new new (λ _. expr c.get-in-Call.result.now)
+    (λ p q. none_more operand_seen operand_seen c.args.source.now c.args.state.now new new (λ _. expr c.get-in-Call.result.now)
     (λ n y. operands_of c.in-Call.arguments >>= λ es. made (c.args.e.now).at (λ tags. called tags y es)) _ (c.in_err-f.ensures p))
 
 pub expression-returns-in_err-arguments : goal.expression-returns-in_err-arguments
@@ -320,9 +320,9 @@ expression-returns-in_err-arguments t c =
     call_form c.args.source.now c.args.state.now new (c.args.e.now).at (c.args.e.now).node c.in-Call.f c.get-in-Call.result.now c.in-Call.arguments
     c.as_slice-in-Call.result.now _ c.in-Call.is
     c.get-in-Call.ensures c.as_slice-in-Call.ensures
-    (λ p q. read_behind operand_seen operand_seen c.args.source.now c.args.state.now mid new (λ _. expr c.get-in-Call.result.now)
+    (λ p q. read_more operand_seen operand_seen c.args.source.now c.args.state.now mid new (λ _. expr c.get-in-Call.result.now)
     (λ n y. operands_of c.as_slice-in-Call.result.now >>= λ es. made (c.args.e.now).at (λ tags. called tags y es)) c.in_ok-f.f _ (c.in_ok-f.ensures p)
-    (none_behind (λ n v. map (operand_seen n) v.items) operand_seen c.args.source.now mid new new (λ _. operands_of c.as_slice-in-Call.result.now)
+    (none_more (λ n v. map (operand_seen n) v.items) operand_seen c.args.source.now mid new new (λ _. operands_of c.as_slice-in-Call.result.now)
     (λ n es. made (c.args.e.now).at (λ tags. called tags (operand_seen n c.in_ok-f.f) es)) _ (c.in_err-arguments.ensures q)))
 
 pub expression-returns-in_err-to : goal.expression-returns-in_err-to
@@ -330,8 +330,9 @@ expression-returns-in_err-to t c =
     let new = c.type_name-to.new.state in
     cast_form c.args.source.now c.args.state.now new (c.args.e.now).at (c.args.e.now).node c.in-Cast.to c.get-in-Cast.result.now c.in-Cast.a c.in-Cast.a _
     c.in-Cast.is c.get-in-Cast.ensures refl
-    (λ p q. none_behind (λ _. qualified_of) operand_seen c.args.source.now c.args.state.now new new (λ _. type_by c.get-in-Cast.result.now)
-    (λ n x. expr c.in-Cast.a >>= λ y. made (c.args.e.now).at (λ tags. casts.cast tags x.ty y)) _ (c.in_err-to.ensures p))
+    (λ p q. none_more (λ _. qualified_of) operand_seen c.args.source.now c.args.state.now new new (λ _. type_by c.get-in-Cast.result.now)
+    (λ n x. expr c.in-Cast.a >>= λ y. made (c.args.e.now).at (λ tags. casts.cast tags x.ty y)) _
+    (none_as (λ _ (q : Qual). qualified_of q) c.args.source.now c.args.state.now new (λ _. type_by c.get-in-Cast.result.now) _ (c.in_err-to.ensures p)))
 
 pub expression-returns-in-Dot : goal.expression-returns-in-Dot
 expression-returns-in-Dot t c =
@@ -347,9 +348,11 @@ pub expression-returns-in-Cast : goal.expression-returns-in-Cast
 expression-returns-in-Cast t c =
     cast_form c.args.source.now c.args.state.now c.cast.new.state (c.args.e.now).at (c.args.e.now).node c.in-Cast.to c.get-in-Cast.result.now
     c.in-Cast.a c.get-in-Cast-2.result.now c.cast.result c.in-Cast.is c.get-in-Cast.ensures c.get-in-Cast-2.ensures
-    (λ p q. read_behind (λ _. qualified_of) operand_seen c.args.source.now c.args.state.now c.type_name-to.new.state c.cast.new.state
+    (λ p q. read_more (λ _. qualified_of) operand_seen c.args.source.now c.args.state.now c.type_name-to.new.state c.cast.new.state
     (λ _. type_by c.get-in-Cast.result.now) (λ n x. expr c.get-in-Cast-2.result.now >>= λ y. made (c.args.e.now).at (λ tags. casts.cast tags x.ty y))
-    c.in_ok-to.to c.cast.result (c.in_ok-to.ensures p) (c.cast.ensures (c.args.e.now).at c.line-line.ensures q))
+    c.in_ok-to.to c.cast.result
+    (as_more (λ _ (q : Qual). qualified_of q) c.args.source.now c.args.state.now c.type_name-to.new.state (λ _. type_by c.get-in-Cast.result.now)
+    (Ok c.in_ok-to.to) (c.in_ok-to.ensures p)) (c.cast.ensures (c.args.e.now).at c.line-line.ensures q))
 
 pub expression-returns-in-SizeofExpr : goal.expression-returns-in-SizeofExpr
 expression-returns-in-SizeofExpr t c =
@@ -369,40 +372,50 @@ expression-returns-in-AlignofType t c =
 
 pub size_of_type-returns-in_err-qual : goal.size_of_type-returns-in_err-qual
 size_of_type-returns-in_err-qual t c plain =
-    none_behind (λ _. qualified_of) operand_seen c.args.source.now c.args.state.now c.type_name-qual.new.state c.type_name-qual.new.state
-    (λ _. type_by c.args.ty.now) (λ n q. measured c.args.at (λ e. e.size) q.ty) _ (c.in_err-qual.ensures plain)
+    let new = c.type_name-qual.new.state in
+    none_more (λ _. qualified_of) operand_seen c.args.source.now c.args.state.now new new (λ _. type_by c.args.ty.now)
+    (λ n q. measured c.args.at (λ e. e.size) q.ty) _
+    (none_as (λ _ (q : Qual). qualified_of q) c.args.source.now c.args.state.now new (λ _. type_by c.args.ty.now) _ (c.in_err-qual.ensures plain))
 
 pub size_of_type-returns : goal.size_of_type-returns
 size_of_type-returns t c plain =
-    read_behind (λ _. qualified_of) operand_seen c.args.source.now c.args.state.now c.type_name-qual.new.state c.type_name-qual.new.state
-    (λ _. type_by c.args.ty.now) (λ n q. measured c.args.at (λ e. e.size) q.ty) c.in_ok-qual.qual c.size_of_type.result (c.in_ok-qual.ensures plain)
-    (measured_read c.args.source.now c.type_name-qual.new.state c.args.at c.line.result (λ e. e.size) (qualified_of c.in_ok-qual.qual).ty
-    c.size_of_type.result c.line.ensures c.size_of_type.ensures)
+    let new = c.type_name-qual.new.state in
+    read_more (λ _. qualified_of) operand_seen c.args.source.now c.args.state.now new new (λ _. type_by c.args.ty.now)
+    (λ n q. measured c.args.at (λ e. e.size) q.ty) c.in_ok-qual.qual c.size_of_type.result
+    (as_more (λ _ (q : Qual). qualified_of q) c.args.source.now c.args.state.now new (λ _. type_by c.args.ty.now) (Ok c.in_ok-qual.qual)
+    (c.in_ok-qual.ensures plain))
+    (measured_more c.args.source.now new c.args.at c.line.result (λ e. e.size) (qualified_of c.in_ok-qual.qual).ty c.size_of_type.result c.line.ensures
+    c.size_of_type.ensures)
 
 pub alignment_of_type-returns-in_err-qual : goal.alignment_of_type-returns-in_err-qual
 alignment_of_type-returns-in_err-qual t c plain =
-    none_behind (λ _. qualified_of) operand_seen c.args.source.now c.args.state.now c.type_name-qual.new.state c.type_name-qual.new.state
-    (λ _. type_by c.args.ty.now) (λ n q. measured c.args.at (λ e. e.align) q.ty) _ (c.in_err-qual.ensures plain)
+    let new = c.type_name-qual.new.state in
+    none_more (λ _. qualified_of) operand_seen c.args.source.now c.args.state.now new new (λ _. type_by c.args.ty.now)
+    (λ n q. measured c.args.at (λ e. e.align) q.ty) _
+    (none_as (λ _ (q : Qual). qualified_of q) c.args.source.now c.args.state.now new (λ _. type_by c.args.ty.now) _ (c.in_err-qual.ensures plain))
 
 pub alignment_of_type-returns : goal.alignment_of_type-returns
 alignment_of_type-returns t c plain =
-    read_behind (λ _. qualified_of) operand_seen c.args.source.now c.args.state.now c.type_name-qual.new.state c.type_name-qual.new.state
-    (λ _. type_by c.args.ty.now) (λ n q. measured c.args.at (λ e. e.align) q.ty) c.in_ok-qual.qual c.alignment_of_type.result (c.in_ok-qual.ensures plain)
-    (measured_read c.args.source.now c.type_name-qual.new.state c.args.at c.line.result (λ e. e.align) (qualified_of c.in_ok-qual.qual).ty
-    c.alignment_of_type.result c.line.ensures c.alignment_of_type.ensures)
+    let new = c.type_name-qual.new.state in
+    read_more (λ _. qualified_of) operand_seen c.args.source.now c.args.state.now new new (λ _. type_by c.args.ty.now)
+    (λ n q. measured c.args.at (λ e. e.align) q.ty) c.in_ok-qual.qual c.alignment_of_type.result
+    (as_more (λ _ (q : Qual). qualified_of q) c.args.source.now c.args.state.now new (λ _. type_by c.args.ty.now) (Ok c.in_ok-qual.qual)
+    (c.in_ok-qual.ensures plain))
+    (measured_more c.args.source.now new c.args.at c.line.result (λ e. e.align) (qualified_of c.in_ok-qual.qual).ty c.alignment_of_type.result c.line.ensures
+    c.alignment_of_type.ensures)
 
 pub cast-returns-in_err-a : goal.cast-returns-in_err-a
 cast-returns-in_err-a t c at e plain =
-    none_behind operand_seen operand_seen c.args.source.now c.args.state.now c.expression-a.new.state c.expression-a.new.state
+    none_more operand_seen operand_seen c.args.source.now c.args.state.now c.expression-a.new.state c.expression-a.new.state
     (λ _. expr c.args.a.now) (λ n y. made at (λ tags. casts.cast tags (qualified_of c.args.to).ty y)) _ (c.in_err-a.ensures plain)
 
 pub cast-returns : goal.cast-returns
 cast-returns t c at e plain =
     let mid = c.expression-a.new.state in
-    read_behind operand_seen operand_seen c.args.source.now c.args.state.now mid mid (λ _. expr c.args.a.now)
+    read_more operand_seen operand_seen c.args.source.now c.args.state.now mid mid (λ _. expr c.args.a.now)
     (λ n y. made at (λ tags. casts.cast tags (qualified_of c.args.to).ty y))
     c.in_ok-a.a c.cast.result (c.in_ok-a.ensures plain)
-    (made_read c.args.source.now mid at c.args.line (λ n tags. casts.cast tags (qualified_of c.args.to).ty (operand_seen n c.in_ok-a.a)) c.cast.result e
+    (made_more c.args.source.now mid at c.args.line (λ n tags. casts.cast tags (qualified_of c.args.to).ty (operand_seen n c.in_ok-a.a)) c.cast.result e
     c.cast.ensures)
 
 -- 2. Lists of operands.
@@ -496,7 +509,7 @@ enumeration-returns-in_err-enumerated t c simple =
     (known_read (λ (k : ℕ). k) c.args.source.now c.args.state.now opened (open_enumeration c.args.tag) (Ok c.in_ok-number.number)
     (enumerations_kept c.args.source.now c.args.state.now opened (Ok c.in_ok-number.number) c.open_enumeration-number.ensures.rest)
     c.in_ok-number.ensures.reads)
-    (c.in_err-enumerated.ensures (listed_plain c.args.enumerators.now c.as_slice.result.now is simple)))
+    (c.in_err-enumerated.ensures (listed_plain c.args.source.now c.args.enumerators.now c.as_slice.result.now is simple)))
 
 pub enumeration-returns-in-Some : goal.enumeration-returns-in-Some
 enumeration-returns-in-Some t c simple =
@@ -509,7 +522,7 @@ enumeration-returns-in-Some t c simple =
     (known_read (λ (k : ℕ). k) c.args.source.now c.args.state.now opened (open_enumeration c.args.tag) (Ok c.in_ok-number.number)
     (enumerations_kept c.args.source.now c.args.state.now opened (Ok c.in_ok-number.number) c.open_enumeration-number.ensures.rest)
     c.in_ok-number.ensures.reads)
-    (c.in_ok-enumerated.ensures (listed_plain c.args.enumerators.now c.as_slice.result.now is simple))
+    (c.in_ok-enumerated.ensures (listed_plain c.args.source.now c.args.enumerators.now c.as_slice.result.now is simple))
     (known_always tag_view c.args.source.now mid new (close_enumeration c.in_ok-number.number) c.close_enumeration.result c.close_enumeration.ensures.rest
     c.close_enumeration.ensures.known))
 
@@ -527,14 +540,14 @@ type_before-returns-in-Typedef t c simple ws said_so =
 
 pub type_before-returns-in_err-ty : goal.type_before-returns-in_err-ty
 type_before-returns-in_err-ty t c simple ws said_so =
-    let none = tag_is_plain (c.args.specs.now).base c.in-Tagged.union c.in-Tagged.tag c.in-Tagged.members c.in-Tagged.is simple in
+    let none = tag_is_plain c.args.source.now (c.args.specs.now).base c.in-Tagged.union c.in-Tagged.tag c.in-Tagged.members c.in-Tagged.is simple in
     tagged_read qualified_of c.args.source.now c.args.state.now c.tagged-ty.new.state c.args.alone ws (c.args.specs.now).base c.in-Tagged.union c.in-Tagged.tag
     _
     (c.in-Tagged.is ∙ ap (λ ms. base_form.Tagged c.in-Tagged.union c.in-Tagged.tag ms) none) (c.in_err-ty.ensures none)
 
 pub type_before-returns-in-Tagged : goal.type_before-returns-in-Tagged
 type_before-returns-in-Tagged t c simple ws said_so =
-    let none = tag_is_plain (c.args.specs.now).base c.in-Tagged.union c.in-Tagged.tag c.in-Tagged.members c.in-Tagged.is simple in
+    let none = tag_is_plain c.args.source.now (c.args.specs.now).base c.in-Tagged.union c.in-Tagged.tag c.in-Tagged.members c.in-Tagged.is simple in
     unqualified_read c.args.source.now c.args.state.now c.tagged-ty.new.state (type_before c.args.alone ws (c.args.specs.now).base) c.in_ok-ty.ty
     c.unqualified.result c.unqualified.ensures
     (tagged_read tag_view c.args.source.now c.args.state.now c.tagged-ty.new.state c.args.alone ws (c.args.specs.now).base c.in-Tagged.union c.in-Tagged.tag
@@ -544,7 +557,7 @@ pub type_before-returns-in_err-listed : goal.type_before-returns-in_err-listed
 type_before-returns-in_err-listed t c simple ws said_so =
     enumeration_read qualified_of c.args.source.now c.args.state.now c.enumeration-listed.new.state c.args.alone ws (c.args.specs.now).base
     c.in-Enumerated.tag c.in-Enumerated.enumerators _ c.in-Enumerated.is
-    (c.in_err-listed.ensures (enumeration_is_plain (c.args.specs.now).base c.in-Enumerated.tag c.in-Enumerated.enumerators c.in-Enumerated.is simple))
+    (c.in_err-listed.ensures (enumeration_is_plain c.args.source.now (c.args.specs.now).base c.in-Enumerated.tag c.in-Enumerated.enumerators c.in-Enumerated.is simple))
 
 pub type_before-returns-in-Enumerated : goal.type_before-returns-in-Enumerated
 type_before-returns-in-Enumerated t c simple ws said_so =
@@ -552,7 +565,7 @@ type_before-returns-in-Enumerated t c simple ws said_so =
     c.in_ok-listed.listed c.unqualified-in-Enumerated.result c.unqualified-in-Enumerated.ensures
     (enumeration_read tag_view c.args.source.now c.args.state.now c.enumeration-listed.new.state c.args.alone ws (c.args.specs.now).base
     c.in-Enumerated.tag c.in-Enumerated.enumerators (Ok c.in_ok-listed.listed) c.in-Enumerated.is
-    (c.in_ok-listed.ensures (enumeration_is_plain (c.args.specs.now).base c.in-Enumerated.tag c.in-Enumerated.enumerators c.in-Enumerated.is simple)))
+    (c.in_ok-listed.ensures (enumeration_is_plain c.args.source.now (c.args.specs.now).base c.in-Enumerated.tag c.in-Enumerated.enumerators c.in-Enumerated.is simple)))
 
 pub specified-returns-in_err-qual : goal.specified-returns-in_err-qual
 specified-returns-in_err-qual t c simple n off before env tells =
@@ -626,13 +639,13 @@ pub enumerator_value-returns-in_err-number : goal.enumerator_value-returns-in_er
 enumerator_value-returns-in_err-number t c simple =
     let is = sym (enumerators.value_as c.args.e.now) ∙ c.in-Some.is in
     enumerators.value_none c.args.source.now c.args.state.now c.constant-number.new.state c.constant-number.new.state c.args.e.now c.in-Some.value _ is
-    (c.in_err-number.ensures (enumerators.value_is_plain c.args.e.now c.in-Some.value is simple))
+    (c.in_err-number.ensures (enumerators.value_is_plain c.args.source.now c.args.e.now c.in-Some.value is simple))
 
 pub enumerator_value-returns-in-Some : goal.enumerator_value-returns-in-Some
 enumerator_value-returns-in-Some t c simple =
     let is = sym (enumerators.value_as c.args.e.now) ∙ c.in-Some.is in
     enumerators.some_value c.args.source.now c.args.state.now c.constant-number.new.state c.args.e.now c.in-Some.value c.in_ok-number.number is
-    (c.in_ok-number.ensures (enumerators.value_is_plain c.args.e.now c.in-Some.value is simple))
+    (c.in_ok-number.ensures (enumerators.value_is_plain c.args.source.now c.args.e.now c.in-Some.value is simple))
 
 -- 8. Declarators.
 
@@ -668,7 +681,7 @@ pub derivations-returns-in_err-name-clause-reads : goal.derivations-returns-in_e
 derivations-returns-in_err-name-clause-reads t c simple n off before env tells other =
     let is = pointer_is c.args.d.now c.in-Pointer.d c.get.result.now c.in-Pointer.words c.in-Pointer.is c.get.ensures in
     pointer_none c.args.d.now c.get.result.now c.in-Pointer.words env is
-    (c.in_err-name.ensures.reads (pointer_inside c.args.d.now c.get.result.now c.in-Pointer.words is simple) n off before env tells other)
+    (c.in_err-name.ensures.reads (pointer_inside c.args.source.now c.args.d.now c.get.result.now c.in-Pointer.words is simple) n off before env tells other)
 
 pub derivations-returns-in_err-pointer_part-clause-reads : goal.derivations-returns-in_err-pointer_part-clause-reads
 derivations-returns-in_err-pointer_part-clause-reads t c simple n off before env tells other =
@@ -685,14 +698,14 @@ derivations-returns-in-Pointer-clause-reads t c simple n off before env tells =
     pointer_read c.args.source.now c.derivations-name.new.state c.args.d.now c.get.result.now c.in-Pointer.words c.args.parts.now.items
     c.derivations-name.new.parts.items c.push.new.self.items c.in_ok-pointer_part.field-0 c.in_ok-name.name is found
     (pointer_fits (said c.in-Pointer.words) c.in_ok-pointer_part.field-0 found) c.in_ok-push.ensures.items n off before env
-    (c.in_ok-name.ensures.reads (pointer_inside c.args.d.now c.get.result.now c.in-Pointer.words is simple) n off before env tells)
+    (c.in_ok-name.ensures.reads (pointer_inside c.args.source.now c.args.d.now c.get.result.now c.in-Pointer.words is simple) n off before env tells)
 
 -- an array without a size
 pub derivations-returns-in_err-name-in-Array-None-clause-reads : goal.derivations-returns-in_err-name-in-Array-None-clause-reads
 derivations-returns-in_err-name-in-Array-None-clause-reads t c simple n off before env tells other =
     let is = array_is c.args.d.now c.in-Array-None.d c.get-in-Array-None.result.now c.in-Array-None.is c.get-in-Array-None.ensures in
     array_none c.args.d.now c.get-in-Array-None.result.now env is
-    (c.in_err-name-in-Array-None.ensures.reads (array_inside c.args.d.now c.get-in-Array-None.result.now is simple) n off before env tells other)
+    (c.in_err-name-in-Array-None.ensures.reads (array_inside c.args.source.now c.args.d.now c.get-in-Array-None.result.now is simple) n off before env tells other)
 
 pub derivations-returns-in-Array-None-clause-name : goal.derivations-returns-in-Array-None-clause-name
 derivations-returns-in-Array-None-clause-name t c = c.in_ok-name-in-Array-None.ensures.name ∙ ap name_of c.get-in-Array-None.ensures ∙ sym
@@ -704,14 +717,14 @@ derivations-returns-in-Array-None-clause-reads t c simple n off before env tells
     array_read c.args.source.now c.derivations-name-in-Array-None.new.state c.args.d.now c.get-in-Array-None.result.now c.args.parts.now.items
     c.derivations-name-in-Array-None.new.parts.items c.push-in-Array-None.new.self.items c.in_ok-name-in-Array-None.name is
     c.in_ok-push-in-Array-None.ensures.items n off before env
-    (c.in_ok-name-in-Array-None.ensures.reads (array_inside c.args.d.now c.get-in-Array-None.result.now is simple) n off before env tells)
+    (c.in_ok-name-in-Array-None.ensures.reads (array_inside c.args.source.now c.args.d.now c.get-in-Array-None.result.now is simple) n off before env tells)
 
 -- an array with a size
 pub derivations-returns-in_err-name-in-Array-Some-clause-reads : goal.derivations-returns-in_err-name-in-Array-Some-clause-reads
 derivations-returns-in_err-name-in-Array-Some-clause-reads t c simple n off before env tells other =
     let is = size_is c.args.d.now c.in-Array-Some.d c.get-in-Array-Some.result.now c.in-Array-Some.count c.in-Array-Some.count c.in-Array-Some.is
     c.get-in-Array-Some.ensures refl in
-    let inside = size_inside c.args.d.now c.get-in-Array-Some.result.now c.in-Array-Some.count is simple in
+    let inside = size_inside c.args.source.now c.args.d.now c.get-in-Array-Some.result.now c.in-Array-Some.count is simple in
     size_none c.args.d.now c.get-in-Array-Some.result.now c.in-Array-Some.count env is (c.in_err-name-in-Array-Some.ensures.reads inside.0 n off before env
     tells other)
 
@@ -719,7 +732,7 @@ pub derivations-returns-in_err-number-clause-reads : goal.derivations-returns-in
 derivations-returns-in_err-number-clause-reads t c simple n off before env tells other =
     let is = size_is c.args.d.now c.in-Array-Some.d c.get-in-Array-Some.result.now c.in-Array-Some.count c.get-in-Array-Some-2.result.now c.in-Array-Some.is
     c.get-in-Array-Some.ensures c.get-in-Array-Some-2.ensures in
-    let inside = size_inside c.args.d.now c.get-in-Array-Some.result.now c.get-in-Array-Some-2.result.now is simple in
+    let inside = size_inside c.args.source.now c.args.d.now c.get-in-Array-Some.result.now c.get-in-Array-Some-2.result.now is simple in
     count_none c.args.source.now c.derivations-name-in-Array-Some.new.state c.constant-number.new.state c.args.d.now c.get-in-Array-Some.result.now
     c.get-in-Array-Some-2.result.now c.args.parts.now.items c.derivations-name-in-Array-Some.new.parts.items c.in_ok-name-in-Array-Some.name _ is
     (c.in_err-number.ensures inside.1.0) other
@@ -733,7 +746,7 @@ pub derivations-returns-in-Array-Some-clause-reads : goal.derivations-returns-in
 derivations-returns-in-Array-Some-clause-reads t c simple n off before env tells =
     let is = size_is c.args.d.now c.in-Array-Some.d c.get-in-Array-Some.result.now c.in-Array-Some.count c.get-in-Array-Some-2.result.now c.in-Array-Some.is
     c.get-in-Array-Some.ensures c.get-in-Array-Some-2.ensures in
-    let inside = size_inside c.args.d.now c.get-in-Array-Some.result.now c.get-in-Array-Some-2.result.now is simple in
+    let inside = size_inside c.args.source.now c.args.d.now c.get-in-Array-Some.result.now c.get-in-Array-Some-2.result.now is simple in
     size_read c.args.source.now c.derivations-name-in-Array-Some.new.state c.constant-number.new.state c.args.d.now c.get-in-Array-Some.result.now
     c.get-in-Array-Some-2.result.now c.args.parts.now.items c.derivations-name-in-Array-Some.new.parts.items c.push-in-Array-Some.new.self.items
     c.in_ok-number.number c.in_ok-name-in-Array-Some.name
@@ -745,7 +758,7 @@ pub derivations-returns-in_err-name-in-Function-clause-reads : goal.derivations-
 derivations-returns-in_err-name-in-Function-clause-reads t c simple n off before env tells other =
     let is = function_is c.args.d.now c.in-Function.d c.get-in-Function.result.now c.in-Function.params c.in-Function.params c.in-Function.variadic
     c.in-Function.is c.get-in-Function.ensures refl in
-    let inside = function_inside c.args.d.now c.get-in-Function.result.now c.in-Function.params c.in-Function.variadic is simple in
+    let inside = function_inside c.args.source.now c.args.d.now c.get-in-Function.result.now c.in-Function.params c.in-Function.variadic is simple in
     function_none c.args.d.now c.get-in-Function.result.now c.in-Function.params c.in-Function.variadic env is
     (c.in_err-name-in-Function.ensures.reads inside.0 n off before env tells other)
 
@@ -753,7 +766,7 @@ pub derivations-returns-in_err-params-clause-reads : goal.derivations-returns-in
 derivations-returns-in_err-params-clause-reads t c simple n off before env tells other =
     let is = function_is c.args.d.now c.in-Function.d c.get-in-Function.result.now c.in-Function.params c.as_slice-in-Function.result.now
     c.in-Function.variadic c.in-Function.is c.get-in-Function.ensures c.as_slice-in-Function.ensures in
-    let inside = function_inside c.args.d.now c.get-in-Function.result.now c.as_slice-in-Function.result.now c.in-Function.variadic is simple in
+    let inside = function_inside c.args.source.now c.args.d.now c.get-in-Function.result.now c.as_slice-in-Function.result.now c.in-Function.variadic is simple in
     prototype_left c.args.source.now c.derivations-name-in-Function.new.state c.prototype-params.new.state c.args.d.now c.get-in-Function.result.now
     c.as_slice-in-Function.result.now c.in-Function.variadic c.args.parts.now.items c.derivations-name-in-Function.new.parts.items c.in_ok-name-in-Function.name
     _ is
@@ -771,7 +784,7 @@ pub derivations-returns-in-Function-clause-reads : goal.derivations-returns-in-F
 derivations-returns-in-Function-clause-reads t c simple n off before env tells =
     let is = function_is c.args.d.now c.in-Function.d c.get-in-Function.result.now c.in-Function.params c.as_slice-in-Function.result.now
     c.in-Function.variadic c.in-Function.is c.get-in-Function.ensures c.as_slice-in-Function.ensures in
-    let inside = function_inside c.args.d.now c.get-in-Function.result.now c.as_slice-in-Function.result.now c.in-Function.variadic is simple in
+    let inside = function_inside c.args.source.now c.args.d.now c.get-in-Function.result.now c.as_slice-in-Function.result.now c.in-Function.variadic is simple in
     function_read c.args.source.now c.derivations-name-in-Function.new.state c.prototype-params.new.state c.args.d.now c.get-in-Function.result.now
     c.as_slice-in-Function.result.now c.in-Function.variadic c.args.parts.now.items c.derivations-name-in-Function.new.parts.items
     c.push-in-Function.new.self.items
