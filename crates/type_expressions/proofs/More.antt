@@ -21,7 +21,7 @@ use Rattle.type_expressions.specs.Seen.{Namings, operand_seen}
 use Rattle.type_expressions.specs.Standing.{layouts_in, extent_of}
 use Rattle.type_expressions.specs.Tells.{Tells, and_literals, ReadsAs, ReadsMore, line_by}
 use Rattle.type_expressions.proofs.Following.{then_follows, found_follows, made_read, modifying_read, member_read}
-use Rattle.type_expressions.proofs.Numbers.{names_split, named_by, names_hold}
+use Rattle.type_expressions.proofs.Numbers.{names_split, by_number, names_hold}
 use Rattle.type_expressions.proofs.Sizes.{measured_read}
 use Rattle.type_expressions.proofs.Uses.{Forgets, forgotten, renamed}
 
@@ -96,7 +96,7 @@ pub constant_read : (t : TokenText) (old mid new : State) (e : Expr) (k : ℕ) (
     → ((n : Namings) → Finds (λ z. z) (constant_of (operand_seen n a)) result) → ReadsAs (λ _ z. z) t old new (λ _. constant e) result
 unfolding constant
 constant_read t old mid new e k a result same mark forgets first f = λ n off before env h.
-    let l = named_by (before.literals ++ first.0) in
+    let l = by_number (before.literals ++ first.0) in
     let m : Namings = record n { literals = l } in
     let g = first.1 m off before env (names_hold before.literals first.0) (renamed n l t off before old env h) in
     then_follows (λ (z : ℤ). z) (Tells n t off before new) (expr e env) (λ x. found (constant_of x)) (operand_seen m a) g.0 result g.1
@@ -107,6 +107,6 @@ pub constant_none : (t : TokenText) (old mid new : State) (e : Expr) (x : TypeFa
     → ReadsMore operand_seen t old mid (λ _. expr e) (Err x) → ReadsAs (λ _ (z : ℤ). z) t old new (λ _. constant e) (Err x)
 unfolding constant
 constant_none t old mid new e x first = λ n off before env h other.
-    let l = named_by (before.literals ++ first.0) in
+    let l = by_number (before.literals ++ first.0) in
     ap (λ (o : Option (Expression × Env)). and_then o (λ y. found (constant_of y)))
     (first.1 (record n { literals = l }) off before env (names_hold before.literals first.0) (renamed n l t off before old env h) other)

@@ -12,17 +12,17 @@ names_split l before (x ∷ xs) ys h =
     ((h.0, g.0), subst P (append_assoc before (x ∷ []) xs) g.1)
 
 -- the name of each number
-abbrev pub named_by : List ℕ → Naming
-named_by [] k = zero
-named_by (x ∷ xs) zero = x
-named_by (x ∷ xs) (suc k) = named_by xs k
+abbrev pub by_number : List ℕ → Naming
+by_number [] k = zero
+by_number (x ∷ xs) zero = x
+by_number (x ∷ xs) (suc k) = by_number xs k
 
-name_at : (before : List ℕ) (x : ℕ) (more : List ℕ) → named_by (before ++ x ∷ more) (length before) ≡ x
+name_at : (before : List ℕ) (x : ℕ) (more : List ℕ) → by_number (before ++ x ∷ more) (length before) ≡ x
 name_at [] x more = refl
 name_at (b ∷ before) x more = name_at before x more
 
-pub names_hold : (before more : List ℕ) → NamesAfter (named_by (before ++ more)) before more
+pub names_hold : (before more : List ℕ) → NamesAfter (by_number (before ++ more)) before more
 names_hold before [] = tt
 names_hold before (x ∷ more) =
-    let P : List ℕ → Type 0 = λ ls. NamesAfter (named_by ls) (before ++ x ∷ []) more in
+    let P : List ℕ → Type 0 = λ ls. NamesAfter (by_number ls) (before ++ x ∷ []) more in
     (name_at before x more, subst P (append_assoc before (x ∷ []) more) (names_hold (before ++ x ∷ []) more))

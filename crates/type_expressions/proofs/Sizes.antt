@@ -20,7 +20,7 @@ use Rattle.type_expressions.specs.Seen.{Namings, term_seen, operand_seen}
 use Rattle.type_expressions.specs.Standing.{extent_of}
 use Rattle.type_expressions.specs.Tells.{Tells, and_literals, ReadsAs, ReadsMore, line_by}
 use Rattle.type_expressions.proofs.Following.{then_follows, found_follows, line_told, tags_told}
-use Rattle.type_expressions.proofs.Numbers.{named_by, names_hold}
+use Rattle.type_expressions.proofs.Numbers.{by_number, names_hold}
 use Rattle.type_expressions.proofs.Uses.{Forgets, within, renamed, nothing_more, suspended, resumed}
 
 of_extent : (measure : Extent → ℕ) (line : ℕ) (o : Option Extent) (env : Env)
@@ -91,7 +91,7 @@ pub size_read : (t : TokenText) (old inside mid new : State) (was : Bool) (k at 
 size_read t old inside mid new was k at line p a result enters leaves is mark forgets read e f = (
   [],
   λ n off before env names h.
-      let l = named_by (before.literals ++ read.0) in
+      let l = by_number (before.literals ++ read.0) in
       let m : Namings = record n { literals = l } in
       let g = read.1 m true (within off before env) env (names_hold before.literals read.0)
       (renamed n l t true (within off before env) inside env (suspended n t off before old inside env enters h)) in
@@ -112,7 +112,7 @@ pub size_none : (t : TokenText) (old inside mid new : State) (at : ℕ) (p : Typ
 size_none t old inside mid new at p e enters read = (
   [],
   λ n off before env names h other.
-      let l = named_by (before.literals ++ read.0) in
+      let l = by_number (before.literals ++ read.0) in
       ap (λ (o : Option (Expression × Env)). and_then (without_uses env o) (λ y. measured_operand at y))
       (read.1 (record n { literals = l }) true (within off before env) env (names_hold before.literals read.0)
       (renamed n l t true (within off before env) inside env (suspended n t off before old inside env enters h)) other),

@@ -283,7 +283,8 @@ fn expressions(
     state: &mut State,
     all: &[Expr],
 ) -> Result<Vec<Operand>, TypeFault>
-    ensures { AllPlain source.now all.now → ReadsMore (λ n v. map (operand_seen n) v.items) source.now state.old state.new (λ _. operands_of all.now) result }
+    ensures { AllPlain source.now all.now →
+        ReadsMore (λ n v. map (operand_seen n) v.items) source.now state.old state.new (λ _. operands_of all.now) result }
 {
     let mut operands = Vec::new(state.alloc);
     for e in all {
@@ -343,8 +344,8 @@ pub fn specified(
     at: u32,
     alone: bool,
 ) -> Result<(Words, Qual), TypeFault>
-    ensures { IsPlainBase source.now specs.now.base → (n : Namings) (off : Bool) (before : Past) (env : Env) → Tells n source.now off before state.old env →
-        FollowsSo IsSpecified (Tells n source.now off before state.new) (spec.specified specs.now.words specs.now.base alone env) result }
+    ensures { IsPlainBase source.now specs.now.base → (n : Namings) (off : Bool) (before : Past) (env : Env) →
+        Tells n source.now off before state.old env → FollowsSo IsSpecified (Tells n source.now off before state.new) (spec.specified specs.now.words specs.now.base alone env) result }
 {
     let words = read_words(specs.words.as_slice());
     let bare = stand_alone(alone, specs.words.as_slice());
@@ -558,8 +559,8 @@ fn derivations(
     parts: &mut Vec<Derivation>,
 ) -> Result<Option<u32>, TypeFault>
     ensures name { IfOk result (λ name. name ≡ name_of d.now) }
-    ensures reads { IsPlainDeclarator source.now d.now → (n : Namings) (off : Bool) (before : Past) (env : Env) → Tells n source.now off before state.old env →
-        FollowsSo (AreParts parts.old.items parts.new.items) (Tells n source.now off before state.new) (spec.derivations d.now env) result }
+    ensures reads { IsPlainDeclarator source.now d.now → (n : Namings) (off : Bool) (before : Past) (env : Env) →
+        Tells n source.now off before state.old env → FollowsSo (AreParts parts.old.items parts.new.items) (Tells n source.now off before state.new) (spec.derivations d.now env) result }
 {
     match d {
         Declarator::Ident(name) => Ok(*name),
@@ -599,8 +600,8 @@ fn prototype(
     at: u32,
     own: bool,
 ) -> Result<Items<Qual>, TypeFault>
-    ensures { AllPlainParams source.now params.now → length params.now < 2 ^ 32 → ReadsAs (λ _ quals. params_of (map qualified_of quals)) source.now state.old state.new
-        (λ _. in_prototype own (parameters_of variadic 0 params.now)) result }
+    ensures { AllPlainParams source.now params.now → length params.now < 2 ^ 32 →
+        ReadsAs (λ _ quals. params_of (map qualified_of quals)) source.now state.old state.new (λ _. in_prototype own (parameters_of variadic 0 params.now)) result }
 {
     state.enter_scope()?;
     let lone = is_lone(params, variadic);
@@ -632,8 +633,8 @@ fn parameters(
     lone: bool,
     at: u32,
 ) -> Result<Items<Qual>, TypeFault>
-    ensures { (variadic : Bool) → lone ≡ ((length params.now == 1) && not variadic) → AllPlainParams source.now params.now → length params.now < 2 ^ 32 →
-        ReadsAs (λ _ quals. params_of (map qualified_of quals)) source.now state.old state.new (λ _. parameters_of variadic 0 params.now) result }
+    ensures { (variadic : Bool) → lone ≡ ((length params.now == 1) && not variadic) → AllPlainParams source.now params.now →
+        length params.now < 2 ^ 32 → ReadsAs (λ _ quals. params_of (map qualified_of quals)) source.now state.old state.new (λ _. parameters_of variadic 0 params.now) result }
 {
     let mut quals = Items::new(state.alloc);
     for p in params {
@@ -654,8 +655,8 @@ fn parameter(
     param: &Param,
     at: u32,
 ) -> Result<(Words, Declared), TypeFault>
-    ensures reads { IsPlainBase source.now param.now.specs.base → IsPlainDeclarator source.now param.now.declarator → (n : Namings) (off : Bool) (before : Past) (env : Env) →
-        Tells n source.now off before state.old env → FollowsSo IsParameter (Tells n source.now off before state.new) (parameter_in param.now env) result }
+    ensures reads { IsPlainBase source.now param.now.specs.base → IsPlainDeclarator source.now param.now.declarator →
+        (n : Namings) (off : Bool) (before : Past) (env : Env) → Tells n source.now off before state.old env → FollowsSo IsParameter (Tells n source.now off before state.new) (parameter_in param.now env) result }
     ensures name { IfOk result (λ p. (p.1).name ≡ name_of param.now.declarator) }
 {
     let (words, base) = specified(source, state, &param.specs, at, false)?;
