@@ -123,9 +123,9 @@ next_none view t old mid later new all i os e x h is s read = (
       let each = names_split n.literals before.literals s.names read.0 names in
       let g = s.read n off before env each.0 tells in
       g.1.0
-          ∙ ap (λ es. behind (map (operand_seen n) os) (operands_of es g.0)) (split all i e h is)
-          ∙ ap (λ (o : Option (Expression × Env)). behind (map (operand_seen n) os) (and_then o (λ y. operands_of (drop (i + 1) all) >>= λ ys. pure (y ∷ ys))))
-          (read.1 n off (and_literals before s.names) g.0 each.1 g.1.1 other),
+      ∙ ap (λ es. behind (map (operand_seen n) os) (operands_of es g.0)) (split all i e h is)
+      ∙ ap (λ (o : Option (Expression × Env)). behind (map (operand_seen n) os) (and_then o (λ y. operands_of (drop (i + 1) all) >>= λ ys. pure (y ∷ ys))))
+      (read.1 n off (and_literals before s.names) g.0 each.1 g.1.1 other),
 )
 
 -- all of them

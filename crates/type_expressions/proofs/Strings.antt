@@ -138,7 +138,7 @@ by_result t old new at first many (Err x) are found adds same = (
   [],
   λ n off before env names h other.
       strings_read n t off before old env at first many h are
-          ∙ string_none (length (literal_bytes old)) first (line_by t first) (held.bytes_from t many first) env (found other),
+      ∙ string_none (length (literal_bytes old)) first (line_by t first) (held.bytes_from t many first) env (found other),
 )
 
 pub strings_form : (t : TokenText) (old new : State) (at first many : ℕ) (nd : ExprNode) (result : Result Operand TypeFault)

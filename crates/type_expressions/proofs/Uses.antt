@@ -60,8 +60,11 @@ object_tells n t off before u old new env e h rows uses =
     let K : State → Type 0 = λ s. IsKnown n.objects t s env in
     let C : State → Type 0 = λ s. Notes t s in
     let L : State → Type 0 = λ s. HasLiterals (literal_from t) before.literals s in
-    use_tells n t off before u old new env h (subst K (sym e) h.known) (subst C (sym e) ((h.tags).0, record
-    { rows = ((h.tags).1).rows; noted = ((h.tags).1).noted; none = ((h.tags).1).none })) (rows env h.objects)
+    use_tells n t off before u old new env h (subst K (sym e) h.known) (subst C (sym e) (
+      (h.tags).0,
+      record
+          { rows = ((h.tags).1).rows; noted = ((h.tags).1).noted; none = ((h.tags).1).none },
+    )) (rows env h.objects)
     (ap (λ (s : State). s.unevaluated) e) (subst L (sym e) h.literals) (uses h.distinct)
 
 pub function_tells : (n : Namings) (t : TokenText) (off : Bool) (before : Past) (u : Use) (old new : State) (env : Env)
@@ -72,8 +75,11 @@ function_tells n t off before u old new env e h known uses =
     let C : State → Type 0 = λ s. Notes t s in
     let O : State → Type 0 = λ s. HasObjects n.objects s env in
     let L : State → Type 0 = λ s. HasLiterals (literal_from t) before.literals s in
-    use_tells n t off before u old new env h (h.known ∙ sym known) (subst C (sym e) ((h.tags).0, record
-    { rows = ((h.tags).1).rows; noted = ((h.tags).1).noted; none = ((h.tags).1).none })) (subst O (sym e) h.objects)
+    use_tells n t off before u old new env h (h.known ∙ sym known) (subst C (sym e) (
+      (h.tags).0,
+      record
+          { rows = ((h.tags).1).rows; noted = ((h.tags).1).noted; none = ((h.tags).1).none },
+    )) (subst O (sym e) h.objects)
     (ap (λ (s : State). s.unevaluated) e) (subst L (sym e) h.literals) uses
 
 pub unused_tells : (n : Namings) (t : TokenText) (off : Bool) (before : Past) (s : State) (env : Env)

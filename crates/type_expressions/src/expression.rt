@@ -656,7 +656,8 @@ fn parameter(
     at: u32,
 ) -> Result<(Words, Declared), TypeFault>
     ensures reads { IsPlainBase source.now param.now.specs.base → IsPlainDeclarator source.now param.now.declarator →
-        (n : Namings) (off : Bool) (before : Past) (env : Env) → Tells n source.now off before state.old env → FollowsSo IsParameter (Tells n source.now off before state.new) (parameter_in param.now env) result }
+        (n : Namings) (off : Bool) (before : Past) (env : Env) → Tells n source.now off before state.old env →
+        FollowsSo IsParameter (Tells n source.now off before state.new) (parameter_in param.now env) result }
     ensures name { IfOk result (λ p. (p.1).name ≡ name_of param.now.declarator) }
 {
     let (words, base) = specified(source, state, &param.specs, at, false)?;
