@@ -157,7 +157,8 @@ size_step d x env = size_behind x (derivations d env)
 abbrev pub Small : Expr → Type 0
 Small x = (env here : Env) (z : ℤ) → constant x env ≡ Some (z, here) → z <ℤ pos (2 ^ 64)
 
-pub inner_size : (t : TokenText) (d : Declarator) (x : Expr) → IsPlainDeclarator t (declarator.Array d (Some x)) → IsPlainDeclarator t d × (IsPlain t x.node × Small x)
+pub inner_size : (t : TokenText) (d : Declarator) (x : Expr) → IsPlainDeclarator t (declarator.Array d (Some x))
+    → IsPlainDeclarator t d × (IsPlain t x.node × Small x)
 unfolding constant_in constant hidden-the_row-Declarator-2 hidden-the_row-Expr-3 hidden
 inner_size t d x h = (h.0, (h.1.0.0, h.1.1))
 

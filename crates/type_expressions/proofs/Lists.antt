@@ -74,7 +74,8 @@ first_stands t s all os e plain =
 split : (all : List Expr) (i : ℕ) (e : Expr) → i < length all → e ≡ get_or all i e → drop i all ≡ e ∷ drop (i + 1) all
 split all i e h is = drop_more all i e h ∙ ap (λ y. y ∷ drop (i + 1) all) (sym is)
 
-next_plain : (t : TokenText) (all : List Expr) (i : ℕ) (e : Expr) → i < length all → e ≡ get_or all i e → AllPlain t (drop i all) → IsPlain t e.node × AllPlain t (drop (i + 1) all)
+next_plain : (t : TokenText) (all : List Expr) (i : ℕ) (e : Expr) → i < length all → e ≡ get_or all i e → AllPlain t (drop i all)
+    → IsPlain t e.node × AllPlain t (drop (i + 1) all)
 next_plain t all i e h is plain = let P : List Expr → Type 0 = λ es. AllPlain t es in subst P (split all i e h is) plain
 
 pub next_is_plain : (t : TokenText) (old now : State) (all : List Expr) (i : ℕ) (os : List Operand) (e : Expr) → i < length all → e ≡ get_or all i e

@@ -32,7 +32,8 @@ use Rattle.type_expressions.proofs.Lists.{row_is, row_plain}
 
 -- the form at hand
 at_node : (t : TokenText) (old new : State) (at : ℕ) (nd form : ExprNode) (r : Result Operand TypeFault) → nd ≡ form
-    → (IsPlain t form → ReadsMore operand_seen t old new (λ _. expression at form) r) → IsPlain t nd → ReadsMore operand_seen t old new (λ _. expression at nd) r
+    → (IsPlain t form → ReadsMore operand_seen t old new (λ _. expression at form) r) → IsPlain t nd
+    → ReadsMore operand_seen t old new (λ _. expression at nd) r
 at_node t old new at nd form r is f =
     let P : ExprNode → Type 0 = λ x. IsPlain t x → ReadsMore operand_seen t old new (λ _. expression at x) r in
     subst P (sym is) f

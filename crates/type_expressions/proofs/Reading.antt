@@ -184,7 +184,8 @@ declared_from view t old s d first parts name q r none reads f =
     declared_read view t old s d parts name q r (subst P none reads) f
 
 -- the declarator inside
-pub pointer_inside : (t : TokenText) (d inside : Declarator) (words : List Word) → d ≡ declarator.Pointer words inside → IsPlainDeclarator t d → IsPlainDeclarator t inside
+pub pointer_inside : (t : TokenText) (d inside : Declarator) (words : List Word) → d ≡ declarator.Pointer words inside → IsPlainDeclarator t d
+    → IsPlainDeclarator t inside
 pointer_inside t d inside words is h = inner_pointer t words inside (subst (IsPlainDeclarator t) is h)
 
 pub array_inside : (t : TokenText) (d inside : Declarator) → d ≡ declarator.Array inside None → IsPlainDeclarator t d → IsPlainDeclarator t inside

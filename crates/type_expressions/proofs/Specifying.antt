@@ -232,7 +232,8 @@ plain_enumeration : (t : TokenText) (tag : Option ℕ) (all : Option (List Enume
 plain_enumeration t tag None h = tt
 plain_enumeration t tag (Some es) h = row_plain t es h
 
-pub enumeration_is_plain : (t : TokenText) (base : Base) (tag : Option ℕ) (all : Option (List Enumerator)) → base ≡ base_form.Enumerated tag all → IsPlainBase t base
+pub enumeration_is_plain : (t : TokenText) (base : Base) (tag : Option ℕ) (all : Option (List Enumerator)) → base ≡ base_form.Enumerated tag all
+    → IsPlainBase t base
     → AllPlainOption t all
 enumeration_is_plain t base tag all is h = plain_enumeration t tag all (let P : Base → Type 0 = λ b. IsPlainBase t b in subst P is h)
 

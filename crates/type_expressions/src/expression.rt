@@ -345,7 +345,8 @@ pub fn specified(
     alone: bool,
 ) -> Result<(Words, Qual), TypeFault>
     ensures { IsPlainBase source.now specs.now.base → (n : Namings) (off : Bool) (before : Past) (env : Env) →
-        Tells n source.now off before state.old env → FollowsSo IsSpecified (Tells n source.now off before state.new) (spec.specified specs.now.words specs.now.base alone env) result }
+        Tells n source.now off before state.old env →
+        FollowsSo IsSpecified (Tells n source.now off before state.new) (spec.specified specs.now.words specs.now.base alone env) result }
 {
     let words = read_words(specs.words.as_slice());
     let bare = stand_alone(alone, specs.words.as_slice());
@@ -560,7 +561,8 @@ fn derivations(
 ) -> Result<Option<u32>, TypeFault>
     ensures name { IfOk result (λ name. name ≡ name_of d.now) }
     ensures reads { IsPlainDeclarator source.now d.now → (n : Namings) (off : Bool) (before : Past) (env : Env) →
-        Tells n source.now off before state.old env → FollowsSo (AreParts parts.old.items parts.new.items) (Tells n source.now off before state.new) (spec.derivations d.now env) result }
+        Tells n source.now off before state.old env →
+        FollowsSo (AreParts parts.old.items parts.new.items) (Tells n source.now off before state.new) (spec.derivations d.now env) result }
 {
     match d {
         Declarator::Ident(name) => Ok(*name),
@@ -601,7 +603,8 @@ fn prototype(
     own: bool,
 ) -> Result<Items<Qual>, TypeFault>
     ensures { AllPlainParams source.now params.now → length params.now < 2 ^ 32 →
-        ReadsAs (λ _ quals. params_of (map qualified_of quals)) source.now state.old state.new (λ _. in_prototype own (parameters_of variadic 0 params.now)) result }
+        ReadsAs (λ _ quals. params_of (map qualified_of quals)) source.now state.old state.new
+        (λ _. in_prototype own (parameters_of variadic 0 params.now)) result }
 {
     state.enter_scope()?;
     let lone = is_lone(params, variadic);
@@ -634,7 +637,8 @@ fn parameters(
     at: u32,
 ) -> Result<Items<Qual>, TypeFault>
     ensures { (variadic : Bool) → lone ≡ ((length params.now == 1) && not variadic) → AllPlainParams source.now params.now →
-        length params.now < 2 ^ 32 → ReadsAs (λ _ quals. params_of (map qualified_of quals)) source.now state.old state.new (λ _. parameters_of variadic 0 params.now) result }
+        length params.now < 2 ^ 32 → ReadsAs (λ _ quals. params_of (map qualified_of quals)) source.now state.old state.new
+        (λ _. parameters_of variadic 0 params.now) result }
 {
     let mut quals = Items::new(state.alloc);
     for p in params {

@@ -17,7 +17,8 @@ use Rattle.type_expressions.specs.Forms.{member_by}
 use Rattle.type_expressions.specs.Plain.{operands_of}
 use Rattle.type_expressions.specs.Seen.{operand_seen}
 use Rattle.type_expressions.specs.TypeNames.{type_by, type_before, parameters_of}
-use Rattle.type_expressions.proofs.More.{read_more, none_more, as_more, none_as, made_more, modifying_more, member_more, measured_more, constant_read, constant_none}
+use Rattle.type_expressions.proofs.More.{read_more, none_more, as_more, none_as, made_more}
+use Rattle.type_expressions.proofs.More.{modifying_more, member_more, measured_more, constant_read, constant_none}
 use Rattle.type_expressions.proofs.Strings.{strings_form}
 use Rattle.type_expressions.proofs.Lists.{first_stands, next_is_plain, next_stands, next_none, all_stand}
 use Rattle.type_expressions.proofs.Literal.{number_form, character_form, name_form}
@@ -557,7 +558,8 @@ pub type_before-returns-in_err-listed : goal.type_before-returns-in_err-listed
 type_before-returns-in_err-listed t c simple ws said_so =
     enumeration_read qualified_of c.args.source.now c.args.state.now c.enumeration-listed.new.state c.args.alone ws (c.args.specs.now).base
     c.in-Enumerated.tag c.in-Enumerated.enumerators _ c.in-Enumerated.is
-    (c.in_err-listed.ensures (enumeration_is_plain c.args.source.now (c.args.specs.now).base c.in-Enumerated.tag c.in-Enumerated.enumerators c.in-Enumerated.is simple))
+    (c.in_err-listed.ensures (enumeration_is_plain c.args.source.now (c.args.specs.now).base c.in-Enumerated.tag c.in-Enumerated.enumerators
+    c.in-Enumerated.is simple))
 
 pub type_before-returns-in-Enumerated : goal.type_before-returns-in-Enumerated
 type_before-returns-in-Enumerated t c simple ws said_so =
@@ -565,7 +567,8 @@ type_before-returns-in-Enumerated t c simple ws said_so =
     c.in_ok-listed.listed c.unqualified-in-Enumerated.result c.unqualified-in-Enumerated.ensures
     (enumeration_read tag_view c.args.source.now c.args.state.now c.enumeration-listed.new.state c.args.alone ws (c.args.specs.now).base
     c.in-Enumerated.tag c.in-Enumerated.enumerators (Ok c.in_ok-listed.listed) c.in-Enumerated.is
-    (c.in_ok-listed.ensures (enumeration_is_plain c.args.source.now (c.args.specs.now).base c.in-Enumerated.tag c.in-Enumerated.enumerators c.in-Enumerated.is simple)))
+    (c.in_ok-listed.ensures (enumeration_is_plain c.args.source.now (c.args.specs.now).base c.in-Enumerated.tag c.in-Enumerated.enumerators
+    c.in-Enumerated.is simple)))
 
 pub specified-returns-in_err-qual : goal.specified-returns-in_err-qual
 specified-returns-in_err-qual t c simple n off before env tells =
@@ -705,7 +708,8 @@ pub derivations-returns-in_err-name-in-Array-None-clause-reads : goal.derivation
 derivations-returns-in_err-name-in-Array-None-clause-reads t c simple n off before env tells other =
     let is = array_is c.args.d.now c.in-Array-None.d c.get-in-Array-None.result.now c.in-Array-None.is c.get-in-Array-None.ensures in
     array_none c.args.d.now c.get-in-Array-None.result.now env is
-    (c.in_err-name-in-Array-None.ensures.reads (array_inside c.args.source.now c.args.d.now c.get-in-Array-None.result.now is simple) n off before env tells other)
+    (c.in_err-name-in-Array-None.ensures.reads (array_inside c.args.source.now c.args.d.now c.get-in-Array-None.result.now is simple) n off before env
+    tells other)
 
 pub derivations-returns-in-Array-None-clause-name : goal.derivations-returns-in-Array-None-clause-name
 derivations-returns-in-Array-None-clause-name t c = c.in_ok-name-in-Array-None.ensures.name ∙ ap name_of c.get-in-Array-None.ensures ∙ sym
@@ -766,7 +770,8 @@ pub derivations-returns-in_err-params-clause-reads : goal.derivations-returns-in
 derivations-returns-in_err-params-clause-reads t c simple n off before env tells other =
     let is = function_is c.args.d.now c.in-Function.d c.get-in-Function.result.now c.in-Function.params c.as_slice-in-Function.result.now
     c.in-Function.variadic c.in-Function.is c.get-in-Function.ensures c.as_slice-in-Function.ensures in
-    let inside = function_inside c.args.source.now c.args.d.now c.get-in-Function.result.now c.as_slice-in-Function.result.now c.in-Function.variadic is simple in
+    let inside = function_inside c.args.source.now c.args.d.now c.get-in-Function.result.now c.as_slice-in-Function.result.now c.in-Function.variadic is
+    simple in
     prototype_left c.args.source.now c.derivations-name-in-Function.new.state c.prototype-params.new.state c.args.d.now c.get-in-Function.result.now
     c.as_slice-in-Function.result.now c.in-Function.variadic c.args.parts.now.items c.derivations-name-in-Function.new.parts.items c.in_ok-name-in-Function.name
     _ is
@@ -784,7 +789,8 @@ pub derivations-returns-in-Function-clause-reads : goal.derivations-returns-in-F
 derivations-returns-in-Function-clause-reads t c simple n off before env tells =
     let is = function_is c.args.d.now c.in-Function.d c.get-in-Function.result.now c.in-Function.params c.as_slice-in-Function.result.now
     c.in-Function.variadic c.in-Function.is c.get-in-Function.ensures c.as_slice-in-Function.ensures in
-    let inside = function_inside c.args.source.now c.args.d.now c.get-in-Function.result.now c.as_slice-in-Function.result.now c.in-Function.variadic is simple in
+    let inside = function_inside c.args.source.now c.args.d.now c.get-in-Function.result.now c.as_slice-in-Function.result.now c.in-Function.variadic is
+    simple in
     function_read c.args.source.now c.derivations-name-in-Function.new.state c.prototype-params.new.state c.args.d.now c.get-in-Function.result.now
     c.as_slice-in-Function.result.now c.in-Function.variadic c.args.parts.now.items c.derivations-name-in-Function.new.parts.items
     c.push-in-Function.new.self.items
