@@ -6,6 +6,7 @@ pub mod Declaring
 pub mod Enumerators
 pub mod Folding
 pub mod Following
+pub mod Kept
 pub mod Lists
 pub mod Literal
 pub mod Measured

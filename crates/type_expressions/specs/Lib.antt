@@ -1,4 +1,5 @@
 pub mod Forms
+pub mod Keeping
 pub mod Plain
 pub mod Seen
 pub mod Standing
