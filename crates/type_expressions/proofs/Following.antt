@@ -32,20 +32,6 @@ then_follows {B} {C} {D} view Q first f b here result e h =
     let P : Option (B × Env) → Type 0 = λ o. Follows view Q (and_then o f) result in
     subst P (sym e) h
 
-pub read_behind : {A B C D : Type 0} (view : Namings → A → B) (view2 : Namings → C → D) (t : TokenText) (old mid new : State) (p : Namings → Typing B)
-    (f : Namings → B → Typing D) (a : A) (result : Result C TypeFault)
-    → ReadsAs view t old mid p (Ok a) → ReadsAs view2 t mid new (λ n. f n (view n a)) result → ReadsAs view2 t old new (λ n. p n >>= f n) result
-read_behind {A} {B} {C} {D} view view2 t old mid new p f a result first second = λ n off before env h.
-    let g = first n off before env h in
-    then_follows (view2 n) (Tells n t off before new) (p n env) (f n) (view n a) g.0 result g.1 (second n off before g.0 g.2)
-
--- .. and where nothing is read
-pub none_behind : {A B C D : Type 0} (view : Namings → A → B) (view2 : Namings → C → D) (t : TokenText) (old mid new : State) (p : Namings → Typing B)
-    (f : Namings → B → Typing D) (e : TypeFault)
-    → ReadsAs view t old mid p (Err e) → ReadsAs view2 t old new (λ n. p n >>= f n) (Err e)
-none_behind {A} {B} {C} {D} view view2 t old mid new p f e first = λ n off before env h other.
-    ap (λ (o : Option (B × Env)). and_then o (f n)) (first n off before env h other)
-
 -- the same by another name
 pub same_read : {A B : Type 0} (view : Namings → A → B) (t : TokenText) (old new : State) (p q : Namings → Typing B) (result : Result A TypeFault)
     → ((n : Namings) (env : Env) → q n env ≡ p n env) → ReadsAs view t old new p result → ReadsAs view t old new q result

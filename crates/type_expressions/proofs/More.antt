@@ -14,6 +14,7 @@ use Rattle.type_scope.specs.Numbered.{literal_bytes}
 use Rattle.type_scope.specs.Reads.{Follows}
 use Rattle.type_scope.specs.Tagged.{has_constant}
 use Rattle.type_scope.specs.declared.fault.TypeFault.{TypeFault}
+use Rattle.type_scope.specs.declared.fault.TypeFault.TheVariants.{NoMemory}
 use Rattle.type_scope.specs.declared.state.State.{State}
 use Rattle.type_declarators.specs.Finds.{Finds}
 use Rattle.type_expressions.specs.Forms.{member_by, measured_by}
@@ -60,6 +61,11 @@ as_more {A} {B} view t old new p result h = (
 pub none_as : {A B : Type 0} (view : Namings → A → B) (t : TokenText) (old new : State) (p : Namings → Typing B) (e : TypeFault)
     → ReadsAs view t old new p (Err e) → ReadsMore view t old new p (Err e)
 none_as {A} {B} view t old new p e h = ([], λ n off before env names tells. h n off before env tells)
+
+-- .. and where memory runs out
+pub memory_more : {A B : Type 0} (view : Namings → A → B) (t : TokenText) (old new : State) (p : Namings → Typing B) (e : TypeFault) → e ≡ NoMemory
+    → ReadsMore view t old new p (Err e)
+memory_more {A} {B} view t old new p e is = ([], λ n off before env names tells other. absurd (other is))
 
 -- 2. What operators make.
 

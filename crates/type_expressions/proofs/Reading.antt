@@ -223,8 +223,3 @@ pub own_read : (t : TokenText) (old new : State) (d inside : Declarator) (own : 
 own_read t old new d inside own ps v r is same h =
     let P : Bool → Type 0 = λ b. ReadsAs (λ _ (xs : List Qual). params_of (map qualified_of xs)) t old new (λ _. in_prototype b (parameters_of v 0 ps)) r in
     subst P (is ∙ ap (λ x. is_name x) same) h
-
--- 5. Where memory runs out.
-
-pub out_of_memory : {A B : Type 0} (view : Namings → A → B) (t : TokenText) (old new : State) (p : Namings → Typing B) → ReadsAs view t old new p (Err NoMemory)
-out_of_memory view t old new p = λ n off before env tells other. absurd (other refl)

@@ -236,8 +236,3 @@ pub enumeration_is_plain : (t : TokenText) (base : Base) (tag : Option ℕ) (all
     → IsPlainBase t base
     → AllPlainOption t all
 enumeration_is_plain t base tag all is h = plain_enumeration t tag all (let P : Base → Type 0 = λ b. IsPlainBase t b in subst P is h)
-
--- no keyword
-pub is_no_words : (words : List Word) → (length words == 0) ≡ is_no_word words
-is_no_words [] = refl
-is_no_words (w ∷ ws) = grind (arith, nat_tests)
