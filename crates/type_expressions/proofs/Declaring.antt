@@ -14,7 +14,7 @@ use Rattle.c_ast.specs.declared.declaration.Declarator.TheVariants as declarator
 use Rattle.c_ast.specs.declared.declaration.TypeName.{TypeName}
 use Rattle.c_types.specs.Types.{Params, params_of, Qualified, qualified_of}
 use Rattle.c_types.specs.declared.ty.Qual.{Qual}
-use Rattle.typing_env.specs.Env.{Env, Typing, Use, and_then, found_in, holds, pure, ◌>>=◌, ◌>>◌}
+use Rattle.typing_env.specs.Env.{Env, Typing, and_then, found_in, holds, pure, ◌>>=◌, ◌>>◌}
 use Rattle.typing_env.specs.Names.{in_prototype}
 use Rattle.typing_env.specs.Seen.{SeenTag, tag_seen}
 use Rattle.typing_words.specs.Words.{Words, Derivation, said, pointer_by, array_of, function_of, are_qualified, derived}

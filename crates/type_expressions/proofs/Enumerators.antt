@@ -1,6 +1,6 @@
 -- Enumerations, as the definition reads them: each enumerator in scope behind itself (6.7.2.2).
 use Rattle.std.proofs.Common.{◌≡◌, ◌∙◌, refl, sym, ap, subst, ℕ, ◌+◌, ◌<◌, ◌≤◌, Bool, List, [], ◌∷◌, length, get_or, drop}
-use Rattle.std.specs.Prelude.{◌≢◌, ℤ, Option, Some, None, Result, Ok, Err}
+use Rattle.std.specs.Prelude.{◌≢◌, ℤ, Option, Some, None, Ok, Err}
 use Rattle.std.proofs.Math.ListN.{drop_of_length-le}
 use Rattle.std.proofs.Math.Path.{fun_ext}
 use Rattle.std.proofs.lemmas.List.{drop_more}
@@ -12,13 +12,12 @@ use Rattle.c_ast.specs.declared.declaration.Base.TheVariants as base_form
 use Rattle.c_ast.specs.declared.declaration.Enumerator.{Enumerator, Enumerator', out-Enumerator, roll-Enumerator, roll-out-Enumerator}
 use Rattle.c_ast.specs.declared.expression.Expr.{Expr}
 use Rattle.c_ast.specs.declared.expression.ExprNode.{ExprNode}
-use Rattle.c_types.specs.Types.{CType, Qualified, type_of}
+use Rattle.c_types.specs.Types.{type_of}
 use Rattle.c_types.specs.declared.ty.Ty.{Ty}
 use Rattle.type_operands.specs.Terms.{Expression}
-use Rattle.typing_env.specs.Env.{Env, Typing, Use, and_then, found, ◌>>=◌, pure}
+use Rattle.typing_env.specs.Env.{Env, Typing, and_then, found, ◌>>=◌, pure}
 use Rattle.typing_words.specs.Words.{Words, plain, open_enumeration, close_enumeration}
 use Rattle.typing_spec.specs.Expressions.{enumeration_by, enumerators, enumerator_behind, value_given, enumerated, constant, expression, constant_of}
-use Rattle.type_scope.specs.Known.{Naming, known_by}
 use Rattle.type_scope.specs.declared.fault.TypeFault.{TypeFault}
 use Rattle.type_scope.specs.declared.state.State.{State}
 use Rattle.type_expressions.specs.Plain.{IsPlain, ArePlainEnumerators, AllPlainEnumerators, IsPlainEnumerator}

@@ -1,13 +1,13 @@
 -- One reading behind another, from a state that tells what is known to one that tells what is known then.
 use Rattle.std.proofs.Common.{◌≡◌, ◌∙◌, sym, ap, subst, ℕ, Bool, List}
-use Rattle.std.specs.Prelude.{map, Option, Some, None, Result, Ok, Err}
+use Rattle.std.specs.Prelude.{map, Option, Some, Result, Ok, Err}
 use Rattle.std.proofs.Math.Path.{fun_ext}
 use Rattle.std.proofs.lemmas.Option.{same_Some, none-some}
 use Rattle.c_lex.specs.TokenText.{TokenText, line_at, text_at}
 use Rattle.type_operands.specs.Layouts.{Layouts}
 use Rattle.type_operands.specs.Terms.{Expression}
 use Rattle.type_operands.specs.declared.operand.Operand.{Operand}
-use Rattle.typing_env.specs.Env.{Env, Typing, Use, and_then, found, found_in, known, ◌>>=◌, line_in, line_of, spelling}
+use Rattle.typing_env.specs.Env.{Env, Typing, and_then, found, found_in, known, ◌>>=◌, line_in, line_of, spelling}
 use Rattle.typing_env.specs.Seen.{tag_seen}
 use Rattle.typing_words.specs.Tags.{layouts_of, constants}
 use Rattle.typing_spec.specs.Expressions.{made, made_modifying}

@@ -1,5 +1,5 @@
 -- What the definition reads leaves structures and unions that have their members as they are (6.7.2.3p1).
-use Rattle.std.proofs.Common.{◌≡◌, ◌∙◌, refl, sym, ap, ℕ, suc, ◌+◌, ◌<◌, ◌≤◌, Bool, true, false, List, [], ◌∷◌, ◌++◌, length, arith}
+use Rattle.std.proofs.Common.{◌≡◌, ◌∙◌, refl, ℕ, suc, ◌+◌, ◌<◌, ◌≤◌, Bool, true, false, List, [], ◌∷◌, ◌++◌, length, arith}
 use Rattle.std.specs.Prelude.{zero, ℤ, not, ◌==◌, ◌&&◌, if◌then◌else◌, slice_get, is_some, Option, Some, None}
 use Rattle.std.proofs.lemmas.List.{length-append}
 use Rattle.c_lex.specs.declared.token.Word.{Word}
@@ -33,7 +33,7 @@ use Rattle.type_operators.specs.Members.{member_of_value, member_of_pointer}
 use Rattle.type_operands.specs.Layouts.{Layouts}
 use Rattle.type_operands.specs.Terms.{Expression, type_at}
 use Rattle.typing_env.specs.Env.{Env, Typing, Meaning, TagMeaning, an_object, a_function, a_constant, a_typedef, a_tag, an_enumeration}
-use Rattle.typing_env.specs.Env.{◌>>=◌, ◌>>◌, pure, knowing, holds, and_then, found_in, without_uses, unevaluated, symbol_of, line_of, spelling}
+use Rattle.typing_env.specs.Env.{◌>>=◌, ◌>>◌, pure, knowing, holds, and_then, found_in, without_uses, symbol_of, line_of, spelling}
 use Rattle.typing_env.specs.Names.{declare, meaning_of, meaning_here, with_declared, with_tag_name, ended, entered, scoped}
 use Rattle.typing_env.specs.Names.{in_prototype, kept_prototype, prototype_of, tag_seen, with_new_enumeration}
 use Rattle.typing_env.specs.Seen.{SeenMember, SeenTag}

@@ -1,7 +1,7 @@
 -- Lists of operands, as the definition reads them: each behind those before it (6.5.2.2, 6.5.17).
 use Rattle.std.proofs.Common.{◌≡◌, ◌∙◌, refl, sym, ap, subst, ℕ, ◌+◌, ◌<◌, ◌≤◌, Bool, List, [], ◌∷◌, ◌++◌, map, length, get_or, drop}
 use Rattle.std.proofs.Common.{append_assoc, append-nil}
-use Rattle.std.specs.Prelude.{Option, Some, None, Result, Ok, Err}
+use Rattle.std.specs.Prelude.{Option, Some, None, Ok, Err}
 use Rattle.std.proofs.Math.ListN.{drop_of_length-le}
 use Rattle.std.proofs.Math.Path.{fun_ext}
 use Rattle.std.proofs.lemmas.List.{drop_more, map-append}
@@ -11,8 +11,8 @@ use Rattle.c_ast.specs.declared.declaration.Base.TheBlock.{hidden-the_row-Expr-6
 use Rattle.c_ast.specs.declared.expression.Expr.{Expr}
 use Rattle.type_operands.specs.Terms.{Expression}
 use Rattle.type_operands.specs.declared.operand.Operand.{Operand}
-use Rattle.typing_env.specs.Env.{Env, Typing, Use, and_then, ◌>>=◌, pure}
-use Rattle.typing_spec.specs.Expressions.{expression, operands, expr}
+use Rattle.typing_env.specs.Env.{Env, Typing, and_then, ◌>>=◌, pure}
+use Rattle.typing_spec.specs.Expressions.{operands, expr}
 use Rattle.type_scope.specs.declared.fault.TypeFault.{TypeFault}
 use Rattle.type_scope.specs.declared.state.State.{State}
 use Rattle.type_expressions.specs.Plain.{IsPlain, ArePlain, AllPlain, operands_of}

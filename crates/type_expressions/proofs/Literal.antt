@@ -1,6 +1,6 @@
 -- Constants and identifiers, as the definition reads them (6.4.4.1, 6.4.4.4, 6.5.1p2).
-use Rattle.std.proofs.Common.{◌≡◌, ◌∙◌, refl, sym, ap, subst, ℕ, Bool, List}
-use Rattle.std.specs.Prelude.{ℤ, Option, Some, None, Result, Ok, Err}
+use Rattle.std.proofs.Common.{◌≡◌, ◌∙◌, refl, sym, ap, subst, ℕ}
+use Rattle.std.specs.Prelude.{ℤ, Option, Result, Ok, Err}
 use Rattle.c_lex.specs.TokenText.{TokenText, text_at}
 use Rattle.c_lit.specs.Integers.{int_value}
 use Rattle.c_lit.specs.Literals.{char_value}
@@ -10,7 +10,7 @@ use Rattle.c_ast.specs.declared.expression.ExprNode.{ExprNode}
 use Rattle.c_ast.specs.declared.expression.ExprNode.TheVariants as node
 use Rattle.type_operands.specs.declared.operand.Operand.{Operand}
 use Rattle.type_operands.specs.Terms.{Expression, expression_of, map_option}
-use Rattle.typing_env.specs.Env.{Env, Use, found_in, line_of, spelling}
+use Rattle.typing_env.specs.Env.{Env, found_in, line_of, spelling}
 use Rattle.typing_spec.specs.Expressions.{expression, literal_in, character_in}
 use Rattle.typing_spec.specs.Expressions as spec
 use Rattle.type_scope.specs.Reads.{Follows}

@@ -1,6 +1,6 @@
 -- One reading behind another, where string literals are among what is read (6.4.5p6).
 use Rattle.std.proofs.Common.{◌≡◌, sym, ap, subst, ℕ, Bool, List, [], ◌++◌, append-nil, append_assoc, length}
-use Rattle.std.specs.Prelude.{ℤ, Option, Some, None, Result, Ok, Err}
+use Rattle.std.specs.Prelude.{ℤ, Option, Result, Ok, Err}
 use Rattle.c_lex.specs.TokenText.{TokenText, text_at}
 use Rattle.c_ast.specs.declared.expression.Expr.{Expr}
 use Rattle.c_types.specs.Types.{CType}

@@ -1,11 +1,11 @@
 -- What the state tells where names, tags or enumerations are declared, or a scope begins or ends (6.2.1, 6.7.2.3).
-use Rattle.std.proofs.Common.{◌≡◌, ◌∙◌, refl, sym, ap, subst, ℕ, Bool, List}
+use Rattle.std.proofs.Common.{◌≡◌, ◌∙◌, refl, sym, ap, subst, Bool}
 use Rattle.std.specs.Prelude.{OnOk, Option, Some, None, Result, Ok, Err}
 use Rattle.c_lex.specs.TokenText.{TokenText}
-use Rattle.typing_env.specs.Env.{Env, Typing, Use, and_then}
+use Rattle.typing_env.specs.Env.{Env, Typing, and_then}
 use Rattle.typing_env.specs.Names.{entered, left_scope, kept_prototype, ended, scoped, in_prototype}
 use Rattle.type_scope.specs.Known.{Naming, known_by}
-use Rattle.type_scope.specs.Reads.{Reads, Follows}
+use Rattle.type_scope.specs.Reads.{Reads}
 use Rattle.type_scope.specs.declared.fault.TypeFault.{TypeFault}
 use Rattle.type_scope.specs.declared.state.State.{State}
 use Rattle.type_declarators.specs.ConstantMembers.{HasConstants}

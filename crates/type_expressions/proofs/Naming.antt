@@ -1,5 +1,5 @@
 -- What an identifier stands for in an expression (6.5.1p2, 6.7.2.2p3).
-use Rattle.std.proofs.Common.{◌≡◌, ◌∙◌, refl, sym, ap, subst, ℕ, Bool, false, List, [], append-nil}
+use Rattle.std.proofs.Common.{◌≡◌, ◌∙◌, refl, sym, ap, subst, ℕ, Bool, false, List, []}
 use Rattle.std.specs.Prelude.{ℤ, slice_get, Option, Some, None, Result, Ok, Err, IfOk}
 use Rattle.std.specs.Option.{option_map}
 use Rattle.std.proofs.lemmas.Option.{same_Some, none-some}

@@ -3,7 +3,7 @@ use Rattle.std.proofs.Common.{◌≡◌, ◌∙◌, sym, ap, subst, ℕ, List}
 use Rattle.std.specs.Prelude.{true, false, Result}
 use denote.Hole.Carrier.{hidden}
 use Rattle.c_lex.specs.TokenText.{TokenText}
-use Rattle.c_ast.specs.declared.declaration.Base.TheBlock.{hidden-the_row-Expr-3, hidden-the_row-Expr-6, hidden-the_row-TypeName-7}
+use Rattle.c_ast.specs.declared.declaration.Base.TheBlock.{hidden-the_row-Expr-3, hidden-the_row-TypeName-7}
 use Rattle.c_ast.specs.declared.declaration.TypeName.{TypeName}
 use Rattle.c_ast.specs.declared.expression.Expr.{Expr}
 use Rattle.c_ast.specs.declared.expression.ExprNode.{ExprNode}
@@ -19,13 +19,13 @@ use Rattle.type_conversions.specs.Casts.{cast}
 use Rattle.type_calls.specs.Calls.{called}
 use Rattle.type_calls.specs.Choices.{chosen, sequenced}
 use Rattle.typing_env.specs.Env.{Typing, ◌>>=◌, known, spelling, unevaluated}
-use Rattle.typing_spec.specs.Expressions.{expression, operand, operands, expr, made, made_modifying, unary, postfix, binary, assigned, measured}
+use Rattle.typing_spec.specs.Expressions.{expression, operand, expr, made, made_modifying, unary, postfix, binary, assigned, measured}
 use Rattle.typing_spec.specs.Expressions.{measured_operand, type_name}
 use Rattle.type_scope.specs.declared.fault.TypeFault.{TypeFault}
 use Rattle.type_scope.specs.declared.state.State.{State}
 use Rattle.type_expressions.specs.Forms.{member_by}
 use Rattle.type_expressions.specs.Plain.{IsPlain, IsPlainName, AllPlain, operands_of}
-use Rattle.type_expressions.specs.Seen.{Namings, operand_seen}
+use Rattle.type_expressions.specs.Seen.{operand_seen}
 use Rattle.type_expressions.specs.Tells.{ReadsMore}
 use Rattle.type_expressions.specs.TypeNames.{type_by}
 use Rattle.type_expressions.proofs.Lists.{row_is, row_plain}

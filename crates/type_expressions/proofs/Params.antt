@@ -1,7 +1,7 @@
 -- Lists of parameters, as the definition reads them: each in scope behind itself (6.7.6.3).
 use Rattle.std.proofs.Common.{◌≡◌, ◌∙◌, refl, sym, ap, subst, ℕ, suc, ◌+◌, ◌<◌, ◌≤◌, ◌^◌, Bool, true, false, List, [], ◌∷◌, ◌++◌, map, length, get_or, drop}
 use Rattle.std.proofs.Common.{arith}
-use Rattle.std.specs.Prelude.{◌≢◌, zero, not, ◌&&◌, ◌==◌, if◌then◌else◌, Option, Some, None, Result, Ok, Err}
+use Rattle.std.specs.Prelude.{◌≢◌, zero, not, ◌&&◌, ◌==◌, if◌then◌else◌, Option, Some, None, Ok, Err}
 use Rattle.std.proofs.Math.ListN.{drop_of_length-le}
 use Rattle.std.proofs.Math.Path.{fun_ext}
 use Rattle.std.proofs.lemmas.Bool.Decides.{nat_tests}
@@ -13,7 +13,7 @@ use Rattle.c_ast.specs.declared.declaration.Param.{Param}
 use Rattle.c_grammar.specs.Grammar.{name_of}
 use Rattle.c_types.specs.Types.{Params, none, more, params_of, Qualified, qualified_of}
 use Rattle.c_types.specs.declared.ty.Qual.{Qual}
-use Rattle.typing_env.specs.Env.{Env, Typing, Use, and_then, ◌>>=◌, pure}
+use Rattle.typing_env.specs.Env.{Env, Typing, and_then, ◌>>=◌, pure}
 use Rattle.typing_words.specs.Words.{Words, Derivation, is_lone_void, parameter}
 use Rattle.type_declarators.specs.Keywords.{IsSaid}
 use Rattle.typing_spec.specs.Expressions.{Specified, specified, declared, derivations, derived_type, parameters, is_last, says_void}

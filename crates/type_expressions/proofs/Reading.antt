@@ -1,7 +1,7 @@
 -- Parameters by their parts, and what calls of the recursion know of what they read (6.7.2, 6.7.6).
 use Rattle.std.proofs.Common.{◌≡◌, ◌∙◌, refl, sym, ap, subst, ℕ, Bool, true, false, List, [], ◌∷◌}
 use Rattle.std.specs.Prelude.{◌≢◌, ◌<◌, ◌^◌, ◌&&◌, if◌then◌else◌, map, length, ℤ, Option, Some, None, Result, Ok, Err, OnOk}
-use Rattle.std.proofs.lemmas.Option.{none-some, same_Some}
+use Rattle.std.proofs.lemmas.Option.{none-some}
 use Rattle.c_lex.specs.TokenText.{TokenText}
 use Rattle.c_lex.specs.declared.token.Word.{Word}
 use Rattle.c_ast.specs.declared.declaration.Base.{Base}
@@ -14,7 +14,7 @@ use Rattle.c_types.specs.Types.{Qualified, qualified_of, params_of, type_of}
 use Rattle.c_types.specs.declared.tags.TagKind.{TagKind}
 use Rattle.c_types.specs.declared.ty.Qual.{Qual}
 use Rattle.c_types.specs.declared.ty.Ty.{Ty}
-use Rattle.typing_env.specs.Env.{Env, Typing, Use, and_then, ◌>>=◌, pure}
+use Rattle.typing_env.specs.Env.{Env, Typing, and_then, ◌>>=◌, pure}
 use Rattle.typing_env.specs.Names.{in_prototype}
 use Rattle.typing_env.specs.Seen.{tag_seen}
 use Rattle.typing_words.specs.Words.{Words, Derivation, array_of, pointer_to, pointer_by, are_qualifiers, enumeration_reference, plain, kind_of_tag}

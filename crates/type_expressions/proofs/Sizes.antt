@@ -1,13 +1,13 @@
 -- Sizes and alignments, and the operand of `sizeof`, as the definition reads them (6.5.3.4).
 use Rattle.std.proofs.Common.{◌≡◌, ◌∙◌, refl, sym, ap, subst, ℕ, Bool, List, [], ◌++◌, length}
-use Rattle.std.specs.Prelude.{true, map, Option, Some, None, Result, Ok, Err}
+use Rattle.std.specs.Prelude.{true, Option, Some, None, Result, Ok, Err}
 use Rattle.c_lex.specs.TokenText.{TokenText}
 use Rattle.c_types.specs.Types.{CType}
 use Rattle.c_types.specs.declared.tags.Extent.{Extent}
 use Rattle.type_operands.specs.Terms.{Expression, Term, term, type_at, expression_of}
 use Rattle.type_operands.specs.declared.operand.Operand.{Operand}
 use Rattle.typing_env.specs.Env.{Env, Typing, and_then, found_in, if_found, ◌>>=◌, pure, unevaluated, without_uses, line_of}
-use Rattle.typing_env.specs.Seen.{SeenTag, tag_seen}
+use Rattle.typing_env.specs.Seen.{SeenTag}
 use Rattle.typing_words.specs.Tags.{extent_in}
 use Rattle.typing_spec.specs.Expressions.{measured, measured_operand, operand_type, unsigned_long}
 use Rattle.type_scope.specs.Numbered.{literal_bytes}

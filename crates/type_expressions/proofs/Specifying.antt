@@ -1,7 +1,6 @@
 -- Specifiers, as the definition reads them (6.7, 6.7.2).
-use Rattle.std.proofs.Common.{◌≡◌, ◌∙◌, refl, sym, ap, subst, ℕ, Bool, true, false, List, [], ◌∷◌, arith}
-use Rattle.std.specs.Prelude.{◌≢◌, ◌&&◌, ◌||◌, ◌==◌, if◌then◌else◌, length, Option, Some, None, Result, Ok, Err}
-use Rattle.std.proofs.lemmas.Bool.Decides.{nat_tests}
+use Rattle.std.proofs.Common.{◌≡◌, ◌∙◌, refl, sym, ap, subst, ℕ, Bool, true, false, List, [], ◌∷◌}
+use Rattle.std.specs.Prelude.{◌≢◌, ◌&&◌, ◌||◌, ◌==◌, if◌then◌else◌, Option, Some, None, Result, Ok, Err}
 use Rattle.std.proofs.lemmas.Option.{none-some}
 use Rattle.c_lex.specs.TokenText.{TokenText}
 use Rattle.c_lex.specs.declared.token.Word.{Word}
@@ -13,7 +12,7 @@ use Rattle.c_ast.specs.declared.declaration.Enumerator.{Enumerator}
 use Rattle.c_types.specs.Types.{CType, Qualified, qualified_of, type_of}
 use Rattle.c_types.specs.declared.ty.Qual.{Qual}
 use Rattle.c_types.specs.declared.ty.Ty.{Ty}
-use Rattle.typing_env.specs.Env.{Env, Typing, Use, and_then, found, found_in, holds, pure, ◌>>=◌, ◌>>◌, symbol_of}
+use Rattle.typing_env.specs.Env.{Env, Typing, and_then, found, found_in, holds, pure, ◌>>=◌, ◌>>◌, symbol_of}
 use Rattle.typing_env.specs.Names.{meaning_of}
 use Rattle.typing_words.specs.Words.{Words, said, with_qualifiers, is_no_word, plain, plain_option, type_named, type_table, typedef_in}
 use Rattle.typing_words.specs.Words.{kind_of_tag, reference}

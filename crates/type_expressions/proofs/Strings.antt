@@ -1,5 +1,5 @@
 -- String literals, as the definition reads them (6.4.5p5, 6.4.5p6).
-use Rattle.std.proofs.Common.{◌≡◌, ◌∙◌, refl, sym, ap, subst, ℕ, suc, ◌+◌, ◌≤◌, ◌<◌, ◌^◌, Bool, true, false, List, [], ◌∷◌, ◌++◌, length, arith}
+use Rattle.std.proofs.Common.{◌≡◌, ◌∙◌, refl, sym, ap, subst, ℕ, suc, ◌+◌, ◌≤◌, ◌<◌, ◌^◌, Bool, false, List, [], ◌∷◌, ◌++◌, length, arith}
 use Rattle.std.specs.Prelude.{zero, if◌then◌else◌, OnOk, Option, Some, None, Result, Ok, Err}
 use Rattle.std.proofs.lemmas.Option.{same_Some, none-some}
 use Rattle.c_lex.specs.TokenText.{TokenText, kind_at, text_at}
@@ -16,7 +16,6 @@ use Rattle.typing_env.specs.Env.{Env, Typing, and_then, found_in, line_of, spell
 use Rattle.typing_spec.specs.Expressions.{expression, strings, literal_at, literals_from, bytes_then, is_literal}
 use Rattle.type_scope.specs.Numbered.{literal_bytes, HasLiterals}
 use Rattle.type_scope.specs.declared.fault.TypeFault.{TypeFault}
-use Rattle.type_scope.specs.declared.fault.TypeFault.TheVariants.{NoMemory}
 use Rattle.type_scope.specs.declared.state.State.{State}
 use Rattle.type_declarators.specs.Finds.{Finds}
 use Rattle.type_declarators.specs.Literals as held

@@ -1,5 +1,5 @@
 -- Trees without lists of members, and the lists of them (own).
-use Rattle.std.specs.Prelude.{◌≡◌, ℕ, suc, ◌<◌, ◌^◌, zero, ℤ, pos, ◌<ℤ◌, List, [], ◌∷◌, Option, Some}
+use Rattle.std.specs.Prelude.{◌≡◌, ℕ, suc, ◌<◌, ◌^◌, zero, ℤ, pos, ◌<ℤ◌, List, [], ◌∷◌, Some}
 use Rattle.c_lex.specs.TokenText.{TokenText}
 use Rattle.c_ast.specs.declared.declaration.Base.TheBlock.{Plain, Tagged', Base-Tagged-2-None', Base-Tagged-2-Some', Typedef}
 use Rattle.c_ast.specs.declared.declaration.Base.TheBlock.{Enumerated', Base-Enumerated-1-None', Base-Enumerated-1-Some'}

@@ -1,5 +1,5 @@
 -- What a state tells of what is known, where an expression begins or ends, and what a call reads there.
-use Rattle.std.specs.Prelude.{◌≡◌, ℕ, Bool, true, false, List, [], ◌∷◌, ◌++◌, length, Option, Result}
+use Rattle.std.specs.Prelude.{◌≡◌, ℕ, Bool, true, false, List, [], ◌∷◌, ◌++◌, length, Result}
 use Rattle.c_lex.specs.TokenText.{TokenText, line_at}
 use Rattle.typing_env.specs.Env.{Env, Typing, Use, and_then, line_in}
 use Rattle.type_scope.specs.Known.{Naming, IsKnown}

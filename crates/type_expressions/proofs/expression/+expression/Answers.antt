@@ -1,5 +1,5 @@
 use Rattle.std.proofs.Common.{refl, sym, ap, ◌∙◌, map}
-use Rattle.std.specs.Prelude.{ℕ, Bool, List, Option, Some, Ok}
+use Rattle.std.specs.Prelude.{ℕ, List, Some, Ok}
 use Rattle.c_ast.specs.declared.declaration.Base.TheVariants as base_form
 use Rattle.c_ast.specs.declared.declaration.Enumerator.{Enumerator}
 use Rattle.c_grammar.specs.Grammar.{name_of}
@@ -11,7 +11,7 @@ use Rattle.type_calls.specs.Choices.{chosen, sequenced}
 use Rattle.type_operators.specs.Operators.{indexed}
 use Rattle.typing_env.specs.Env.{◌>>=◌, known, spelling, unevaluated}
 use Rattle.typing_words.specs.Words.{said, pointer_by, enumeration_reference, open_enumeration, close_enumeration}
-use Rattle.typing_spec.specs.Expressions.{expr, made, made_modifying, measured, measured_operand, unary, postfix, binary, assigned}
+use Rattle.typing_spec.specs.Expressions.{expr, made, made_modifying, measured, unary, postfix, binary, assigned}
 use Rattle.type_declarators.proofs.Declared.{name_pointer, name_array, name_function}
 use Rattle.type_expressions.specs.Forms.{member_by}
 use Rattle.type_expressions.specs.Plain.{operands_of}
