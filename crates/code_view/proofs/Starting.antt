@@ -8,7 +8,7 @@ use Rattle.prov_memory.specs.Keeps.{RowsStay}
 use Rattle.c_model.specs.Program.{Standing}
 use Rattle.c_model.specs.World.{Limits}
 use Rattle.program_view.specs.View.{main_values, standing_of}
-use Rattle.run_acts.proofs.Viewed.{as_viewed}
+use Rattle.run_standing.proofs.Viewed.{as_viewed}
 use Rattle.run_statements.specs.declared.numbers.Numbers.{Numbers}
 use Rattle.run_layout.specs.OfTrees.{ListsTrees}
 use Rattle.run_state.specs.Begins.{StartIsWithin, StartsAs}

@@ -30,8 +30,8 @@ use Rattle.libc_model.specs.Seen.{value_seen, values_seen}
 use Rattle.libc_print.specs.Seen as printing
 use Rattle.c_model.specs.Libraries.{result, typed}
 use Rattle.library_laws.specs.Called.{called_with}
-use Rattle.run_acts.specs.Kept.{IsOf}
-use Rattle.run_acts.specs.Views.{value_in}
+use Rattle.run_values.specs.Kept.{IsOf}
+use Rattle.run_values.specs.Views.{value_in}
 use Rattle.run_layout.specs.declared.steps.Operand.{Operand}
 use Rattle.run_state.specs.declared.machine.Machine.{Machine}
 use Rattle.run_state.specs.Operands.{operand_in}

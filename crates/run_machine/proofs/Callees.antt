@@ -86,7 +86,7 @@ use Rattle.program_view.specs.Laws.{TreesAreKept}
 use Rattle.program_view.specs.Statements.{defined, definition}
 use Rattle.program_view.specs.View as view
 use Rattle.run_acts.specs.Calls.{AgreesAsCompatible, AreFunctions}
-use Rattle.run_acts.specs.Views.{value_in}
+use Rattle.run_values.specs.Views.{value_in}
 use Rattle.run_control.specs.View.{Meaning}
 use Rattle.run_layout.specs.declared.steps.Act.TheVariants as act
 use Rattle.run_layout.specs.declared.steps.Due.{Due}

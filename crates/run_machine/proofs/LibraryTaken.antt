@@ -77,7 +77,7 @@ use Rattle.c_model.specs.Values.{Value, function_in, later_values}
 use Rattle.c_model.specs.World.{World}
 use Rattle.library_laws.specs.Calls.{CallsMoreRows, ComesToAct, HasLibrary, IsLibraryCall, LibraryCallSteps}
 use Rattle.run_acts.specs.Calls.{AreFunctions}
-use Rattle.run_acts.specs.Views.{value_in}
+use Rattle.run_values.specs.Views.{value_in}
 use Rattle.run_control.specs.View.{Meaning}
 use Rattle.run_layout.specs.declared.steps.Act.TheVariants as act
 use Rattle.run_layout.specs.declared.steps.Due.{Due}

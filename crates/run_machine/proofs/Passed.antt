@@ -25,7 +25,7 @@ use Rattle.c_model.specs.Runs.{Entry, State}
 use Rattle.c_model.specs.Steps.{Begun, Scene, auto_name, object_at, pass_all}
 use Rattle.c_model.specs.Values.{Value, Nothing, address_after}
 use Rattle.c_model.specs.World.{World}
-use Rattle.run_acts.specs.Views.{value_in}
+use Rattle.run_values.specs.Views.{value_in}
 use Rattle.run_layout.specs.declared.steps.ObjectCode.{ObjectCode}
 use Rattle.run_layout.specs.declared.steps.StoreCode.{StoreCode}
 use Rattle.run_control.specs.View.{Meaning}

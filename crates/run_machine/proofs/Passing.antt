@@ -30,10 +30,10 @@ use Rattle.prov_memory.proofs.KeepLemmas.{keeps_none, keeps_then}
 use Rattle.c_model.specs.Nodes.{overlap_inexactly, put, put_whole}
 use Rattle.c_model.specs.Values as model
 use Rattle.c_model.specs.Values.{Fun, Int, Nothing, Pointer, Ptr, Value, address_after, function_in, int_bytes, integer_of, pointer_of}
-use Rattle.run_acts.specs.declared.values.Pointer.{Pointer as Place}
-use Rattle.run_acts.specs.Kept.{IsOf}
-use Rattle.run_acts.specs.Views.{pointer_at, value_in}
-use Rattle.run_acts.proofs.Keeping.{values_stay}
+use Rattle.run_values.specs.declared.values.Pointer.{Pointer as Place}
+use Rattle.run_values.specs.Kept.{IsOf}
+use Rattle.run_values.specs.Views.{pointer_at, value_in}
+use Rattle.run_values.proofs.Keeping.{values_stay}
 use Rattle.run_layout.specs.declared.steps.ObjectCode.{ObjectCode}
 use Rattle.run_layout.specs.declared.steps.Operand.TheVariants as operand
 use Rattle.run_layout.specs.declared.steps.StoreCode.{StoreCode}

@@ -22,12 +22,12 @@ use Rattle.c_model.specs.Control.{To_do, ready_work}
 use Rattle.c_model.specs.Steps.{body_of}
 use Rattle.c_model.specs.Runs.{State, Running, limit_passed, main_frame, nothing_stands, stand, start, started_run, within, work_of}
 use Rattle.prov_memory.specs.declared.cell.Via.{Via}
-use Rattle.run_acts.specs.declared.initial.Places.{Places}
-use Rattle.run_acts.specs.declared.storage.Filling.{Filling}
-use Rattle.run_acts.specs.Standing.{StartStands, program_name}
-use Rattle.run_acts.specs.Starting.{ArePlaced}
-use Rattle.run_acts.proofs.Stands.{stands_so}
-use Rattle.run_acts.proofs.Starting.{can_hold_all, placed_still}
+use Rattle.run_values.specs.declared.places.Places.{Places}
+use Rattle.run_values.specs.declared.filling.Filling.{Filling}
+use Rattle.run_standing.specs.Standing.{StartStands, program_name}
+use Rattle.run_values.specs.Placed.{ArePlaced}
+use Rattle.run_standing.proofs.Stands.{stands_so}
+use Rattle.run_values.proofs.Placed.{can_hold_all, placed_still}
 use Rattle.run_control.specs.declared.statement.Statement.{Statement}
 use Rattle.run_control.specs.declared.work.Work.TheVariants as work
 use Rattle.run_control.specs.Stacked.{Stacked}

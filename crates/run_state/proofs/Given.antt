@@ -9,9 +9,9 @@ use Rattle.prov_memory.specs.Memory.{Kept}
 use Rattle.c_model.specs.Values.{Int}
 use Rattle.c_model.specs.World.{World}
 use Rattle.program_view.specs.View.{main_values, passed_to, takes_arguments}
-use Rattle.run_acts.specs.Views.{value_in}
-use Rattle.run_acts.proofs.Keeping.{values_stay}
-use Rattle.run_acts.proofs.Viewed.{takes_same}
+use Rattle.run_values.specs.Views.{value_in}
+use Rattle.run_values.proofs.Keeping.{values_stay}
+use Rattle.run_standing.proofs.Viewed.{takes_same}
 use Rattle.run_control.specs.declared.statement.Statement.{Statement}
 use Rattle.run_layout.specs.declared.whole.Code.{Code}
 use Rattle.run_layout.specs.declared.steps.FunctionCode.{FunctionCode}

@@ -33,10 +33,10 @@ use Rattle.c_model.specs.Values.{Value, Int, Ptr, address_after, integer_of}
 use Rattle.c_model.specs.World.{World}
 use Rattle.program_view.specs.Trees.{expr_of, exprs_of, is_pointer, constant_head}
 use Rattle.program_view.proofs.Seen.{node_in, operands_in, own_type, head_in, expr_at, by_size}
-use Rattle.run_acts.specs.Contents.{StandsAt}
-use Rattle.run_acts.specs.Kept.{IsOf}
-use Rattle.run_acts.specs.Views.{value_in}
-use Rattle.run_acts.proofs.Starting.{all_at}
+use Rattle.run_values.specs.Contents.{StandsAt}
+use Rattle.run_values.specs.Kept.{IsOf}
+use Rattle.run_values.specs.Views.{value_in}
+use Rattle.run_values.proofs.Placed.{all_at}
 use Rattle.run_layout.specs.declared.steps.BlockCode.{BlockCode}
 use Rattle.run_layout.specs.declared.steps.Operand.{Operand}
 use Rattle.run_layout.specs.declared.steps.Operand.TheVariants as operand

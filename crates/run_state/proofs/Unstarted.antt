@@ -5,8 +5,8 @@ use Rattle.c_model.specs.Program.{Standing}
 use Rattle.c_model.specs.Runs.{created_after}
 use Rattle.mem_spec.specs.Store.{Store}
 use Rattle.prov_memory.specs.Memory.{Kept, empty, store_of}
-use Rattle.run_acts.proofs.Counts.{start_counts}
-use Rattle.run_acts.proofs.Viewed.{as_viewed}
+use Rattle.run_standing.proofs.Counts.{start_counts}
+use Rattle.run_standing.proofs.Viewed.{as_viewed}
 use Rattle.run_layout.specs.declared.whole.Code.{Code}
 use Rattle.run_state.specs.declared.machine.Machine.{Machine}
 use Rattle.run_state.specs.declared.machine.Open.{Open}

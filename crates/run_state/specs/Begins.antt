@@ -21,13 +21,13 @@ use Rattle.c_model.specs.Values.{Value}
 use Rattle.c_model.specs.World.{World, Limits}
 use Rattle.c_model.specs.Runs.{State, Running, start, created_after, too_many, limit_passed}
 use Rattle.program_view.specs.View.{main_values, standing_of}
-use Rattle.run_acts.specs.Kept.{IsOf}
-use Rattle.run_acts.specs.Standing.{Stand, program_name}
-use Rattle.run_acts.specs.Viewed.{IsGiven}
-use Rattle.run_acts.specs.declared.initial.Places.{Places}
-use Rattle.run_acts.specs.declared.initial.Started.{Started}
-use Rattle.run_acts.specs.declared.storage.Filling.{Filling}
-use Rattle.run_acts.specs.Contents.{CanHoldAll}
+use Rattle.run_values.specs.Kept.{IsOf}
+use Rattle.run_standing.specs.Standing.{Stand, program_name}
+use Rattle.run_standing.specs.Viewed.{IsGiven}
+use Rattle.run_values.specs.declared.places.Places.{Places}
+use Rattle.run_standing.specs.declared.initial.Started.{Started}
+use Rattle.run_values.specs.declared.filling.Filling.{Filling}
+use Rattle.run_values.specs.Contents.{CanHoldAll}
 use Rattle.run_control.specs.declared.statement.Statement.{Statement}
 use Rattle.run_control.specs.declared.work.Use.TheVariants as for_use
 use Rattle.run_control.specs.declared.work.Work.TheVariants as work

@@ -19,7 +19,7 @@ use Rattle.c_model.specs.Steps.{Local}
 use Rattle.c_model.specs.Values.{Value}
 use Rattle.c_model.specs.World.{World, Limits}
 use Rattle.program_view.specs.View.{main_values, standing_of, world_of}
-use Rattle.run_acts.specs.Viewed.{StandsAsViewed, ViewStands}
+use Rattle.run_standing.specs.Viewed.{StandsAsViewed, ViewStands}
 use Rattle.run_statements.specs.declared.numbers.Numbers.{Numbers}
 use Rattle.run_state.specs.declared.machine.Machine.{Machine}
 use Rattle.run_state.specs.declared.machine.Open.{Open}

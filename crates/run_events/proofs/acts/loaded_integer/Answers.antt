@@ -2,7 +2,7 @@ use Rattle.std.proofs.Common.{refl, sym, subst}
 use Rattle.c_typed.specs.declared.tree.Access.TheVariants as access
 use Rattle.c_model.specs.Values.{pointer_of}
 use Rattle.run_acts.specs.Loads.{integer_act}
-use Rattle.run_acts.specs.Views.{pointer_at}
+use Rattle.run_values.specs.Views.{pointer_at}
 use Rattle.run_layout.specs.declared.steps.Act.TheVariants as act
 use Rattle.run_layout.specs.declared.steps.Operand.{Operand}
 use Rattle.run_answers.proofs.Doing.{Of, cell_of, place_same, pointer_made}
