@@ -24,7 +24,7 @@ use Rattle.run_statements.specs.declared.numbers.Numbers.{Numbers}
 use Rattle.run_state.specs.declared.machine.Machine.{Machine}
 use Rattle.run_state.specs.declared.machine.Open.{Open}
 use Rattle.run_state.specs.declared.machine.Stage.{Stage}
-use Rattle.run_state.specs.Begins.{IsUnstarted, StartIsWithin, StartsAs}
+use Rattle.run_start.specs.Begins.{IsUnstarted, StartIsWithin, StartsAs}
 use Rattle.run_state.specs.Meaning.{StandsProgram, world_with}
 use Rattle.value_facts.specs.Limits.{StartsWithin}
 use Rattle.frame_laws.specs.Laws.{StartsOrdered}

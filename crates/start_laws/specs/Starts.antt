@@ -13,7 +13,7 @@ use Rattle.program_view.specs.View.{main_values, world_of}
 use Rattle.run_standing.specs.Standing.{Stand, program_name}
 use Rattle.run_statements.specs.declared.numbers.Numbers.{Numbers}
 use Rattle.run_state.specs.declared.machine.Machine.{Machine}
-use Rattle.run_state.specs.Begins.{CountsAsDefined, IsUnstarted}
+use Rattle.run_start.specs.Begins.{CountsAsDefined, IsUnstarted}
 use Rattle.code_view.specs.Starting.{IsPrepared}
 use Rattle.run_facts.specs.Going.{IsGoing}
 use Rattle.run_facts.specs.SetUp.{IsProfile, IsSetUp}

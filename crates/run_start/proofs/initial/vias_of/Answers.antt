@@ -1,10 +1,10 @@
 use Rattle.std.proofs.Common.{◌+◌, ◌∙◌, refl, arith}
 use Rattle.c_types.specs.Types.{type_of}
 use Rattle.prov_memory.proofs.KeepLemmas.{keeps_none, keeps_then}
-use Rattle.run_state.specs.Begins.{IsNamedVia}
-use Rattle.run_state.proofs.Each.{each_none, each_more, each_then, each_all}
-use Rattle.run_state.proofs.Vias.{named_stays}
-use Rattle.run_state.proofs.initial.vias_of.Goals as goal
+use Rattle.run_start.specs.Begins.{IsNamedVia}
+use Rattle.run_start.proofs.Each.{each_none, each_more, each_then, each_all}
+use Rattle.run_start.proofs.Vias.{named_stays}
+use Rattle.run_start.proofs.initial.vias_of.Goals as goal
 
 pub loop-store-init : goal.loop-store-init
 loop-store-init c = record {

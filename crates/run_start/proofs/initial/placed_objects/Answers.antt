@@ -1,4 +1,4 @@
-use Rattle.run_state.proofs.initial.placed_objects.Goals as goal
+use Rattle.run_start.proofs.initial.placed_objects.Goals as goal
 
 pub returns-clause-given : goal.returns-clause-given
 returns-clause-given c = λ sound lawful.

@@ -1,8 +1,8 @@
 use Rattle.std.proofs.Common.{◌+◌, ◌++◌, ◌∷◌, [], refl, arith}
-use Rattle.run_state.specs.Begins.{IsBodyOf}
-use Rattle.run_state.proofs.Each.{each_more, each_all}
-use Rattle.run_state.proofs.Given.{labels_kept}
-use Rattle.run_state.proofs.initial.jumps_of.Goals as goal
+use Rattle.run_start.specs.Begins.{IsBodyOf}
+use Rattle.run_start.proofs.Each.{each_more, each_all}
+use Rattle.run_start.proofs.Given.{labels_kept}
+use Rattle.run_start.proofs.initial.jumps_of.Goals as goal
 
 pub loop-function-init : goal.loop-function-init
 loop-function-init c = ([], c.new-jumps.ensures, tt)

@@ -10,10 +10,10 @@ use Rattle.prov_memory.proofs.SoundLemmas.{empty_sound}
 use Rattle.run_layout.specs.declared.whole.Code.{Code}
 use Rattle.run_state.specs.declared.machine.Machine.{Machine}
 use Rattle.run_state.specs.declared.machine.Open.{Open}
-use Rattle.run_state.proofs.Beginning.{assembled_parts, parts_after, begins}
-use Rattle.run_state.proofs.Given.{holds_given, labels_same}
-use Rattle.run_state.proofs.Unstarted.{counted, unstarted}
-use Rattle.run_state.proofs.initial.prepare.Goals as goal
+use Rattle.run_start.proofs.Beginning.{assembled_parts, parts_after, begins}
+use Rattle.run_start.proofs.Given.{holds_given, labels_same}
+use Rattle.run_start.proofs.Unstarted.{counted, unstarted}
+use Rattle.run_start.proofs.initial.prepare.Goals as goal
 
 pub returns-clause-stands : goal.returns-clause-stands
 returns-clause-stands c = λ lawful few nothing high.

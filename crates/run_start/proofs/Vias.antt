@@ -18,7 +18,7 @@ use Rattle.prov_memory.specs.Memory.{Kept}
 use Rattle.prov_memory.specs.Stores.{IsTypeOf}
 use Rattle.program_view.specs.Trees.{is_pointer}
 use Rattle.run_values.specs.Stores.{SeesAs}
-use Rattle.run_state.specs.Begins.{HasTypeNumber, IsNamed}
+use Rattle.run_start.specs.Begins.{HasTypeNumber, IsNamed}
 use Rattle.run_state.specs.Meaning.{AccessSuits}
 
 -- ---- numbers of types stay

@@ -1,7 +1,7 @@
 use Rattle.std.proofs.Common.{refl, ap, ◌∙◌, ◌∷◌}
 use Rattle.run_control.specs.Stacked.{Stacked}
-use Rattle.run_state.proofs.Beginning.{main_starts}
-use Rattle.run_state.proofs.initial.first_frame.Goals as goal
+use Rattle.run_start.proofs.Beginning.{main_starts}
+use Rattle.run_start.proofs.initial.first_frame.Goals as goal
 
 pub returns-clause-work : goal.returns-clause-work
 returns-clause-work c =

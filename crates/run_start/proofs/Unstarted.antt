@@ -10,8 +10,8 @@ use Rattle.run_standing.proofs.Viewed.{as_viewed}
 use Rattle.run_layout.specs.declared.whole.Code.{Code}
 use Rattle.run_state.specs.declared.machine.Machine.{Machine}
 use Rattle.run_state.specs.declared.machine.Open.{Open}
-use Rattle.run_state.specs.Begins.{CountsAsDefined, IsFirst, IsUnstarted, SeesMain}
-use Rattle.run_state.proofs.Beginning.{Parts}
+use Rattle.run_start.specs.Begins.{CountsAsDefined, IsFirst, IsUnstarted, SeesMain}
+use Rattle.run_start.proofs.Beginning.{Parts}
 
 -- ---- the machine
 pub unstarted : (p : Program) (code : Code) (top : Open) (m n : Machine) → n ≡ record m { locals = n.locals } → m.top.above ≤ length n.locals.items →

@@ -39,9 +39,9 @@ use Rattle.run_state.specs.declared.machine.Open.{Open}
 use Rattle.run_state.specs.declared.machine.Stage.{Stage}
 use Rattle.run_state.specs.Meaning.{world_with, AccessSuits, StandsProgram, StandsCode}
 use Rattle.run_state.specs.Stands.{AreBytes, AreEach, HoldsAll, IsResultOf, IsVia, StandFrames, StandsBegun, StandsFrame, StandsTables, frames_of, result_seen}
-use Rattle.run_state.specs.Begins.{AreBytesWhere, BeginsAsDefined, IsFirst, IsNamedVia, StartIsWithin, StartsMain}
-use Rattle.run_state.proofs.Each.{each_where}
-use Rattle.run_state.proofs.Vias.{named_seen}
+use Rattle.run_start.specs.Begins.{AreBytesWhere, BeginsAsDefined, IsFirst, IsNamedVia, StartIsWithin, StartsMain}
+use Rattle.run_start.proofs.Each.{each_where}
+use Rattle.run_start.proofs.Vias.{named_seen}
 
 -- ---- the body of `main` is to be done
 pub main_starts : (code : Code) (p : Program) (c : FunctionCode) (b : Bor Statement) (s : Stacked) → slice_get code.functions.items p.main ≡ Some (Some c) →

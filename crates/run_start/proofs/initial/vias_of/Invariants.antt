@@ -4,9 +4,9 @@ use Rattle.mem_spec.specs.Streams.{Io}
 use Rattle.prov_memory.specs.Keeps.{Keeps}
 use Rattle.prov_memory.specs.Memory.{store_of}
 use Rattle.prov_memory.specs.Tags.{AreTagged}
-use Rattle.run_state.specs.Begins.{IsNamedVia}
+use Rattle.run_start.specs.Begins.{IsNamedVia}
 use Rattle.run_state.specs.Stands.{AreEach}
-use Rattle.run_state.proofs.initial.vias_of.Given as goal
+use Rattle.run_start.proofs.initial.vias_of.Given as goal
 
 abbrev pub invariant-loop-store : goal.invariant-loop-store
 invariant-loop-store l = record {

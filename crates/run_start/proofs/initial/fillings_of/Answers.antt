@@ -1,7 +1,7 @@
 use Rattle.std.proofs.Common.{◌+◌, arith}
-use Rattle.run_state.specs.Begins.{AreBytesWhere}
-use Rattle.run_state.proofs.Each.{each_none, each_more, each_all}
-use Rattle.run_state.proofs.initial.fillings_of.Goals as goal
+use Rattle.run_start.specs.Begins.{AreBytesWhere}
+use Rattle.run_start.proofs.Each.{each_none, each_more, each_all}
+use Rattle.run_start.proofs.initial.fillings_of.Goals as goal
 
 pub loop-constants-init : goal.loop-constants-init
 loop-constants-init c = record {

@@ -18,7 +18,7 @@ use Rattle.run_layout.specs.declared.steps.FunctionCode.{FunctionCode}
 use Rattle.run_statements.specs.declared.jumps.Jumps.{Jumps}
 use Rattle.run_statements.specs.Jumping.{HasJumps}
 use Rattle.run_state.specs.declared.machine.Machine.{Machine}
-use Rattle.run_state.specs.Begins.{HoldsGiven, IsBodyOf, IsGivenIn, KeepsLabels}
+use Rattle.run_start.specs.Begins.{HoldsGiven, IsBodyOf, IsGivenIn, KeepsLabels}
 use Rattle.run_state.specs.Meaning.{world_with}
 use Rattle.run_state.specs.Stands.{AreEach, HoldsAll}
 
