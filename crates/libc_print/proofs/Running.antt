@@ -49,11 +49,11 @@ use Rattle.libc_spec.specs.Library.{Text, text, read_numbers, without_zero, join
 use Rattle.libc_spec.specs.Directives as directives
 use Rattle.libc_spec.specs.Directives.{directive_of, form, taken}
 use Rattle.libc_spec.specs.Print.{Argument, Taken, Step, Field, put, step, text_of, field, address_parts, one}
-use Rattle.libc_model.specs.declared.arguments.Range.{Range}
-use Rattle.libc_model.specs.Parts.{after, effect, CanFollow, has_read, Gives, Follows, ReadsAll, bytes_of, text_in}
-use Rattle.libc_model.proofs.Scripts.{behind}
-use Rattle.libc_model.proofs.Parts.{then_gives, then_raises, raises_then, gives_at_once, quiet_starts, after_append, follow_append}
-use Rattle.libc_model.proofs.Reading.{reads_follow}
+use Rattle.libc_arguments.specs.declared.arguments.Range.{Range}
+use Rattle.libc_arguments.specs.Parts.{after, effect, CanFollow, has_read, Gives, Follows, ReadsAll, bytes_of, text_in}
+use Rattle.libc_arguments.proofs.Scripts.{behind}
+use Rattle.libc_arguments.proofs.Parts.{then_gives, then_raises, raises_then, gives_at_once, quiet_starts, after_append, follow_append}
+use Rattle.libc_arguments.proofs.Reading.{reads_follow}
 use Rattle.libc_print.specs.declared.refusal.Refusal.{Refusal}
 use Rattle.libc_print.specs.declared.refusal.Refusal.TheVariants.{Raise, Outside, NoMemory}
 use Rattle.libc_print.specs.Seen.{digits_of, address_parts_of}

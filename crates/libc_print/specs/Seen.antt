@@ -6,7 +6,7 @@ use Rattle.prov_memory.specs.declared.value.Value.{Value}
 use Rattle.libc_spec.specs.Directives as directives
 use Rattle.libc_spec.specs.Directives.{Piece}
 use Rattle.libc_spec.specs.Library.{argument_at}
-use Rattle.libc_model.specs.Seen.{value_seen, values_seen}
+use Rattle.libc_arguments.specs.Seen.{value_seen, values_seen}
 use Rattle.libc_spec.specs.Print as print
 use Rattle.libc_spec.specs.Print.{Argument}
 use Rattle.libc_print.specs.declared.directive.Flags.{Flags}

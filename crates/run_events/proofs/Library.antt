@@ -24,9 +24,9 @@ use Rattle.prov_memory.proofs.KeepLemmas.{keeps_none}
 use Rattle.libc_spec.specs.Formatted.{printed_to_by, stored_by}
 use Rattle.libc_spec.specs.Library.{LibValue, number, pointer, nothing, argument_at, called, integer_in, prov_in, size_of_value}
 use Rattle.libc_spec.specs.Print.{Argument, printed_by}
-use Rattle.libc_model.specs.Answers.{Answers, AreTyped, AreWithin, ArgumentsMade, GivesMade, HaveCells, IsCall, StandHigh}
-use Rattle.libc_model.specs.Answers.{are_sizes, given_value, is_size, size_places}
-use Rattle.libc_model.specs.Seen.{value_seen, values_seen}
+use Rattle.libc_arguments.specs.Answers.{Answers, AreTyped, AreWithin, ArgumentsMade, GivesMade, HaveCells, IsCall, StandHigh}
+use Rattle.libc_arguments.specs.Answers.{are_sizes, given_value, is_size, size_places}
+use Rattle.libc_arguments.specs.Seen.{value_seen, values_seen}
 use Rattle.libc_print.specs.Seen as printing
 use Rattle.c_model.specs.Libraries.{result, typed}
 use Rattle.library_laws.specs.Called.{called_with}

@@ -2,7 +2,7 @@ use Rattle.std.proofs.Common.{false, ℕ, List, Ok, Err, Vec, Global, subst}
 use Rattle.std.proofs.lemmas.Result.{err_from_is_err_and}
 use Rattle.mem_spec.specs.Script.{◌>>=◌}
 use Rattle.libc_spec.specs.Print.{next_pointer, string_bytes, field, bare, spaced, one}
-use Rattle.libc_model.specs.Seen.{pointer_seen}
+use Rattle.libc_arguments.specs.Seen.{pointer_seen}
 use Rattle.libc_print.specs.Seen.{left, flags_seen, width_seen}
 use Rattle.libc_print.specs.Answers.{PutsBytes, answer_of}
 use Rattle.libc_print.specs.Runs.{directive_bytes}
