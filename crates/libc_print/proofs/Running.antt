@@ -54,10 +54,11 @@ use Rattle.libc_arguments.specs.Parts.{after, effect, CanFollow, has_read, Gives
 use Rattle.libc_arguments.proofs.Scripts.{behind}
 use Rattle.libc_arguments.proofs.Parts.{then_gives, then_raises, raises_then, gives_at_once, quiet_starts, after_append, follow_append}
 use Rattle.libc_arguments.proofs.Reading.{reads_follow}
-use Rattle.libc_print.specs.declared.refusal.Refusal.{Refusal}
-use Rattle.libc_print.specs.declared.refusal.Refusal.TheVariants.{Raise, Outside, NoMemory}
-use Rattle.libc_print.specs.Seen.{digits_of, address_parts_of}
-use Rattle.libc_print.specs.Answers.{PutsBytes, Puts, Steps, answer_of}
+use Rattle.libc_directives.specs.declared.refusal.Refusal.{Refusal}
+use Rattle.libc_directives.specs.declared.refusal.Refusal.TheVariants.{Raise, Outside, NoMemory}
+use Rattle.libc_directives.specs.Seen.{digits_of, address_parts_of}
+use Rattle.libc_directives.specs.Answers.{PutsBytes, Puts, answer_of}
+use Rattle.libc_print.specs.Answers.{Steps}
 use Rattle.libc_print.specs.Runs.{Prints, printed_text, Added, Adds, directive_bytes, step_bytes}
 use Rattle.libc_print.proofs.Stepping.{sized_step}
 use Rattle.libc_print.proofs.Printing.{then_passes, with_format, with_numbers, text_without}

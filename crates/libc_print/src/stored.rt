@@ -20,10 +20,10 @@ ghost use Rattle.mem_spec.specs.Streams.{Io};
 ghost use Rattle.prov_memory.specs.Keeps.{Keeps};
 ghost use Rattle.prov_memory.specs.Memory.{AreKnown, HasCell, store_of};
 
-use crate::directive::front;
 use crate::stream::short_text;
 use c_types::Qual;
 use libc_arguments::{Pointer, Range, block_of, overwrite, pointer_at, size_at, target_of};
+use libc_directives::front;
 use prov_memory::{LibAnswer, Memory, Touched, Value, Values};
 use std::alloc::Global;
 use ub_base::{Clause, Item, NoMemory, ObjName};

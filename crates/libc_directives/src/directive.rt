@@ -4,7 +4,7 @@ ghost use Rattle.std.specs.List.{list_any, take_while};
 ghost use Rattle.libc_spec.specs.Directives.{most, is_flag, is_digit, flags_in, number_from, count_of_digits, width_of, precision_behind, precision_of, begins};
 ghost use Rattle.libc_spec.specs.Directives.{length_of, directive_of, form_if, has_flag, is_floating, form_of_text, form, is_plain, is_absent, is_l, is_big_l};
 ghost use Rattle.libc_spec.specs.Directives.{left_out};
-ghost use Rattle.libc_print.specs.Seen.{flags_seen, count_seen, length_seen, piece, directive_seen, form_seen};
+ghost use Rattle.libc_directives.specs.Seen.{flags_seen, count_seen, length_seen, piece, directive_seen, form_seen};
 
 /// A number above this counts as this (own).
 pub const MOST: u64 = 1 << 62;

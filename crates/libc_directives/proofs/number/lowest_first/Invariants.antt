@@ -1,7 +1,7 @@
 use Rattle.std.proofs.Common.{◌≡◌, ◌-◌, ◌++◌, reverse}
-use Rattle.libc_print.specs.Seen.{base_number, is_upper}
-use Rattle.libc_print.proofs.Writing.{digits_left}
-use Rattle.libc_print.proofs.number.lowest_first.Given as goal
+use Rattle.libc_directives.specs.Seen.{base_number, is_upper}
+use Rattle.libc_directives.proofs.Writing.{digits_left}
+use Rattle.libc_directives.proofs.number.lowest_first.Given as goal
 
 abbrev pub invariant-loop-turn : goal.invariant-loop-turn
 invariant-loop-turn l =

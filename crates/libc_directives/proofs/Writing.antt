@@ -36,10 +36,10 @@ use Rattle.ub_base.specs.declared.clause.Clause.{Clause}
 use Rattle.mem_spec.specs.Script.{Script, Give, Raise as RaiseOf, Exceed, ◌>>=◌}
 use Rattle.libc_spec.specs.Directives.{Flags}
 use Rattle.libc_spec.specs.Print.{Argument, Taken, integer_parts, Field, field, one, digit, digits_by}
-use Rattle.libc_print.specs.declared.refusal.Refusal.{Refusal}
-use Rattle.libc_print.specs.declared.refusal.Refusal.TheVariants.{Raise, Outside, NoMemory}
-use Rattle.libc_print.specs.Seen.{digits_of, integer_parts_of}
-use Rattle.libc_print.specs.Answers.{PutsBytes, Puts}
+use Rattle.libc_directives.specs.declared.refusal.Refusal.{Refusal}
+use Rattle.libc_directives.specs.declared.refusal.Refusal.TheVariants.{Raise, Outside, NoMemory}
+use Rattle.libc_directives.specs.Seen.{digits_of, integer_parts_of}
+use Rattle.libc_directives.specs.Answers.{PutsBytes, Puts}
 
 -- an integer with its digits, opened
 pub integer_opened : (r : Result (Unit {0}) Refusal) (old new : List ℕ) (flags : Flags) (c : ℕ) (precision : Option ℕ) (n : ℤ) (g : Field) →

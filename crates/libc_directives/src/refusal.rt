@@ -13,7 +13,7 @@ pub enum Refusal {
 
 impl From<Clause> for Refusal {
     ghost use Rattle.std.specs.Prelude.{◌≡◌};
-    ghost use Rattle.libc_print.specs.declared.refusal.Refusal.TheVariants.{Raise};
+    ghost use Rattle.libc_directives.specs.declared.refusal.Refusal.TheVariants.{Raise};
 
     ghost from_gives = { λ c e. e ≡ Raise c };
 
@@ -24,7 +24,7 @@ impl From<Clause> for Refusal {
 
 impl From<NoMemory> for Refusal {
     ghost use Rattle.std.specs.Prelude.{◌≡◌};
-    ghost use Rattle.libc_print.specs.declared.refusal.Refusal.TheVariants.{NoMemory};
+    ghost use Rattle.libc_directives.specs.declared.refusal.Refusal.TheVariants.{NoMemory};
 
     ghost from_gives = { λ _ e. e ≡ NoMemory };
 
@@ -35,7 +35,7 @@ impl From<NoMemory> for Refusal {
 
 impl From<Refusal> for LibAnswer {
     ghost use Rattle.std.specs.Prelude.{◌≡◌};
-    ghost use Rattle.libc_print.specs.Answers.{answer_of};
+    ghost use Rattle.libc_directives.specs.Answers.{answer_of};
 
     ghost from_gives = { λ refusal answer. answer ≡ answer_of refusal };
 

@@ -3,9 +3,10 @@
 ghost use Rattle.std.specs.Prelude.{◌≡◌, reverse, ◌<◌, ◌≤◌, ◌+◌, ◌^◌, ◌++◌, ◌∷◌, [], ◌==◌, min, unsigned_abs, replicate, IfOk, OnOk, if◌then◌else◌};
 ghost use Rattle.libc_spec.specs.Print.{digit, base_of, field, padded, own_size, whole_size, sign, hex_prefix, zeros_before, integer_field};
 ghost use Rattle.libc_spec.specs.Print.{is_signed_conversion, spaced, bare};
-ghost use Rattle.libc_print.specs.Seen.{flags_seen, base_number, is_upper, digits_of, parts_with, integer_parts_of, address_parts_of, parts_seen, field_seen};
-ghost use Rattle.libc_print.specs.Seen.{width_seen};
-ghost use Rattle.libc_print.specs.Answers.{PutsBytes};
+ghost use Rattle.libc_directives.specs.Seen.{flags_seen, base_number, is_upper, digits_of, parts_with, integer_parts_of, address_parts_of, parts_seen};
+ghost use Rattle.libc_directives.specs.Seen.{field_seen};
+ghost use Rattle.libc_directives.specs.Seen.{width_seen};
+ghost use Rattle.libc_directives.specs.Answers.{PutsBytes};
 
 use crate::directive::{Flags, MOST};
 use crate::refusal::Refusal;

@@ -1,8 +1,8 @@
 use Rattle.std.proofs.Common.{◌∙◌, ◌+◌, ◌-◌, ◌/◌, ◌%◌, ◌++◌, ◌∷◌, [], ap, sym, reverse}
 use Rattle.libc_spec.specs.Print.{digit}
-use Rattle.libc_print.specs.Seen.{base_number, is_upper}
-use Rattle.libc_print.proofs.Writing.{digits_left, digits_left-first, digits_left-read, digits_left-done, digits_left-step}
-use Rattle.libc_print.proofs.number.lowest_first.Goals as goal
+use Rattle.libc_directives.specs.Seen.{base_number, is_upper}
+use Rattle.libc_directives.proofs.Writing.{digits_left, digits_left-first, digits_left-read, digits_left-done, digits_left-step}
+use Rattle.libc_directives.proofs.number.lowest_first.Goals as goal
 
 pub loop-turn-init : goal.loop-turn-init
 loop-turn-init c = digits_left-first (is_upper c.args.base) (base_number c.args.base) c.args.number c.new-digits.result.items c.new-digits.ensures.items
