@@ -34,11 +34,11 @@ use Rattle.code_view.specs.Numbering.{meaning_of}
 use Rattle.value_facts.specs.Sources.{StepsPlaced}
 use Rattle.value_facts.specs.Unresulted.{StepsUnresulted}
 use Rattle.argument_laws.specs.Arguments.{StepsKeepArguments}
-use Rattle.run_facts.specs.Going.{IsGoing}
+use Rattle.run_laws.specs.Going.{IsGoing}
 use Rattle.pick_laws.specs.Picks.{CallComes, Comes, ComesOfLibrary, ControlComes, EventComes, GoesFrom, InitializerComes, LibraryComes}
-use Rattle.pick_facts.specs.Asked.{EventIsAsked, IsEventNext, MayPickNext, call, initializer, library, plain}
-use Rattle.pick_facts.specs.Held.{StepsHoldOneMore}
-use Rattle.pick_facts.specs.Idle.{CallLeavesNone, EventLeavesNone, InitializerLeavesNone, IsIdle, LibraryLeavesNone, StepStaysIdle}
+use Rattle.canonical_laws.specs.Asked.{EventIsAsked, IsEventNext, MayPickNext, call, initializer, library, plain}
+use Rattle.canonical_laws.specs.Held.{StepsHoldOneMore}
+use Rattle.canonical_laws.specs.Idle.{CallLeavesNone, EventLeavesNone, InitializerLeavesNone, IsIdle, LibraryLeavesNone, StepStaysIdle}
 use Rattle.canonical_laws.specs.Along.{AnswersAll, HasRowsOf, IsAlong}
 use Rattle.canonical_laws.specs.Completes.{completed_at, completed_in}
 use Rattle.canonical_laws.specs.Comes.{AlongComes, ComesAlong, ControlMay, Starts}

@@ -16,8 +16,8 @@ use Rattle.value_facts.specs.Held.{AreBytes, KeepsSmall}
 use Rattle.value_facts.specs.Sources.{IsPlaced, StartsPlaced}
 use Rattle.value_facts.specs.Unresulted.{StartsUnresulted}
 use Rattle.argument_laws.specs.Arguments.{RunsLawful, StartsWithArguments}
-use Rattle.pick_facts.specs.Held.{StartHoldsNone}
-use Rattle.run_facts.specs.Going.{IsGoing}
+use Rattle.canonical_laws.specs.Held.{StartHoldsNone}
+use Rattle.run_laws.specs.Going.{IsGoing}
 use Rattle.canonical_laws.specs.Begins.{BeginsAlong, GoingIsAlong}
 use Rattle.canonical_laws.proofs.Steps.{limited_running, same_state, through_running}
 

@@ -1,3 +1,10 @@
+mod Held
+mod Idle
+mod Sizes
+mod Shapes
+mod Bases
+mod Opened
+mod Asked
 pub mod Steps
 mod Listed
 mod Along

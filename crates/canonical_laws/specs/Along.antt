@@ -20,12 +20,12 @@ use Rattle.run_answers.specs.LibraryCompletes.{CompletesNextLibrary}
 use Rattle.run_answers.specs.Picks.{IsPick}
 use Rattle.run_answers.specs.Starting.{AnswersNextBody, AnswersNextCall}
 use Rattle.run_answers.specs.Taking.{AnswersNext}
-use Rattle.run_facts.specs.Going.{IsGoing}
+use Rattle.run_laws.specs.Going.{IsGoing}
 use Rattle.value_facts.specs.Held.{HoldsOnly, KeepsSmall}
 use Rattle.value_facts.specs.Sources.{IsPlaced}
 use Rattle.value_facts.specs.Unresulted.{IsUnresulted}
 use Rattle.argument_laws.specs.Arguments.{HaveArguments}
-use Rattle.pick_facts.specs.Idle.{IsIdle}
+use Rattle.canonical_laws.specs.Idle.{IsIdle}
 
 -- 1. The machine.
 

@@ -10,7 +10,7 @@ use Rattle.run_statements.specs.declared.numbers.Numbers.{Numbers}
 use Rattle.run_state.specs.declared.machine.Machine.{Machine}
 use Rattle.value_facts.specs.Held.{AreBytes, KeepsSmall}
 use Rattle.value_facts.specs.Sources.{IsPlaced}
-use Rattle.run_facts.specs.Going.{IsGoing}
+use Rattle.run_laws.specs.Going.{IsGoing}
 use Rattle.canonical_laws.specs.Along.{IsAlong}
 use Rattle.canonical_laws.specs.Listed.{TopIsListed}
 

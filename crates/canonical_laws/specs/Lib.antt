@@ -1,3 +1,6 @@
+pub mod Held
+pub mod Idle
+pub mod Asked
 pub mod Listed
 pub mod Along
 pub mod Completes

@@ -25,8 +25,8 @@ use Rattle.run_answers.specs.Entering.{AreBelow, KeepPlaces}
 use Rattle.frame_laws.specs.Facts.{AllWait}
 use Rattle.frame_laws.specs.Frames.{AreOrdered, function_round, objects_round, or_else}
 use Rattle.frame_laws.specs.Reached.{AllWaitNext, WaitsNext}
-use Rattle.run_facts.specs.Frames.{IsOneOf, KeepFrames, KeepsBegun, KeepsFrame, function_of}
-use Rattle.run_facts.specs.SetUp.{IsItsCode}
+use Rattle.run_laws.specs.Frames.{IsOneOf, KeepFrames, KeepsBegun, KeepsFrame, function_of}
+use Rattle.run_laws.specs.SetUp.{IsItsCode}
 use Rattle.control_laws.proofs.Laws.{Laws}
 use Rattle.control_laws.proofs.Rooms.{in_rooms, lays_out, room_free}
 use Rattle.control_laws.proofs.Rounds.{AllHave, open_have}

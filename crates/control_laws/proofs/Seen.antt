@@ -31,7 +31,7 @@ use Rattle.code_view.specs.Blocks.{HasBlockAt}
 use Rattle.code_view.specs.Numbering.{body_decls, decls_in, function_decls, row_decls}
 use Rattle.frame_laws.specs.Scopes.{objects_in, objects_of_row}
 use Rattle.frame_laws.specs.Frames.{function_round, objects_of_body, objects_round}
-use Rattle.run_facts.specs.Frames.{Sees, SeesFunction}
+use Rattle.run_laws.specs.Frames.{Sees, SeesFunction}
 use Rattle.control_laws.proofs.Laws.{Laws, body_there, function_body}
 
 -- the blocks of a body that is a block

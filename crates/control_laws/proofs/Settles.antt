@@ -40,8 +40,8 @@ use Rattle.frame_laws.specs.Frames.{open_blocks}
 use Rattle.frame_laws.specs.Scopes.{ExprFits}
 use Rattle.frame_laws.specs.Reached.{IsReachedIn}
 use Rattle.frame_laws.proofs.FactsHold.{goes_behind, stays_in_scope}
-use Rattle.run_facts.specs.Frames.{IsOneOf, KeepsBegun, KeepsOpen}
-use Rattle.run_facts.specs.Going.{IsGoing}
+use Rattle.run_laws.specs.Frames.{IsOneOf, KeepsBegun, KeepsOpen}
+use Rattle.run_laws.specs.Going.{IsGoing}
 use Rattle.control_laws.specs.Control.{ControlGoesOn, IsAtControl, IsOpenAs, OpenStandsSo, OpensSmall}
 use Rattle.control_laws.proofs.Laws.{Laws}
 use Rattle.control_laws.proofs.Rooms.{LaysOut, lays_out}

@@ -34,7 +34,7 @@ use Rattle.frame_laws.specs.Frames.{open_blocks}
 use Rattle.frame_laws.specs.Scopes.{AreLower, DeclareFits, ExprFits, HasObject}
 use Rattle.frame_laws.proofs.FactsHold.{begins_in_scope, declares_inside_blocks, enters_with_objects, hands_on, leaves_innermost_block}
 use Rattle.frame_laws.proofs.FactsHold.{steps_in_function}
-use Rattle.run_facts.specs.Going.{IsGoing}
+use Rattle.run_laws.specs.Going.{IsGoing}
 use Rattle.control_laws.specs.Control.{AsksOfEnter, HasArguments}
 use Rattle.control_laws.proofs.Entered.{enters_first, numbered_body, parameters_few}
 use Rattle.control_laws.proofs.Firsts.{StepFirst}

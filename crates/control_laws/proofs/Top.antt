@@ -40,8 +40,8 @@ use Rattle.frame_laws.specs.Scopes as scopes
 use Rattle.frame_laws.proofs.FactsHold.{held_wait}
 use Rattle.frame_laws.proofs.LawfulPrograms.{lawful_is_scoped}
 use Rattle.frame_laws.proofs.NamedNodes.{nodes_in_scope}
-use Rattle.run_facts.specs.Frames.{function_of}
-use Rattle.run_facts.specs.Going.{IsGoing}
+use Rattle.run_laws.specs.Frames.{function_of}
+use Rattle.run_laws.specs.Going.{IsGoing}
 use Rattle.control_laws.proofs.Held.{HeldFrames, held_frames, keep_to_rooms, ordered_below, room_below, round_same, same_functions, with_waiting}
 use Rattle.control_laws.proofs.Laws.{Laws, top_frame}
 use Rattle.control_laws.proofs.Seen.{OfCode, block_at, firsts, of_code, parameters}

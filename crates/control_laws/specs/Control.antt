@@ -20,7 +20,7 @@ use Rattle.run_answers.specs.Passing.{TakesValue}
 use Rattle.code_view.specs.Numbering.{meaning_of}
 use Rattle.run_laws.specs.Open.{IsLawfulCode, IsOpen}
 use Rattle.value_facts.specs.Small.{AreSmall, HasSmallBytes, ListsAreSmall}
-use Rattle.run_facts.specs.Going.{IsGoing}
+use Rattle.run_laws.specs.Going.{IsGoing}
 
 -- 1. What is asked beside that a machine is going.
 

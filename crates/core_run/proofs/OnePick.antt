@@ -25,7 +25,7 @@ use Rattle.run_machine.specs.Written.{KeepsStreams}
 use Rattle.c_model.specs.Completions.{Incomplete}
 use Rattle.control_laws.specs.Asked.{ArgumentsAreAsked}
 use Rattle.control_laws.specs.Control.{ControlGoesOn}
-use Rattle.pick_facts.specs.Asked.{EventIsAsked}
+use Rattle.canonical_laws.specs.Asked.{EventIsAsked}
 use Rattle.canonical_laws.specs.Along.{AnswersAll, IsAlong}
 use Rattle.canonical_laws.specs.Completes.{completed_told}
 use Rattle.canonical_laws.specs.Comes.{AlongComes, ComesAlong, GoesTo}

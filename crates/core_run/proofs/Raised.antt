@@ -24,7 +24,7 @@ use Rattle.code_view.specs.Numbering.{meaning_of}
 use Rattle.run_laws.proofs.Given.{entry_is, next_listed, root_is}
 use Rattle.control_laws.specs.Asked.{ArgumentsAreAsked}
 use Rattle.control_laws.specs.Control.{ControlGoesOn}
-use Rattle.pick_facts.specs.Asked.{EventIsAsked, IsEventNext, MayPickNext, call, initializer, library, plain}
+use Rattle.canonical_laws.specs.Asked.{EventIsAsked, IsEventNext, MayPickNext, call, initializer, library, plain}
 use Rattle.canonical_laws.specs.Along.{IsAlong}
 use Rattle.canonical_laws.specs.Listed.{event_of}
 use Rattle.canonical_laws.proofs.Steps.{step_raises}

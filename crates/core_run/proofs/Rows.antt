@@ -28,7 +28,7 @@ use Rattle.code_view.specs.Numbering.{meaning_of}
 use Rattle.value_facts.specs.Small.{EndInTime}
 use Rattle.control_laws.specs.Asked.{ArgumentsAreAsked}
 use Rattle.control_laws.specs.Control.{ControlGoesOn}
-use Rattle.pick_facts.specs.Asked.{EventIsAsked, IsEventNext, MayPickNext, call, initializer, library, plain}
+use Rattle.canonical_laws.specs.Asked.{EventIsAsked, IsEventNext, MayPickNext, call, initializer, library, plain}
 use Rattle.canonical_laws.specs.Along.{IsAlong}
 use Rattle.canonical_laws.specs.Listed.{NumbersAre}
 use Rattle.core_run.specs.Calls.{Heard}

@@ -11,7 +11,7 @@ use Rattle.elaborate.specs.Expressions.{program_trees}
 use Rattle.elaborate.specs.Terms.{term_for}
 use Rattle.c_model.specs.Runs.{Over, start}
 use Rattle.program_view.specs.View.{main_values}
-use Rattle.run_facts.specs.SetUp.{IsWhole}
+use Rattle.run_laws.specs.SetUp.{IsWhole}
 use Rattle.core_run.specs.Calls.{Heard}
 use Rattle.frame_numbers.specs.Numbers.{number_by}
 use Rattle.core_run.specs.Canonical.{EndsOver, Fits, world_in}

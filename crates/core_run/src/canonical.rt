@@ -18,13 +18,12 @@ ghost use Rattle.core_run.specs.Whole.{CanRun, HasWorld, IsOverBy, RunsAsDefined
 
 use crate::watch::{Go, Ran, RunState, Watch};
 use addr_map::{AddrMap, Mode};
-use canonical_laws::{law_along, law_begins};
+use canonical_laws::{law_along, law_begins, law_event_asked};
 use code_view::law_code_formed;
 use control_laws::{law_control, law_entered_arguments};
 use core_ir::CoreProgram;
 use frame_numbers::law_numbers;
 use mem_laws::law_apart_extend;
-use pick_facts::law_event_asked;
 use prov_memory::{Memory, Outputs};
 use run_machine::{
     Completed, Halt, MOST_CREATED, Machine, Pick, View, canonical, code_of, prepare,

@@ -33,8 +33,8 @@ use Rattle.run_answers.specs.Starting.{
 use Rattle.run_answers.specs.Taking.{AnswersNext, AnswersTaken, MayTakeNext, after_event, store_after, untouched}
 use Rattle.code_view.specs.Numbering.{meaning_of}
 use Rattle.run_laws.specs.Open.{IsOpen}
-use Rattle.run_facts.specs.Going.{IsGoing}
-use Rattle.going_laws.specs.Going.{CallGoesOn, EventGoesOn, InitializerGoesOn, StepGoesOn}
+use Rattle.run_laws.specs.Going.{IsGoing}
+use Rattle.pick_laws.specs.Going.{CallGoesOn, EventGoesOn, InitializerGoesOn, StepGoesOn}
 use Rattle.pick_laws.specs.Picks.{CallComes, Comes, ControlComes, EventComes, GoesFrom, GoesOn, InitializerComes}
 use Rattle.pick_laws.proofs.Untouched.{going_untouched, same_state, steps_within}
 

@@ -24,7 +24,7 @@ use Rattle.run_answers.specs.Library.{AnswersCalled, AnswersCalledNext, IsCalled
 use Rattle.run_answers.specs.Picks.{event_at}
 use Rattle.run_answers.specs.Taking.{after_event, store_after}
 use Rattle.code_view.specs.Numbering.{meaning_of}
-use Rattle.going_laws.specs.Going.{LibraryGoesOn}
+use Rattle.pick_laws.specs.Going.{LibraryGoesOn}
 use Rattle.pick_laws.specs.Picks.{ComesOfLibrary, GoesFrom, GoesOnJoined, LibraryComes}
 use Rattle.pick_laws.proofs.Untouched.{going_untouched, steps_within}
 

@@ -25,9 +25,9 @@ use Rattle.run_laws.specs.Calls.{OpenMayCallNext}
 use Rattle.run_laws.specs.Given.{IsReady, OpenMayTakeNext}
 use Rattle.run_laws.specs.Initial.{OpenMayStartNext}
 use Rattle.run_laws.specs.Open.{IsOpen}
-use Rattle.run_facts.specs.Going.{IsGoing}
-use Rattle.run_facts.specs.Frames.{KeepsOpen}
-use Rattle.going_laws.proofs.Events.{kept_open}
+use Rattle.run_laws.specs.Going.{IsGoing}
+use Rattle.run_laws.specs.Frames.{KeepsOpen}
+use Rattle.pick_laws.proofs.Events.{kept_open}
 use Rattle.pick_laws.specs.Next.{CallIsNext, CallsOwnAt, EventIsNext, InitializerIsNext}
 
 -- the machine goes on to it

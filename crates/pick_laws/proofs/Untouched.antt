@@ -38,8 +38,8 @@ use Rattle.run_answers.proofs.Still.{items_stand}
 use Rattle.run_answers.specs.Answering.{IsWithin}
 use Rattle.run_answers.specs.Taking.{untouched}
 use Rattle.code_view.specs.Numbering.{meaning_of}
-use Rattle.run_facts.specs.Frames.{KeepFrames, KeepsBegun, KeepsFrame, Sees, function_of}
-use Rattle.run_facts.specs.Going.{IsGoing, locals_of}
+use Rattle.run_laws.specs.Frames.{KeepFrames, KeepsBegun, KeepsFrame, Sees, function_of}
+use Rattle.run_laws.specs.Going.{IsGoing, locals_of}
 
 -- ---- a machine that has touched nothing
 sees_same : (m : Machine) (o : Open) (f : Option ℕ) → Sees m o f → Sees (untouched m) o f

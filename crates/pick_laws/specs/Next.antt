@@ -24,7 +24,7 @@ use Rattle.run_answers.specs.Taking.{MayTakeNext}
 use Rattle.code_view.specs.Numbering.{meaning_of}
 use Rattle.run_laws.specs.Calls.{HasPlaces}
 use Rattle.run_laws.specs.Open.{IsOpen}
-use Rattle.run_facts.specs.Going.{IsGoing}
+use Rattle.run_laws.specs.Going.{IsGoing}
 
 -- 1. One that isn't a body. The full expression of the top frame is open as picks ask it, and an address finds an object among
 -- the memory's rows just where it does among the world's.

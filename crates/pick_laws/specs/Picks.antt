@@ -28,7 +28,7 @@ use Rattle.run_answers.specs.Starting.{AnswersNextBody, AnswersNextCall, MayCall
 use Rattle.run_answers.specs.Taking.{AnswersNext, MayTakeNext, untouched}
 use Rattle.code_view.specs.Numbering.{meaning_of}
 use Rattle.run_laws.specs.Open.{IsOpen}
-use Rattle.run_facts.specs.Going.{IsGoing}
+use Rattle.run_laws.specs.Going.{IsGoing}
 
 -- 1. What a pick comes to.
 

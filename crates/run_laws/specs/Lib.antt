@@ -1,3 +1,6 @@
+pub mod SetUp
+pub mod Frames
+pub mod Going
 pub mod Asked
 pub mod Open
 pub mod Given

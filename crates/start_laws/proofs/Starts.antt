@@ -32,9 +32,9 @@ use Rattle.frame_laws.specs.Named.{LawfulIsScoped, MainIsDefined}
 use Rattle.frame_laws.specs.Reached.{StartsReached}
 use Rattle.code_view.specs.Laws.{LawfulCodeStands}
 use Rattle.code_view.specs.Numbering.{meaning_of}
-use Rattle.run_facts.specs.Frames.{IsOneOf, KeepFrames, KeepsBegun, KeepsFrame, Sees, SeesFunction, function_of}
-use Rattle.run_facts.specs.Going.{locals_of}
-use Rattle.run_facts.specs.SetUp.{IsProfile, IsSetUp}
+use Rattle.run_laws.specs.Frames.{IsOneOf, KeepFrames, KeepsBegun, KeepsFrame, Sees, SeesFunction, function_of}
+use Rattle.run_laws.specs.Going.{locals_of}
+use Rattle.run_laws.specs.SetUp.{IsProfile, IsSetUp}
 use Rattle.start_laws.specs.Starts.{IsMadeReady, StartsGoing, StartsOver}
 
 -- ---- the limits

@@ -15,8 +15,8 @@ use Rattle.run_statements.specs.declared.numbers.Numbers.{Numbers}
 use Rattle.run_state.specs.declared.machine.Machine.{Machine}
 use Rattle.run_start.specs.Begins.{CountsAsDefined, IsUnstarted}
 use Rattle.code_view.specs.Starting.{IsPrepared}
-use Rattle.run_facts.specs.Going.{IsGoing}
-use Rattle.run_facts.specs.SetUp.{IsProfile, IsSetUp}
+use Rattle.run_laws.specs.Going.{IsGoing}
+use Rattle.run_laws.specs.SetUp.{IsProfile, IsSetUp}
 
 -- what `prepare` of run_state gives of a program, these arguments and this input, in a memory in which nothing was created (own)
 pub record IsMadeReady (p : Program) (arguments : List (List ℕ)) (input : List ℕ) (m : Machine) : Type 0 where

@@ -7,7 +7,7 @@ use Rattle.c_model.specs.World.{profile_limits}
 use Rattle.program_view.specs.View.{main_values}
 use Rattle.run_layout.specs.declared.whole.Code.{Code}
 use Rattle.run_layout.specs.OfTrees.{AreTermsOf}
-use Rattle.run_facts.specs.SetUp.{IsItsCode}
+use Rattle.run_laws.specs.SetUp.{IsItsCode}
 use Rattle.core_run.specs.Calls.{StartedBy}
 use Rattle.core_run.specs.Canonical.{EndsSome, world_in}
 use Rattle.core_run.proofs.Rows.{ends_over, own_fits}

@@ -1,9 +1,0 @@
-use Rattle.pick_facts.proofs.Held.{canonical_holds_few, start_holds_none, steps_hold_one_more}
-use Rattle.pick_facts.proofs.law_held.Goals as goal
-
-pub returns : goal.returns
-returns c = record {
-  starts = start_holds_none;
-  keeps = steps_hold_one_more;
-  canonical = canonical_holds_few;
-}

@@ -1,2 +1,0 @@
-//! What holds of a machine along the canonical order of a run: definitions.
-#![tactic(auto)]
