@@ -50,7 +50,7 @@ fn number(value: bool) -> Value
 /// Does the act of an event of the top frame's full expression: it touches what the pick touches, and a value goes to the room of the node.
 #[inline(always)]
 pub fn perform(machine: &mut Machine, act: &Act, event: Event) -> Result<Outcome, Fault>
-    requires named { IsNamed machine.old.code.now.tables act.now }
+    requires named { IsNamed machine.old.image.code.now.tables act.now }
     ensures exact { (rows : List Row) → CanPerform rows machine.old → AreGiven machine.old event act.now → is_body_act act.now ≡ false →
         Performs rows machine.old machine.new event act.now result }
     ensures changes { is_body_act act.now ≡ false → ChangesOnly machine.old machine.new event.node act.now }
@@ -78,11 +78,11 @@ pub fn perform(machine: &mut Machine, act: &Act, event: Event) -> Result<Outcome
 // The body of the call of this number.
 #[inline(never)]
 fn call_of(machine: &mut Machine, number: u32, event: Event) -> Result<Outcome, Fault>
-    requires there { number < length machine.old.code.now.tables.calls.items }
+    requires there { number < length machine.old.image.code.now.tables.calls.items }
     ensures calls { CallsNumbered number machine.old event machine.new result }
     ensures streams { OnErr result (machine.new.streams ≡ machine.old.streams) }
 {
-    let code = machine.code;
+    let code = machine.image.code;
     call(machine, &code.tables.calls[number as usize], event)
 }
 
@@ -672,11 +672,14 @@ fn answered(machine: &mut Machine, discarded: bool, event: Event) -> Result<Outc
 
 // How the store of this number accesses memory.
 fn target_of<'p>(machine: &Machine<'p, '_>, number: u32) -> Result<(StoreCode<'p>, Via), NoMemory>
-    ensures store { IfOk result (λ t. slice_get machine.now.code.now.tables.stores.items number ≡ Some t.0) }
+    ensures store { IfOk result (λ t. slice_get machine.now.image.code.now.tables.stores.items number ≡ Some t.0) }
     ensures via { IfOk result (λ t. slice_get machine.now.vias.items number ≡ Some t.1) }
 {
     let at = number as usize;
-    match (machine.code.tables.stores.get(at), machine.vias.get(at)) {
+    match (
+        machine.image.code.tables.stores.get(at),
+        machine.vias.get(at),
+    ) {
         (Some(target), Some(via)) => Ok((*target, *via)),
         _ => Err(NoMemory),
     }
@@ -700,7 +703,7 @@ fn store_value(
     value: &Operand,
 ) -> Result<Outcome, Fault>
     ensures exact { CanAct machine.old → StandsTables machine.old → IsGiven machine.old place.now → IsGiven machine.old value.now →
-        Effects machine.old machine.new (stored_by machine.old.memory.rows (slice_get machine.old.code.now.tables.stores.items number)
+        Effects machine.old machine.new (stored_by machine.old.memory.rows (slice_get machine.old.image.code.now.tables.stores.items number)
         (model.pointer_of (given_by machine.old place.now)) (given_by machine.old value.now)) result }
     ensures rest { TouchesMemory machine.old machine.new }
     ensures rows { CanAct machine.old → StandsTables machine.old → IsGiven machine.old place.now → IsGiven machine.old value.now →
@@ -722,7 +725,7 @@ fn store_room(
     room: u32,
 ) -> Result<Outcome, Fault>
     ensures exact { CanAct machine.old → StandsTables machine.old → IsMade machine.old.memory place.prov → IsGiven machine.old (operands.Done room) →
-        Effects machine.old machine.new (stored_by machine.old.memory.rows (slice_get machine.old.code.now.tables.stores.items number) (pointer_at place)
+        Effects machine.old machine.new (stored_by machine.old.memory.rows (slice_get machine.old.image.code.now.tables.stores.items number) (pointer_at place)
         (given_by machine.old (operands.Done room))) result }
     ensures rest { TouchesMemory machine.old machine.new }
     ensures rows { CanAct machine.old → StandsTables machine.old → IsMade machine.old.memory place.prov → IsGiven machine.old (operands.Done room) →
@@ -754,7 +757,7 @@ fn store_quiet(
     value: &Operand,
 ) -> Result<Outcome, Fault>
     ensures exact { CanAct machine.old → StandsTables machine.old → IsMade machine.old.memory place.prov → IsGiven machine.old value.now →
-        Effects machine.old machine.new (stored_by machine.old.memory.rows (slice_get machine.old.code.now.tables.stores.items number) (pointer_at place)
+        Effects machine.old machine.new (stored_by machine.old.memory.rows (slice_get machine.old.image.code.now.tables.stores.items number) (pointer_at place)
         (given_by machine.old value.now)) result }
     ensures rest { TouchesMemory machine.old machine.new }
     ensures rows { CanAct machine.old → StandsTables machine.old → IsMade machine.old.memory place.prov → IsGiven machine.old value.now →
@@ -786,7 +789,7 @@ pub fn put_at(
     value: &Value,
 ) -> Result<Result<(), Clause>, NoMemory>
     ensures exact { (rows : List Row) → CanPut rows machine.old place value.now → Puts rows machine.old machine.new
-        (stored_by rows (slice_get machine.old.code.now.tables.stores.items number) (pointer_at place) (value_in machine.old.memory value.now)) result }
+        (stored_by rows (slice_get machine.old.image.code.now.tables.stores.items number) (pointer_at place) (value_in machine.old.memory value.now)) result }
     ensures kept { IsSound machine.old.memory → StandsTables machine.old → IsOf machine.old.memory value.now → Keeps machine.old.memory machine.new.memory }
     ensures rest { TouchesSpare machine.old machine.new }
     ensures work { machine.new.work ≡ machine.old.work }
@@ -820,7 +823,7 @@ fn fillings_of(fillings: &Vec<Items<Filling>>, number: u32) -> Result<&[Filling]
 #[inline(never)]
 fn fill_list(machine: &mut Machine, object: &Operand, constants: u32) -> Result<Outcome, Fault>
     ensures exact { CanAct machine.old → StandsTables machine.old → IsGiven machine.old object.now →
-        Effects machine.old machine.new (filled_from machine.old.memory.rows (slice_get machine.old.code.now.tables.constants.items constants)
+        Effects machine.old machine.new (filled_from machine.old.memory.rows (slice_get machine.old.image.code.now.tables.constants.items constants)
         (model.pointer_of (given_by machine.old object.now))) result }
     ensures rest { TouchesMemory machine.old machine.new }
     ensures rows { CanAct machine.old → StandsTables machine.old → IsGiven machine.old object.now →

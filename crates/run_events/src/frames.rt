@@ -173,9 +173,9 @@ fn pass_arguments(machine: &mut Machine, operands: &[Operand], room: usize) -> R
 }
 
 fn function_code<'c>(machine: &Machine<'_, 'c>, function: u32) -> Result<&'c FunctionCode, NoMemory>
-    ensures { IfOk result (λ f. slice_get machine.now.code.now.functions.items function ≡ Some (Some f.now)) }
+    ensures { IfOk result (λ f. slice_get machine.now.image.code.now.functions.items function ≡ Some (Some f.now)) }
 {
-    let code = machine.code;
+    let code = machine.image.code;
     match code.functions.get(function as usize) {
         Some(Some(function)) => Ok(function),
         _ => Err(NoMemory),
