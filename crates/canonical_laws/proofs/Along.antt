@@ -120,7 +120,7 @@ module _ (laws : Laws) (world : World) (p : Program) (numbers : Numbers) (old ne
           tells = tells_control g.0 c.0.trace g.1.0 c.2;
           completes = refl;
           along = along_at new c.0 Control c.1 c.3 (laws.step_idle world p numbers old new st n a.going a.unresulted a.idle x.keeps);
-          listed = goes_listed world (meaning_of p numbers old.code.now) old st c.0 a.going.stands g.1.1;
+          listed = goes_listed world (meaning_of p numbers old.image.code.now) old st c.0 a.going.stands g.1.1;
         },
       )
   by_control (Ok (pick.Step (Some status))) x is of c =
@@ -136,7 +136,7 @@ module _ (laws : Laws) (world : World) (p : Program) (numbers : Numbers) (old ne
   module _ (u : Place) (is : canonical_pick world st.top st.top.begun ≡ Ev u) (e : Begun) (s : Stage) (laid : Laid) (firsts : List ℕ)
       (nodes : List NodeInfo) where
     abbrev meaning : Option ℕ → Meaning
-    meaning = meaning_of p numbers old.code.now
+    meaning = meaning_of p numbers old.image.code.now
 
     -- one that isn't a body
     by_plain : (r : Result Pick Halt) → AnswersAll old new r → IfOk r (IsPick world st (Ev u)) → MayTakeNext world meaning old st e s laid
@@ -250,8 +250,8 @@ module _ (laws : Laws) (world : World) (p : Program) (numbers : Numbers) (old ne
     by_call (Err halt.NoMemory) x of may c = tt
 
   -- whichever kind of event it is
-  by_event : (u : Place) (q : IsEventNext world (meaning_of p numbers old.code.now) old st u)
-      → MayPickNext world (meaning_of p numbers old.code.now) old st q.expression q.stage q.laid u → canonical_pick world st.top st.top.begun ≡ Ev u
+  by_event : (u : Place) (q : IsEventNext world (meaning_of p numbers old.image.code.now) old st u)
+      → MayPickNext world (meaning_of p numbers old.image.code.now) old st q.expression q.stage q.laid u → canonical_pick world st.top st.top.begun ≡ Ev u
       → (r : Result Pick Halt) → AnswersAll old new r → IfOk r (IsPick world st (Ev u)) → ComesAlong world p numbers st n new r (step world st (Ev u))
   by_event u q (plain b may) is r x of =
       by_plain u is q.expression q.stage q.laid q.firsts q.nodes r x of may
@@ -287,4 +287,4 @@ module _ (laws : Laws) (world : World) (p : Program) (numbers : Numbers) (old ne
 pub along_comes : Laws → AlongComes
 along_comes laws world p numbers old new st n r a x h few =
     by_pick laws world p numbers old new st n a h few (canonical_pick world st.top st.top.begun) refl r x
-    (x.takes world (meaning_of p numbers old.code.now) st a.going.stands)
+    (x.takes world (meaning_of p numbers old.image.code.now) st a.going.stands)

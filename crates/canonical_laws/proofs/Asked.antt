@@ -84,7 +84,7 @@ pub record Next : Type 0 where
 module _ (by : Next) (world : World) (p : Program) (numbers : Numbers) (m : Machine) (st : State) (n : ℕ) (u : Place) (a : IsAsked world p numbers m st n)
     (is : canonical_pick world st.top st.top.begun ≡ Ev u) (e : Begun) (begun : st.top.begun ≡ Some e) where
   abbrev meaning : Option ℕ → Meaning
-  meaning = meaning_of p numbers m.code.now
+  meaning = meaning_of p numbers m.image.code.now
 
   abbrev s : Stage
   s = (staged by.opens world p numbers m st n a e begun).0
@@ -212,7 +212,7 @@ module _ (by : Next) (world : World) (p : Program) (numbers : Numbers) (m : Mach
 pub event_asked : Next → EventIsAsked
 event_asked by world p numbers m st n u a is = go st.top.begun refl
   where
-    go : (b : Option Begun) → st.top.begun ≡ b → IsEventNext world (meaning_of p numbers m.code.now) m st u
+    go : (b : Option Begun) → st.top.begun ≡ b → IsEventNext world (meaning_of p numbers m.image.code.now) m st u
     go None none = absurd (control (subst (λ z. canonical_pick world st.top z ≡ Ev u) none is))
       where
         control : canonical_pick world st.top None ≡ Ev u → ⊥

@@ -21,7 +21,7 @@ use Rattle.control_laws.proofs.Rooms.{lays_out}
 use Rattle.control_laws.proofs.Top as top
 
 module _ (laws : Laws) (world : World) (p : Program) (meaning : Option ℕ → Meaning) (m : Machine) (n : ℕ) (numbers : Numbers)
-    (code : IsItsCode p numbers m.code.now) where
+    (code : IsItsCode p numbers m.image.code.now) where
   -- a frame that is held has fewer than 2^32 rooms
   rooms_in : (o : Open) (os : List Open) (h : Local × Place) (hs : List (Local × Place)) (k : HeldFrame world p meaning m n o os h hs) (stage : Option Stage)
       (b : Option Begun) → IsOneOf k.code.sees.code.expressions stage → StandsBegun world (meaning o.function) m (length os) o stage h.0.scene b (Some h.1)

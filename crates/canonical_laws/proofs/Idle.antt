@@ -42,7 +42,7 @@ module _ (world : World) (meaning : Meaning) (old : Machine) (height : ℕ) (lef
 module _ (world : World) (p : Program) (numbers : Numbers) (old new : Machine) (st : State) (n : ℕ) (g : IsGoing world p numbers old st n)
     (last : ResultIsLast st.top st.top.function) (idle : IsIdle old) where
   abbrev meaning : Option ℕ → Meaning
-  meaning = meaning_of p numbers old.code.now
+  meaning = meaning_of p numbers old.image.code.now
 
   frame : StandsFrame world (meaning old.top.function) old (length old.below.items) old.top old.work.now old.left st.top None
   frame = top_frame world meaning old st g.stands

@@ -68,7 +68,7 @@ left_none m function k (Some v) is none = absurd (cc (none))
 module _ (laws : Opens) (world : World) (p : Program) (numbers : Numbers) (m : Machine) (st : State) (n : ℕ) (a : IsAsked world p numbers m st n) (e : Begun)
     (begun : st.top.begun ≡ Some e) where
   abbrev meaning : Option ℕ → Meaning
-  meaning = meaning_of p numbers m.code.now
+  meaning = meaning_of p numbers m.image.code.now
 
   frame : StandsFrame world (meaning m.top.function) m (length m.below.items) m.top m.work.now m.left st.top None
   frame = top_frame world meaning m st a.going.stands
@@ -84,16 +84,16 @@ module _ (laws : Opens) (world : World) (p : Program) (numbers : Numbers) (m : M
   lawful : IsLawful m.program.now
   lawful = subst IsLawful (sym a.going.program) a.going.set_up.whole.lawful
 
-  order : AreInOrder m.program.now m.code.now
-  order = subst (λ (q : Program). AreInOrder q m.code.now) (sym a.going.program) a.going.set_up.code.order
+  order : AreInOrder m.program.now m.image.code.now
+  order = subst (λ (q : Program). AreInOrder q m.image.code.now) (sym a.going.program) a.going.set_up.code.order
 
-  code_so : IsLawfulCode m.program.now m.code.now
+  code_so : IsLawfulCode m.program.now m.image.code.now
   code_so = record {
     lawful = lawful;
     order = order;
-    trees = λ k laid at. laws.trees m.program.now m.code.now k laid lawful order at;
-    constants = subst (λ (q : Program). AreLawful q m.code.now) (sym a.going.program)
-        (laws.constants p numbers m.code.now a.going.set_up.whole.lawful a.going.set_up.code.code_of);
+    trees = λ k laid at. laws.trees m.program.now m.image.code.now k laid lawful order at;
+    constants = subst (λ (q : Program). AreLawful q m.image.code.now) (sym a.going.program)
+        (laws.constants p numbers m.image.code.now a.going.set_up.whole.lawful a.going.set_up.code.code_of);
   }
 
   small : OpensSmall m st e

@@ -62,4 +62,4 @@ pub record IsEventNext (world : World) (meaning : Option ℕ → Meaning) (m : M
 
 abbrev pub EventIsAsked : Type 0
 EventIsAsked = (world : World) (p : Program) (numbers : Numbers) (m : Machine) (st : State) (n : ℕ) (u : Place) → IsAsked world p numbers m st n
-    → canonical_pick world st.top st.top.begun ≡ Ev u → IsEventNext world (meaning_of p numbers m.code.now) m st u
+    → canonical_pick world st.top st.top.begun ≡ Ev u → IsEventNext world (meaning_of p numbers m.image.code.now) m st u

@@ -313,7 +313,7 @@ blocks_stand p code have n f b c at is there k less =
 pub blocks_there : OpenBlocksAreThere
 blocks_there m c firsts parameters ds k d open_blocks same has less is = (
   has.block,
-  ap (λ n. slice_get m.code.now.tables.blocks.items (n + k)) same ∙ has.at,
+  ap (λ n. slice_get m.image.code.now.tables.blocks.items (n + k)) same ∙ has.at,
   has.first,
   omega (arith, less, has.stands.count),
   omega (arith, less, has.stands.count, has.stands.few),

@@ -88,7 +88,7 @@ same a b h = grind (arith, nat_tests, h)
 
 -- the objects of a block that is open were made
 module _ (world : World) (m : Machine) (f : Scene) (block k : ℕ) (code : BlockCode)
-    (at : slice_get m.code.now.tables.blocks.items (m.top.blocks + block) ≡ Some code) (less : k < code.objects.count) where
+    (at : slice_get m.image.code.now.tables.blocks.items (m.top.blocks + block) ≡ Some code) (less : k < code.objects.count) where
   abbrev MadeAt : ℕ → Type 0
   MadeAt turn = IsMade m.memory (Whole (auto_name world f turn k))
 
@@ -96,9 +96,9 @@ module _ (world : World) (m : Machine) (f : Scene) (block k : ℕ) (code : Block
   local_made [] all h = absurd (cc)
   local_made (b ∷ bs) all h = go (b.0 == block) refl h (λ g. local_made bs all.1 g)
     where
-      own : (c : BlockCode) → slice_get m.code.now.tables.blocks.items (m.top.blocks + b.0) ≡ Some c → b.0 ≡ block → code ≡ c
+      own : (c : BlockCode) → slice_get m.image.code.now.tables.blocks.items (m.top.blocks + b.0) ≡ Some c → b.0 ≡ block → code ≡ c
       own c there e =
-          let both : Some code ≡ Some c = sym at ∙ (ap (λ (j : ℕ). slice_get m.code.now.tables.blocks.items (m.top.blocks + j)) (sym e) ∙ there) in
+          let both : Some code ≡ Some c = sym at ∙ (ap (λ (j : ℕ). slice_get m.image.code.now.tables.blocks.items (m.top.blocks + j)) (sym e) ∙ there) in
           cc
 
       first : b.0 ≡ block → MadeAt b.1
@@ -283,19 +283,19 @@ pub open_placed : OpenIsPlaced
 open_placed world m f s firsts n laid lawful order at memory objects is =
     let t = laid.root.now in
     let p = m.program.now in
-    let h = trees_lawful p m.code.now n laid lawful order at in
+    let h = trees_lawful p m.image.code.now n laid lawful order at in
     both_give (SiteIsLawful p h.0) (λ x. NamedIsOpen m firsts f.blocks x.head) (λ x. NamedIsPlaced world f x.head)
     (λ x l o. head_placed h.0 m firsts f.blocks world f s memory objects refl x (l, o)) (sites t) h.1 is
 
 pub open_known : OpenIsKnown
 open_known world m f s firsts n laid lawful order at memory objects is =
-    code_known m.program.now m.code.now world f firsts n laid lawful order at (open_placed world m f s firsts n laid lawful order at memory objects is)
+    code_known m.program.now m.image.code.now world f firsts n laid lawful order at (open_placed world m f s firsts n laid lawful order at memory objects is)
 
 pub open_named : OpenIsNamed
 open_named m firsts open_blocks nodes n laid i x lawful order at are is node_at =
     let t = laid.root.now in
     let p = m.program.now in
-    let h = trees_lawful p m.code.now n laid lawful order at in
+    let h = trees_lawful p m.image.code.now n laid lawful order at in
     let fine =
     both_give (SiteIsLawful p h.0) (λ y. NamedIsOpen m firsts open_blocks y.head) (Fine h.0 m firsts open_blocks) (λ y l o. (l, o)) (sites t) h.1 is in
     node_named h.0 m firsts open_blocks x.tree.now (in_nodes (Fine h.0 m firsts open_blocks) firsts t nodes i x are fine node_at)
@@ -304,7 +304,7 @@ pub open_root_named : OpenRootIsNamed
 open_root_named m firsts open_blocks n laid lawful order at is quiet =
     let t = laid.root.now in
     let p = m.program.now in
-    let h = trees_lawful p m.code.now n laid lawful order at in
+    let h = trees_lawful p m.image.code.now n laid lawful order at in
     let fine =
     both_give (SiteIsLawful p h.0) (λ y. NamedIsOpen m firsts open_blocks y.head) (Fine h.0 m firsts open_blocks) (λ y l o. (l, o)) (sites t) h.1 is in
     (names h.0 m firsts open_blocks t fine).0 quiet

@@ -23,18 +23,18 @@ use Rattle.code_view.proofs.Whole.{code_stands}
 -- in the worlds of what stands before the first pick
 abbrev StartsIn : Program → List (List ℕ) → List Row → (Path → ℕ) → Limits → Numbers → List ℕ → Machine → List Standing → Type 0
 StartsIn p words rows number limits numbers input m os =
-    StartIsWithin limits os m → StartsAs (world_with p words os rows number limits) (meaning_of p numbers m.code.now) input
+    StartIsWithin limits os m → StartsAs (world_with p words os rows number limits) (meaning_of p numbers m.image.code.now) input
     (main_values p (world_with p words os rows number limits) words) m
 
 prepared : (p : Program) (words : List (List ℕ)) (rows : List Row) (number : Path → ℕ) (limits : Limits) (numbers : Numbers) (input : List ℕ)
-    (m : Machine) → IsLawful p → IsCodeOfProgram p numbers m.code.now → ListsTrees m.code.now → (made : IsPrepared p words input m) →
+    (m : Machine) → IsLawful p → IsCodeOfProgram p numbers m.image.code.now → ListsTrees m.image.code.now → (made : IsPrepared p words input m) →
     RowsStay m.memory.rows rows → number [] ≡ 0 → StartsIn p words rows number limits numbers input m made.begins.0
 prepared p words rows number limits numbers input m lawful code listed made stay zero within =
     let os = made.begins.0 in
     let world = world_with p words os rows number limits in
     let program : StandsProgram world p = record { functions = refl; main = refl; agree = refl; library = refl } in
-    made.begins.2 rows number limits (meaning_of p numbers m.code.now) (main_values p world words) stay zero within
-    (code_stands p numbers m.code.now world lawful code program) listed (made.given os rows number limits stay)
+    made.begins.2 rows number limits (meaning_of p numbers m.image.code.now) (main_values p world words) stay zero within
+    (code_stands p numbers m.image.code.now world lawful code program) listed (made.given os rows number limits stay)
 
 pub start_stands : LawfulStartStands
 start_stands p terms numbers words input m rows number limits lawful blocks are code made stay zero within =

@@ -91,7 +91,7 @@ BlocksStandInCode = (p : Program) (code : Code) → HaveBlocks p.tags code.table
 -- And an object of a block that is open in a frame of the function is there, as full expressions ask it.
 abbrev pub OpenBlocksAreThere : Type 0
 OpenBlocksAreThere = (m : Machine) (c : FunctionCode) (firsts : List ℕ) (parameters : ℕ) (ds : List Decl) (k d : ℕ) (open_blocks : List (ℕ × ℕ))
-    → m.top.blocks ≡ c.blocks → HasBlockAt m.code.now.tables c firsts parameters ds k → d < length ds → is_open open_blocks k ≡ true
+    → m.top.blocks ≡ c.blocks → HasBlockAt m.image.code.now.tables c firsts parameters ds k → d < length ds → is_open open_blocks k ≡ true
     → IsThere m firsts open_blocks (slot.Auto k d)
 
 -- 3. Full expressions.

@@ -40,13 +40,13 @@ NamesAreOpen m firsts open_blocks t = All (λ s. NamedIsOpen m firsts open_block
 -- 2. Then each object that is named stands, those with static storage and literals too.
 abbrev pub OpenIsPlaced : Type 0
 OpenIsPlaced = (world : World) (m : Machine) (f : Scene) (s : Store) (firsts : List ℕ) (n : ℕ) (laid : Laid) → IsLawful m.program.now
-    → AreInOrder m.program.now m.code.now → slice_get m.code.now.expressions.items n ≡ Some laid → StandsMemory world m.memory m.streams s
+    → AreInOrder m.program.now m.image.code.now → slice_get m.image.code.now.expressions.items n ≡ Some laid → StandsMemory world m.memory m.streams s
     → StandsObjects world m f → NamesAreOpen m firsts f.blocks laid.root.now → NamesArePlaced world f laid.root.now
 
 -- So what the code takes to be known beforehand in it is so by the definitions.
 abbrev pub OpenIsKnown : Type 0
 OpenIsKnown = (world : World) (m : Machine) (f : Scene) (s : Store) (firsts : List ℕ) (n : ℕ) (laid : Laid) → IsLawful m.program.now
-    → AreInOrder m.program.now m.code.now → slice_get m.code.now.expressions.items n ≡ Some laid → StandsMemory world m.memory m.streams s
+    → AreInOrder m.program.now m.image.code.now → slice_get m.image.code.now.expressions.items n ≡ Some laid → StandsMemory world m.memory m.streams s
     → StandsObjects world m f → NamesAreOpen m firsts f.blocks laid.root.now → Views world f firsts 0 laid.root.now (expr_of laid.root.now)
 
 -- 3. And each node stands as the acts of its events ask.
@@ -65,12 +65,12 @@ pub record NodeIsNamed (m : Machine) (firsts : List ℕ) (open_blocks : List (�
 
 abbrev pub OpenIsNamed : Type 0
 OpenIsNamed = (m : Machine) (firsts : List ℕ) (open_blocks : List (ℕ × ℕ)) (nodes : List NodeInfo) (n : ℕ) (laid : Laid) (i : ℕ) (x : NodeInfo)
-    → IsLawful m.program.now → AreInOrder m.program.now m.code.now → slice_get m.code.now.expressions.items n ≡ Some laid
+    → IsLawful m.program.now → AreInOrder m.program.now m.image.code.now → slice_get m.image.code.now.expressions.items n ≡ Some laid
     → AreNodes firsts laid.root.now nodes → NamesAreOpen m firsts open_blocks laid.root.now → slice_get nodes i ≡ Some x
     → NodeIsNamed m firsts open_blocks x.tree.now
 
 -- 4. So does the whole expression, where it is known beforehand: a constant, or the address of an object.
 abbrev pub OpenRootIsNamed : Type 0
 OpenRootIsNamed = (m : Machine) (firsts : List ℕ) (open_blocks : List (ℕ × ℕ)) (n : ℕ) (laid : Laid) → IsLawful m.program.now
-    → AreInOrder m.program.now m.code.now → slice_get m.code.now.expressions.items n ≡ Some laid → NamesAreOpen m firsts open_blocks laid.root.now
+    → AreInOrder m.program.now m.image.code.now → slice_get m.image.code.now.expressions.items n ≡ Some laid → NamesAreOpen m firsts open_blocks laid.root.now
     → is_quiet (tree_of (expr_of laid.root.now)) ≡ true → IsNamed m firsts open_blocks (expr_of laid.root.now)

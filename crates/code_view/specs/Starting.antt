@@ -39,7 +39,7 @@ pub record IsPrepared (p : Program) (arguments : List (List ℕ)) (input : List 
 abbrev pub LawfulStartStands : Type 0
 LawfulStartStands = (p : Program) (terms : List Core) (numbers : Numbers) (arguments : List (List ℕ)) (input : List ℕ) (m : Machine)
     (rows : List Row) (number : Path → ℕ) (limits : Limits) → IsLawful p → AreInBlocks p.functions → AreTermsOf p terms
-    → IsCodeOfTerms p terms numbers m.code.now → IsPrepared p arguments input m → RowsStay m.memory.rows rows → number [] ≡ 0
+    → IsCodeOfTerms p terms numbers m.image.code.now → IsPrepared p arguments input m → RowsStay m.memory.rows rows → number [] ≡ 0
     → StartIsWithin limits (standing_of p arguments) m
-    → StartsAs (world_of p arguments rows number limits) (meaning_of p numbers m.code.now) input
+    → StartsAs (world_of p arguments rows number limits) (meaning_of p numbers m.image.code.now) input
     (main_values p (world_of p arguments rows number limits) arguments) m

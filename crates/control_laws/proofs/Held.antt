@@ -95,7 +95,7 @@ HeldFrames world p meaning m n (o ∷ os) (h ∷ hs) = HeldFrame world p meaning
 HeldFrames world p meaning m n _ _ = ⊥
 
 module _ (world : World) (p : Program) (meaning : Option ℕ → Meaning) (m : Machine) (n : ℕ) where
-  pub held_frames : HaveCode p.functions m.code.now → StandsProgram world p → (os : List Open) (wss : List (List Work)) (hs : List (Local × Place))
+  pub held_frames : HaveCode p.functions m.image.code.now → StandsProgram world p → (os : List Open) (wss : List (List Work)) (hs : List (Local × Place))
       → StandFrames world meaning m None os wss (map with_waiting hs) → KeepFrames world m os (map (λ h. h.0) hs) n → AreOrderedFrom world hs
       → AllWaitNext world hs → AllWait hs → HeldFrames world p meaning m n os hs
   held_frames have program [] wss [] s k a next waits = tt
@@ -118,11 +118,11 @@ module _ (world : World) (p : Program) (meaning : Option ℕ → Meaning) (m : M
       )
 
   -- ---- values keep to their rooms
-  module _ (laws : Laws) (numbers : Numbers) (listed : ListsTrees m.code.now) (code : IsItsCode p numbers m.code.now) where
+  module _ (laws : Laws) (numbers : Numbers) (listed : ListsTrees m.image.code.now) (code : IsItsCode p numbers m.image.code.now) where
     keeps_to : (o : Open) (os : List Open) (h : Local × Place) (hs : List (Local × Place)) (k : HeldFrame world p meaning m n o os h hs)
         → (stage : Option Stage) (b : Option Begun) → IsOneOf k.code.sees.code.expressions stage
         → StandsBegun world (meaning o.function) m (length os) o stage h.0.scene b (Some h.1) → WaitsNext world h.0.scene b h.1
-        → KeepsTo m.code.now o.rooms stage h.0 b
+        → KeepsTo m.image.code.now o.rooms stage h.0 b
     keeps_to o os h hs k None b own x next = tt
     keeps_to o os h hs k (Some s) None own x next = tt
     keeps_to o os h hs k (Some s) (Some e) own x next = (
@@ -131,7 +131,7 @@ module _ (world : World) (p : Program) (meaning : Option ℕ → Meaning) (m : M
           (lays_out laws world p m o h.0 hs k.code code.expressions s.expression x.laid own x.at) next.0,
     )
 
-    pub keep_to_rooms : (os : List Open) (hs : List (Local × Place)) → HeldFrames world p meaning m n os hs → KeepToRooms m.code.now os hs
+    pub keep_to_rooms : (os : List Open) (hs : List (Local × Place)) → HeldFrames world p meaning m n os hs → KeepToRooms m.image.code.now os hs
     keep_to_rooms [] [] k = tt
     keep_to_rooms [] (h ∷ hs) k = tt
     keep_to_rooms (o ∷ os) [] k = tt
@@ -143,7 +143,7 @@ module _ (world : World) (p : Program) (meaning : Option ℕ → Meaning) (m : M
         → h.1 ≡ place node Body → (stage : Option Stage) (b : Option Begun) → IsOneOf k.code.sees.code.expressions stage
         → StandsBegun world (meaning o.function) m (length os) o stage h.0.scene b (Some h.1) → WaitsNext world h.0.scene b h.1
         → KeepsBegun world m (length os) o stage h.0.scene b
-        → HasRoomIn m.code.now (length m.values.items) (o.base + node) node stage b
+        → HasRoomIn m.image.code.now (length m.values.items) (o.base + node) node stage b
     free_in o os h hs node k at None b own x next keeps = tt
     free_in o os h hs node k at (Some s) None own x next keeps = tt
     free_in o os h hs node k at (Some s) (Some e) own x next keeps =
@@ -153,7 +153,7 @@ module _ (world : World) (p : Program) (meaning : Option ℕ → Meaning) (m : M
 
     pub room_below : (node : ℕ) (os : List Open) (hs : List (Local × Place))
         → ((h : Local × Place) (hs' : List (Local × Place)) → hs ≡ h ∷ hs' → h.1 ≡ place node Body)
-        → HeldFrames world p meaning m n os hs → HasRoomBelow m.code.now (length m.values.items) node os hs
+        → HeldFrames world p meaning m n os hs → HasRoomBelow m.image.code.now (length m.values.items) node os hs
     room_below node [] [] at k = tt
     room_below node [] (h ∷ hs) at k = tt
     room_below node (o ∷ os) [] at k = tt
@@ -162,7 +162,7 @@ module _ (world : World) (p : Program) (meaning : Option ℕ → Meaning) (m : M
 
     -- ---- objects stand below those of the frame above
     are_below : (o : Open) (f : Local) (hs : List (Local × Place)) (c : OfCode world p m o f hs) (limit : ℕ) → o.above ≤ limit → (bs : List (ℕ × ℕ))
-        → AllHave (objects_round world f hs) (map (λ b. b.0) bs) → AreBelow m.code.now o limit bs
+        → AllHave (objects_round world f hs) (map (λ b. b.0) bs) → AreBelow m.image.code.now o limit bs
     are_below o f hs c limit under [] all = tt
     are_below o f hs c limit under (b ∷ bs) all =
         let it = block_at world p m o f hs c laws code.blocks b.0 all.0.0 all.0.1 in
@@ -170,7 +170,7 @@ module _ (world : World) (p : Program) (meaning : Option ℕ → Meaning) (m : M
         let above = c.sees.above in (
           (λ z at.
               let same : it.block ≡ z =
-              same_Some it.block z (sym it.at ∙ (ap (λ k. slice_get m.code.now.tables.blocks.items (k + b.0)) (sym blocks) ∙ at)) in
+              same_Some it.block z (sym it.at ∙ (ap (λ k. slice_get m.image.code.now.tables.blocks.items (k + b.0)) (sym blocks) ∙ at)) in
               let within = subst (λ (y : BlockCode). y.first + y.objects.count ≤ c.sees.code.objects) same it.within in
               omega (arith, within, above, under)),
           are_below o f hs c limit under bs all.1,
@@ -181,7 +181,7 @@ module _ (world : World) (p : Program) (meaning : Option ℕ → Meaning) (m : M
     locals_under None o below f g sees le = let same = sees.1 in omega (arith, same)
 
     pub keep_places : (limit : ℕ) (os : List Open) (hs : List (Local × Place)) → HeldFrames world p meaning m n os hs
-        → ((o : Open) (os' : List Open) → os ≡ o ∷ os' → o.above ≤ limit) → KeepPlaces m.code.now limit os hs
+        → ((o : Open) (os' : List Open) → os ≡ o ∷ os' → o.above ≤ limit) → KeepPlaces m.image.code.now limit os hs
     keep_places limit [] [] k under = tt
     keep_places limit [] (h ∷ hs) k under = tt
     keep_places limit (o ∷ os) [] k under = tt

@@ -42,27 +42,27 @@ use Rattle.control_laws.proofs.Updates.{own_room, room_behind}
 -- ---- how it is laid out
 pub record LaysOut (m : Machine) (firsts : List ℕ) (laid : Laid) : Type 0 where
   pub nodes : List NodeInfo
-  pub lays : LaidOutBy firsts nodes m.code.now.tables m.code.now.listing.items laid
-  pub initializers : NumberInitializers m.code.now nodes
+  pub lays : LaidOutBy firsts nodes m.image.code.now.tables m.image.code.now.listing.items laid
+  pub initializers : NumberInitializers m.image.code.now nodes
 
 pub lays_out : Laws → (world : World) (p : Program) (m : Machine) (o : Open) (f : Local) (hs : List (Local × Place)) (c : OfCode world p m o f hs)
-    → HaveExpressions m.code.now.tables (laid_in m.code.now) p.functions m.code.now.functions.items → (n : ℕ) (laid : Laid)
-    → IsAmong c.sees.code.expressions n → slice_get m.code.now.expressions.items n ≡ Some laid → LaysOut m (firsts world p m o f hs c) laid
+    → HaveExpressions m.image.code.now.tables (laid_in m.image.code.now) p.functions m.image.code.now.functions.items → (n : ℕ) (laid : Laid)
+    → IsAmong c.sees.code.expressions n → slice_get m.image.code.now.expressions.items n ≡ Some laid → LaysOut m (firsts world p m o f hs c) laid
 lays_out laws world p m o f hs c have n laid within at =
     let range = c.sees.code.expressions in
-    let has : HasExpressions c.block m.code.now.tables (laid_in m.code.now) range =
+    let has : HasExpressions c.block m.image.code.now.tables (laid_in m.image.code.now) range =
     have c.number c.function c.block c.sees.code c.there c.is_block c.sees.at in
     let first = within.first in
     let end = within.end in
     let count = has.count in
     let tree = there_some (block_trees c.block) (n - range.first) (omega (arith, first, end, count)) in
-    let it = laws.expressions p m.code.now have c.number c.function c.block c.sees.code c.there c.is_block c.sees.at (n - range.first) tree.0 tree.1 in
+    let it = laws.expressions p m.image.code.now have c.number c.function c.block c.sees.code c.there c.is_block c.sees.at (n - range.first) tree.0 tree.1 in
     let same_number : range.first + (n - range.first) ≡ n = omega (arith, first) in
     let same : it.laid ≡ laid =
-    same_Some it.laid laid (sym it.at ∙ (ap (slice_get m.code.now.expressions.items) same_number ∙ at)) in
+    same_Some it.laid laid (sym it.at ∙ (ap (slice_get m.image.code.now.expressions.items) same_number ∙ at)) in
     record {
       nodes = it.nodes;
-      lays = subst (λ (z : Laid). LaidOutBy (firsts world p m o f hs c) it.nodes m.code.now.tables m.code.now.listing.items z) same it.lays;
+      lays = subst (λ (z : Laid). LaidOutBy (firsts world p m o f hs c) it.nodes m.image.code.now.tables m.image.code.now.listing.items z) same it.lays;
       initializers = it.initializers;
     }
 
@@ -83,80 +83,82 @@ none_of None f = refl
 none_of (Some x) f = absurd (f refl)
 
 module _ (laws : Laws) (world : World) (meaning : Meaning) (m : Machine) (height : ℕ) (o : Open) (s : Stage) (f : Scene) (e : Begun) (waiting : Option Place)
-    (x : StandsExpression world meaning m height o s f e waiting) (listed : ListsTrees m.code.now) (firsts : List ℕ) (lays : LaysOut m firsts x.laid) where
-  pub has_rooms : HasRooms (stage_part m.code.now s) o.rooms e
-  has_rooms =
-      let part = part_same m.code.now.listing.items s.first x.laid.first s.end x.laid.end x.first x.end in
-      subst (λ es. HasRooms es o.rooms e) (sym part)
-      (subst (λ (n : ℕ). HasRooms (listing_in m.code.now.listing.items x.laid) n e) (sym x.rooms)
-      (laws.rooms m.code.now firsts lays.nodes s.expression x.laid e listed x.at lays.lays x.root))
+    (x : StandsExpression world meaning m height o s f e waiting) (listed : ListsTrees m.image.code.now) (firsts : List ℕ) (lays : LaysOut m firsts x.laid)
+  where
+    pub has_rooms : HasRooms (stage_part m.image.code.now s) o.rooms e
+    has_rooms =
+        let part = part_same m.image.code.now.listing.items s.first x.laid.first s.end x.laid.end x.first x.end in
+        subst (λ es. HasRooms es o.rooms e) (sym part)
+        (subst (λ (n : ℕ). HasRooms (listing_in m.image.code.now.listing.items x.laid) n e) (sym x.rooms)
+        (laws.rooms m.image.code.now firsts lays.nodes s.expression x.laid e listed x.at lays.lays x.root))
 
-  few : size (tree_of e.root) < 2 ^ 32
-  few =
-      let of = each_at (IsExpressionOf m.code.now.tables m.code.now.listing.items) m.code.now.expressions.items s.expression x.laid x.at m.code.now.within in
-      subst (λ t. size t < 2 ^ 32) (sym (ap tree_of x.root ∙ same_tree x.laid.root.now)) of.3
+    few : size (tree_of e.root) < 2 ^ 32
+    few =
+        let of = each_at (IsExpressionOf m.image.code.now.tables m.image.code.now.listing.items) m.image.code.now.expressions.items s.expression x.laid x.at
+        m.image.code.now.within in
+        subst (λ t. size t < 2 ^ 32) (sym (ap tree_of x.root ∙ same_tree x.laid.root.now)) of.3
 
-  -- the room of an update is that of its node, or stands behind those of all nodes
-  abbrev Entries : List Listed
-  Entries = part_of m.code.now.listing.items x.laid.first x.laid.end
+    -- the room of an update is that of its node, or stands behind those of all nodes
+    abbrev Entries : List Listed
+    Entries = part_of m.image.code.now.listing.items x.laid.first x.laid.end
 
-  as_laid : stage_part m.code.now s ≡ Entries
-  as_laid = part_same m.code.now.listing.items s.first x.laid.first s.end x.laid.end x.first x.end
+    as_laid : stage_part m.image.code.now s ≡ Entries
+    as_laid = part_same m.image.code.now.listing.items s.first x.laid.first s.end x.laid.end x.first x.end
 
-  abbrev Kept : List Listed → Type 0
-  Kept es = (room : ℕ) (r : IsUpdateRoom es e room) → (r.old ≡ false → room ≡ r.due.place.node) × (r.old ≡ true → size (tree_of e.root) ≤ room)
+    abbrev Kept : List Listed → Type 0
+    Kept es = (room : ℕ) (r : IsUpdateRoom es e room) → (r.old ≡ false → room ≡ r.due.place.node) × (r.old ≡ true → size (tree_of e.root) ≤ room)
 
-  kept_so : Kept (stage_part m.code.now s)
-  kept_so = subst Kept (sym as_laid) (λ room r. (
-    own_room m.code.now.tables m.code.now.listing.items x.laid firsts lays.nodes lays.lays e x.root few room r,
-    room_behind m.code.now.tables m.code.now.listing.items x.laid firsts lays.nodes lays.lays e x.root few room r,
-  ))
+    kept_so : Kept (stage_part m.image.code.now s)
+    kept_so = subst Kept (sym as_laid) (λ room r. (
+      own_room m.image.code.now.tables m.image.code.now.listing.items x.laid firsts lays.nodes lays.lays e x.root few room r,
+      room_behind m.image.code.now.tables m.image.code.now.listing.items x.laid firsts lays.nodes lays.lays e x.root few room r,
+    ))
 
-  module _ (closed : IsClosed world f e) where
-    given_within : (u : Place) → is_some (e.given u) ≡ true → u.node < o.rooms
-    given_within u given =
-        let inside = due_lt (taken_by world f e) (tree_of e.root) 0 u (closed u given).due in
-        let nodes = has_rooms.nodes in
-        omega (arith, inside, nodes)
+    module _ (closed : IsClosed world f e) where
+      given_within : (u : Place) → is_some (e.given u) ≡ true → u.node < o.rooms
+      given_within u given =
+          let inside = due_lt (taken_by world f e) (tree_of e.root) 0 u (closed u given).due in
+          let nodes = has_rooms.nodes in
+          omega (arith, inside, nodes)
 
-    -- what is kept of it stands in its rooms
-    pub in_rooms : IsInRooms (stage_part m.code.now s) o.rooms e
-    in_rooms = record {
-      val = λ k given. given_within (place k Val) given;
-      body = λ k given. given_within (place k Body) given;
-      update = has_rooms.within;
-    }
-
-    module _ (node : ℕ) (next : IsNext world f e (place node Body)) where
-      node_within : node < size (tree_of e.root)
-      node_within = let l = due_lt (taken_by world f e) (tree_of e.root) 0 (place node Body) next.due in omega (arith, l)
-
-      -- the node has no value yet, since its body comes before that
-      value_none : e.given (place node Val) ≡ None
-      value_none = none_of (e.given (place node Val)) (λ given.
-          let body =
-          (closed (place node Val) given).earlier (place node Body) next.due (body_first (taken_by world f e) (tree_of e.root) 0 node next.due) in
-          true≢false (sym body ∙ ap is_some next.left))
-
-      body_there : (y : Expr) → at_node 0 e.root node ≡ Some y → has_kind (kinds_of (class_of (tree_of y))) Body ≡ true
-      body_there y at = body_node (taken_by world f e) e.root 0 node y at next.due
-
-      update_apart : (room : ℕ) → IsUpdateRoom (stage_part m.code.now s) e room → room ≢ node
-      update_apart room r is = go r.old refl
-        where
-          go : (old : Bool) → r.old ≡ old → ⊥
-          go true old =
-              let far = (kept_so room r).1 old in
-              let near = node_within in
-              absurd (omega (arith, far, near, is))
-          go false old =
-              let number : r.due.place.node ≡ node = sym ((kept_so room r).0 old) ∙ is in
-              no_update (at_node 0 e.root node) r.change r.old r.operands body_there
-              (subst (λ (k : ℕ). IsUpdate (at_node 0 e.root k) r.change r.old r.operands) number r.update)
-
-      pub room_free : (count : ℕ) → o.base + o.rooms ≤ count → IsRoomFree (stage_part m.code.now s) count (o.base + node) e node
-      room_free count enough = record {
-        there = (let near = node_within in let nodes = has_rooms.nodes in omega (arith, near, nodes, enough));
-        value = value_none;
-        update = update_apart;
+      -- what is kept of it stands in its rooms
+      pub in_rooms : IsInRooms (stage_part m.image.code.now s) o.rooms e
+      in_rooms = record {
+        val = λ k given. given_within (place k Val) given;
+        body = λ k given. given_within (place k Body) given;
+        update = has_rooms.within;
       }
+
+      module _ (node : ℕ) (next : IsNext world f e (place node Body)) where
+        node_within : node < size (tree_of e.root)
+        node_within = let l = due_lt (taken_by world f e) (tree_of e.root) 0 (place node Body) next.due in omega (arith, l)
+
+        -- the node has no value yet, since its body comes before that
+        value_none : e.given (place node Val) ≡ None
+        value_none = none_of (e.given (place node Val)) (λ given.
+            let body =
+            (closed (place node Val) given).earlier (place node Body) next.due (body_first (taken_by world f e) (tree_of e.root) 0 node next.due) in
+            true≢false (sym body ∙ ap is_some next.left))
+
+        body_there : (y : Expr) → at_node 0 e.root node ≡ Some y → has_kind (kinds_of (class_of (tree_of y))) Body ≡ true
+        body_there y at = body_node (taken_by world f e) e.root 0 node y at next.due
+
+        update_apart : (room : ℕ) → IsUpdateRoom (stage_part m.image.code.now s) e room → room ≢ node
+        update_apart room r is = go r.old refl
+          where
+            go : (old : Bool) → r.old ≡ old → ⊥
+            go true old =
+                let far = (kept_so room r).1 old in
+                let near = node_within in
+                absurd (omega (arith, far, near, is))
+            go false old =
+                let number : r.due.place.node ≡ node = sym ((kept_so room r).0 old) ∙ is in
+                no_update (at_node 0 e.root node) r.change r.old r.operands body_there
+                (subst (λ (k : ℕ). IsUpdate (at_node 0 e.root k) r.change r.old r.operands) number r.update)
+
+        pub room_free : (count : ℕ) → o.base + o.rooms ≤ count → IsRoomFree (stage_part m.image.code.now s) count (o.base + node) e node
+        room_free count enough = record {
+          there = (let near = node_within in let nodes = has_rooms.nodes in omega (arith, near, nodes, enough));
+          value = value_none;
+          update = update_apart;
+        }

@@ -98,7 +98,7 @@ pub record OfCode (world : World) (p : Program) (m : Machine) (o : Open) (f : Lo
 
 pub of_code : (world : World) (p : Program) (m : Machine) (o : Open) (f : Local) (hs : List (Local × Place)) (n : Option ℕ) → (z : Option ℕ)
     → n ≡ z → n ≡ function_round f hs → Sees m o n
-    → HaveCode p.functions m.code.now → StandsProgram world p → OfCode world p m o f hs
+    → HaveCode p.functions m.image.code.now → StandsProgram world p → OfCode world p m o f hs
 of_code world p m o f hs n None is round sees have stands = absurd (subst (Sees m o) is sees)
 of_code world p m o f hs n (Some k) is round sees have stands =
     let s : SeesFunction m o k = subst (Sees m o) is sees in
@@ -130,11 +130,11 @@ module _ (world : World) (p : Program) (m : Machine) (o : Open) (f : Local) (hs 
   pub declared : TextIsKept → (k : ℕ) (ds : List Decl) → objects_round world f hs k ≡ Some ds → decls_in p (Some c.number) k ≡ ds
   declared kept k ds e = decls_are p c.number c.function c.block k ds c.there c.is_block (objects_are kept k ds e)
 
-  pub block_at : Laws → (have : HaveBlocks p.tags m.code.now.tables p.functions m.code.now.functions.items) (k : ℕ) (ds : List Decl)
+  pub block_at : Laws → (have : HaveBlocks p.tags m.image.code.now.tables p.functions m.image.code.now.functions.items) (k : ℕ) (ds : List Decl)
       → objects_round world f hs k ≡ Some ds
-      → HasBlockAt m.code.now.tables c.sees.code firsts parameters ds k
+      → HasBlockAt m.image.code.now.tables c.sees.code firsts parameters ds k
   block_at laws have k ds e =
       let r = objects_are laws.text k ds e in
-      subst (λ (es : List Decl). HasBlockAt m.code.now.tables c.sees.code firsts parameters es k) (declared laws.text k ds e)
-      (laws.blocks p m.code.now have c.number c.function c.block c.sees.code c.there c.is_block c.sees.at k
+      subst (λ (es : List Decl). HasBlockAt m.image.code.now.tables c.sees.code firsts parameters es k) (declared laws.text k ds e)
+      (laws.blocks p m.image.code.now have c.number c.function c.block c.sees.code c.there c.is_block c.sees.at k
       (slice_get_within (rows_of_block c.block) k r.row r.at))

@@ -96,7 +96,7 @@ no_event world None is = refl
 no_event world (Some u) is = absurd (cc)
 
 straight_so : (world : World) (m : Machine) (height first cursor end : ℕ) (f : Scene) (e : Begun) (straight : Bool) → straight ≡ true
-    → StandsDone straight world m height first cursor end f e None → StandsStraight world f m.code.now.listing.items first cursor end e None
+    → StandsDone straight world m height first cursor end f e None → StandsStraight world f m.image.code.now.listing.items first cursor end e None
 straight_so world m height first cursor end f e true is d = d
 straight_so world m height first cursor end f e false is d = absurd (cc)
 
@@ -117,7 +117,7 @@ module _ (laws : Laws) (world : World) (p : Program) (numbers : Numbers) (m : Ma
         subst (λ (k : ℕ). KeepsOpen world m k m.top s st.top.scene e) (length-reverse m.below.items)
         (keeps_here world m (length (reverse m.below.items)) m.top m.top.stage st.top.scene st.top.begun s e g.frames.0.begun stage begun)
 
-    pub lays_here : (laid : Laid) → slice_get m.code.now.expressions.items s.expression ≡ Some laid
+    pub lays_here : (laid : Laid) → slice_get m.image.code.now.expressions.items s.expression ≡ Some laid
         → LaysOut m (firsts world p m m.top st.top st.held (code laws world p numbers m st n g)) laid
     lays_here laid at =
         let c = code laws world p numbers m st n g in
@@ -131,7 +131,7 @@ module _ (laws : Laws) (world : World) (p : Program) (numbers : Numbers) (m : Ma
         settles_at_end world st.top e _ _ straight.along ∙ no_event world (first_of _) (sym next ∙ pick)
 
     -- what it names is open
-    open_names : (laid : Laid) → slice_get m.code.now.expressions.items s.expression ≡ Some laid
+    open_names : (laid : Laid) → slice_get m.image.code.now.expressions.items s.expression ≡ Some laid
         → NamesAreOpen m (firsts world p m m.top st.top st.held (code laws world p numbers m st n g)) st.top.scene.blocks laid.root.now
     open_names laid at =
         let same : e.root ≡ expr_of laid.root.now =
@@ -151,7 +151,7 @@ module _ (laws : Laws) (world : World) (p : Program) (numbers : Numbers) (m : Ma
       let b = subst (IsBehind world st.top e) f (goes_behind world st.top st.held e g.ordered begun) in
       (b.0, λ last. can_end laws world p numbers m st n g)
 
-  cases_of : (o : Option ℕ) (how : Use) → m.top.function ≡ o → HasCases m.code.now m.jumps o how
+  cases_of : (o : Option ℕ) (how : Use) → m.top.function ≡ o → HasCases m.image.code.now m.jumps o how
   cases_of None how is = tt
   cases_of (Some k) (for_use.Select b) is = labels_of laws world p numbers m st n g (Some k) is refl
   cases_of (Some k) for_use.Unused is = tt
@@ -161,7 +161,7 @@ module _ (laws : Laws) (world : World) (p : Program) (numbers : Numbers) (m : Ma
   cases_of (Some k) (for_use.GoAgain b) is = tt
   cases_of (Some k) for_use.Result is = tt
 
-  usable : (s : Stage) (laid : Laid) → m.top.stage ≡ Some s → slice_get m.code.now.expressions.items s.expression ≡ Some laid
+  usable : (s : Stage) (laid : Laid) → m.top.stage ≡ Some s → slice_get m.image.code.now.expressions.items s.expression ≡ Some laid
       → IsUsable m st.top.scene laid
   usable s laid stage at =
       let names = open_names s stage laid at in

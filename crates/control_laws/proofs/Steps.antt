@@ -51,14 +51,15 @@ as_birth d = record { size = d.size; align = d.align; constant = d.constant; for
 
 module _ (laws : Laws) (world : World) (p : Program) (numbers : Numbers) (m : Machine) (st : State) (n : ℕ) (g : IsGoing world p numbers m st n) where
   -- ---- jumps
-  pub labels_of : (o : Option ℕ) → m.top.function ≡ o → is_some o ≡ true → HasLabels m.code.now m.jumps o
+  pub labels_of : (o : Option ℕ) → m.top.function ≡ o → is_some o ≡ true → HasLabels m.image.code.now m.jumps o
   labels_of None is some = absurd (cc)
   labels_of (Some k) is some =
       let c = code laws world p numbers m st n g in
       let there : body_of world (Some k) ≡ Some (stmt_of p.tags (body.Block c.block)) =
       ap (λ j. body_of world (Some j)) (sym (number_is laws world p numbers m st n g k is)) ∙ c.body_is in
-      laws.asked m.code.now m.jumps k
-      (laws.labels p m.code.now m.jumps world k (stmt_of p.tags (body.Block c.block)) g.set_up.code.functions g.set_up.labels g.set_up.world.program there)
+      laws.asked m.image.code.now m.jumps k
+      (laws.labels p m.image.code.now m.jumps world k (stmt_of p.tags (body.Block c.block)) g.set_up.code.functions g.set_up.labels g.set_up.world.program
+      there)
 
   -- the step is a function's, but for the begin of a full expression
   in_function : (todo : Todo) → st.top.begun ≡ None → ready_work st.top.todo ≡ todo → is_begin todo ≡ false → is_some m.top.function ≡ true
@@ -67,11 +68,11 @@ module _ (laws : Laws) (world : World) (p : Program) (numbers : Numbers) (m : Ma
 
   -- ---- the blocks of the top frame as the code has them
   same_block : (b : ℕ) (ds : List Decl) (e : objects laws world p numbers m st n g b ≡ Some ds) (z : BlockCode)
-      → slice_get m.code.now.tables.blocks.items (m.top.blocks + b) ≡ Some z → (block_of laws world p numbers m st n g b ds e).block ≡ z
+      → slice_get m.image.code.now.tables.blocks.items (m.top.blocks + b) ≡ Some z → (block_of laws world p numbers m st n g b ds e).block ≡ z
   same_block b ds e z at =
       let it = block_of laws world p numbers m st n g b ds e in
       let blocks = (code laws world p numbers m st n g).sees.blocks in
-      same_Some it.block z (sym it.at ∙ (ap (λ k. slice_get m.code.now.tables.blocks.items (k + b)) (sym blocks) ∙ at))
+      same_Some it.block z (sym it.at ∙ (ap (λ k. slice_get m.image.code.now.tables.blocks.items (k + b)) (sym blocks) ∙ at))
 
   record BlockIs (b : ℕ) (ds : List Decl) (z : BlockCode) : Type 0 where
     pub number : m.top.blocks + b < 2 ^ 32
@@ -81,7 +82,7 @@ module _ (laws : Laws) (world : World) (p : Program) (numbers : Numbers) (m : Ma
     pub places : m.top.locals + (z.first + z.objects.count) < 2 ^ 64
 
   block_is : (b : ℕ) (ds : List Decl) → objects laws world p numbers m st n g b ≡ Some ds → (z : BlockCode)
-      → slice_get m.code.now.tables.blocks.items (m.top.blocks + b) ≡ Some z → BlockIs b ds z
+      → slice_get m.image.code.now.tables.blocks.items (m.top.blocks + b) ≡ Some z → BlockIs b ds z
   block_is b ds e z at =
       let it = block_of laws world p numbers m st n g b ds e in
       let sees = (code laws world p numbers m st n g).sees in
@@ -100,11 +101,11 @@ module _ (laws : Laws) (world : World) (p : Program) (numbers : Numbers) (m : Ma
       })
 
   -- ---- a declaration
-  declared_in : (bs : List (ℕ × ℕ)) (d : ℕ) → DeclareFits (objects laws world p numbers m st n g) (map (λ b. b.0) bs) d → IsDeclared m.code.now m.top d bs
+  declared_in : (bs : List (ℕ × ℕ)) (d : ℕ) → DeclareFits (objects laws world p numbers m st n g) (map (λ b. b.0) bs) d → IsDeclared m.image.code.now m.top d bs
   declared_in [] d fits = fits
   declared_in (b ∷ bs) d fits = λ z at. go z at (objects laws world p numbers m st n g b.0) refl fits
     where
-      go : (z : BlockCode) → slice_get m.code.now.tables.blocks.items (m.top.blocks + b.0) ≡ Some z → (o : Option (List Decl))
+      go : (z : BlockCode) → slice_get m.image.code.now.tables.blocks.items (m.top.blocks + b.0) ≡ Some z → (o : Option (List Decl))
           → objects laws world p numbers m st n g b.0 ≡ o → HasObject d o
           → (m.top.blocks + b.0 < 2 ^ 32) × (d < z.objects.count) × (z.first + d < 2 ^ 32) × (m.top.locals + (z.first + d) < 2 ^ 64)
       go z at None e h = absurd h
@@ -117,7 +118,7 @@ module _ (laws : Laws) (world : World) (p : Program) (numbers : Numbers) (m : Ma
 
   -- ---- the end of a block
   has_objects : (b : ℕ) (ds : List Decl) → objects laws world p numbers m st n g b ≡ Some ds → (z : BlockCode)
-      → slice_get m.code.now.tables.blocks.items (m.top.blocks + b) ≡ Some z → HasObjects m.top b z ds
+      → slice_get m.image.code.now.tables.blocks.items (m.top.blocks + b) ≡ Some z → HasObjects m.top b z ds
   has_objects b ds e z at =
       let it = block_is b ds e z at in
       let few = it.few in
@@ -126,7 +127,7 @@ module _ (laws : Laws) (world : World) (p : Program) (numbers : Numbers) (m : Ma
 
   -- ---- a full expression begins
   can_begin : (e : Expr) (what : Use) (rest : Todo) → st.top.begun ≡ None → ready_work st.top.todo ≡ Begin e what ∷ rest
-      → CanBegin world m.code.now m.top st e
+      → CanBegin world m.image.code.now m.top st e
   can_begin e what rest shut is =
       let scope = begins_in_scope world st.top st.held e what rest (scoped laws world p numbers m st n g) g.ordered shut is in
       record {
@@ -140,12 +141,12 @@ module _ (laws : Laws) (world : World) (p : Program) (numbers : Numbers) (m : Ma
             (order_now laws world p numbers m st n g) at
             g.stands.memory (stand_next laws world p numbers m st n g) names in
             subst (Views world (next_turn st.top.scene) firsts 0 laid.root.now) root
-            (laws.known m.program.now m.code.now world (next_turn st.top.scene) firsts k laid (lawful_now laws world p numbers m st n g)
+            (laws.known m.program.now m.image.code.now world (next_turn st.top.scene) firsts k laid (lawful_now laws world p numbers m st n g)
             (order_now laws world p numbers m st n g) at placed);
       }
 
   -- ---- the step
-  takes : (todo : Todo) → st.top.begun ≡ None → ready_work st.top.todo ≡ todo → StepFirst todo → CanTake world m.code.now m.jumps m.top st todo
+  takes : (todo : Todo) → st.top.begun ≡ None → ready_work st.top.todo ≡ todo → StepFirst todo → CanTake world m.image.code.now m.jumps m.top st todo
   takes (Nothing_to_do ∷ rest) shut is first = tt
   takes (Go_out ∷ rest) shut is first = tt
   takes (Go_on ∷ rest) shut is first = tt
@@ -183,21 +184,21 @@ module _ (laws : Laws) (world : World) (p : Program) (numbers : Numbers) (m : Ma
   births_in [] = refl
   births_in (d ∷ ds) = ap (λ bs. birth_in d ∷ bs) (births_in ds)
 
-  takes_as : (d : Decl) (x o : ObjectCode) → o ≡ x → StandsObject m.code.now.tables d o → TakesAs m.code.now x d
+  takes_as : (d : Decl) (x o : ObjectCode) → o ≡ x → StandsObject m.image.code.now.tables d o → TakesAs m.image.code.now x d
   takes_as d x o same s =
-      subst (λ (z : ObjectCode). TakesAs m.code.now z d) same
+      subst (λ (z : ObjectCode). TakesAs m.image.code.now z d) same
       (record { store = s.by; at = s.at; first = s.initializing; access = s.access; ty = s.ty })
 
   -- blocks with lower numbers have their objects below
   open_below : (b : ℕ) (ds : List Decl) (e : objects laws world p numbers m st n g b ≡ Some ds) (limit : ℕ)
       → m.top.locals + (block_of laws world p numbers m st n g b ds e).block.first ≡ limit → (bs : List (ℕ × ℕ))
-      → AreLower b (map (λ z. z.0) bs) → AreBelow m.code.now m.top limit bs
+      → AreLower b (map (λ z. z.0) bs) → AreBelow m.image.code.now m.top limit bs
   open_below b ds e limit is [] inside = tt
   open_below b ds e limit is (z ∷ zs) inside = (
     (λ y at.
         let blocks = (code laws world p numbers m st n g).sees.blocks in
         let it = block_of laws world p numbers m st n g b ds e in
-        let le = it.behind z.0 y inside.0 (ap (λ k. slice_get m.code.now.tables.blocks.items (k + z.0)) (sym blocks) ∙ at) in
+        let le = it.behind z.0 y inside.0 (ap (λ k. slice_get m.image.code.now.tables.blocks.items (k + z.0)) (sym blocks) ∙ at) in
         omega (arith, le, is)),
     open_below b ds e limit is zs inside.1,
   )
@@ -254,8 +255,8 @@ module _ (laws : Laws) (world : World) (p : Program) (numbers : Numbers) (m : Ma
 
   has_births : (b : ℕ) (ds : List Decl) (rest : Todo) → st.top.begun ≡ None → ready_work st.top.todo ≡ Enter b ds ∷ rest
       → (e : objects laws world p numbers m st n g b ≡ Some ds) → is_some m.top.function ≡ true
-      → HasArguments world p st ds → (z : BlockCode) → slice_get m.code.now.tables.blocks.items (m.top.blocks + b) ≡ Some z
-      → HasBirths m.code.now m.top st.top.scene.blocks z ds st.top.arguments
+      → HasArguments world p st ds → (z : BlockCode) → slice_get m.image.code.now.tables.blocks.items (m.top.blocks + b) ≡ Some z
+      → HasBirths m.image.code.now m.top st.top.scene.blocks z ds st.top.arguments
   has_births b ds rest shut is e some asks z at =
       let entered = enters_with_objects world st.top st.held b ds rest (scoped laws world p numbers m st n g) g.ordered shut is in
       let c = code laws world p numbers m st n g in
@@ -263,16 +264,16 @@ module _ (laws : Laws) (world : World) (p : Program) (numbers : Numbers) (m : Ma
       let few = it.stands.few in
       let count = it.stands.count in
       let same = same_block b ds e z at in
-      let here = block_is b ds e it.block (ap (slice_get m.code.now.tables.blocks.items) (ap (λ k. k + b) c.sees.blocks) ∙ it.at) in
+      let here = block_is b ds e it.block (ap (slice_get m.image.code.now.tables.blocks.items) (ap (λ k. k + b) c.sees.blocks) ∙ it.at) in
       let places = here.places in
-      subst (λ (y : BlockCode). HasBirths m.code.now m.top st.top.scene.blocks y ds st.top.arguments) same (record {
+      subst (λ (y : BlockCode). HasBirths m.image.code.now m.top st.top.scene.blocks y ds st.top.arguments) same (record {
         arguments = it.arguments ∙ taken_by b ds rest is entered.inside asks some st.top.scene.blocks refl;
         enough = enough_by b ds rest is e asks some st.top.scene.blocks refl;
         stores = λ k x d less at_k there.
             let o = it.stands.objects k d there in
             takes_as d x o.0 (same_Some o.0 x (sym o.1 ∙ at_k)) o.2;
         objects =
-            births_are (part_of m.code.now.tables.objects.items it.block.objects) ∙ (ap (map as_birth) it.stands.made ∙ sym (births_in ds));
+            births_are (part_of m.image.code.now.tables.objects.items it.block.objects) ∙ (ap (map as_birth) it.stands.made ∙ sym (births_in ds));
         count = count;
         created = it.stands.created;
         behind = open_below b ds e (m.top.locals + it.block.first) refl st.top.scene.blocks entered.inside;
@@ -280,7 +281,7 @@ module _ (laws : Laws) (world : World) (p : Program) (numbers : Numbers) (m : Ma
         places = omega (arith, places, count);
       })
 
-  places_below : is_some m.top.function ≡ true → KeepPlaces m.code.now m.top.locals
+  places_below : is_some m.top.function ≡ true → KeepPlaces m.image.code.now m.top.locals
       (below laws world p numbers m st n g) st.held
   places_below some =
       keep_places world p (meaning laws world p numbers m st n g) m n laws numbers g.stands.listed g.set_up.code m.top.locals

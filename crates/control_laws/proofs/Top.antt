@@ -84,7 +84,7 @@ locals_turned world m o f (b ∷ bs) l = (l.0, locals_turned world m o f bs l.1)
 
 module _ (laws : Laws) (world : World) (p : Program) (numbers : Numbers) (m : Machine) (st : State) (n : ℕ) (g : IsGoing world p numbers m st n) where
   abbrev pub meaning : Option ℕ → Meaning
-  meaning = meaning_of p numbers m.code.now
+  meaning = meaning_of p numbers m.image.code.now
 
   abbrev pub below : List Open
   below = reverse m.below.items
@@ -95,8 +95,8 @@ module _ (laws : Laws) (world : World) (p : Program) (numbers : Numbers) (m : Ma
   pub lawful_now : IsLawful m.program.now
   lawful_now = subst IsLawful (sym g.program) g.set_up.whole.lawful
 
-  pub order_now : AreInOrder m.program.now m.code.now
-  order_now = subst (λ (q : Program). AreInOrder q m.code.now) (sym g.program) g.set_up.code.order
+  pub order_now : AreInOrder m.program.now m.image.code.now
+  order_now = subst (λ (q : Program). AreInOrder q m.image.code.now) (sym g.program) g.set_up.code.order
 
   pub frame : StandsFrame world (meaning m.top.function) m (length m.below.items) m.top m.work.now m.left st.top None
   frame = top_frame world meaning m st g.stands
@@ -119,14 +119,14 @@ module _ (laws : Laws) (world : World) (p : Program) (numbers : Numbers) (m : Ma
   objects = objects_round world st.top st.held
 
   pub block_of : (k : ℕ) (ds : List Decl) → objects k ≡ Some ds
-      → HasBlockAt m.code.now.tables code.sees.code (firsts world p m m.top st.top st.held code) (parameters world p m m.top st.top st.held code) ds k
+      → HasBlockAt m.image.code.now.tables code.sees.code (firsts world p m m.top st.top st.held code) (parameters world p m m.top st.top st.held code) ds k
   block_of k ds e = block_at world p m m.top st.top st.held code laws g.set_up.code.blocks k ds e
 
   -- ---- the frames below
-  pub rooms : KeepToRooms m.code.now below st.held
+  pub rooms : KeepToRooms m.image.code.now below st.held
   rooms = keep_to_rooms world p meaning m n laws numbers g.stands.listed g.set_up.code below st.held held
 
-  pub room : HasRoomBelow m.code.now (length m.values.items) m.top.node below st.held
+  pub room : HasRoomBelow m.image.code.now (length m.values.items) m.top.node below st.held
   room =
       room_below world p meaning m n laws numbers g.stands.listed g.set_up.code m.top.node below st.held
       (waits_at m.top st.top below st.held g.stands.frames.1) held

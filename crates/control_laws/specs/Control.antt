@@ -48,7 +48,7 @@ ControlGoesOn = (world : World) (p : Program) (numbers : Numbers) (m : Machine) 
 -- trees too, and values, bytes and lists are small.
 pub record OpensSmall (m : Machine) (st : State) (e : Begun) : Type 0 where
   pub result : m.left ≡ None
-  pub code : IsLawfulCode m.program.now m.code.now
+  pub code : IsLawfulCode m.program.now m.image.code.now
   pub given : AreSmall e.given
   pub bytes : HasSmallBytes st.store
   pub lists : ListsAreSmall e.root
@@ -59,8 +59,8 @@ pub record IsOpenAs (world : World) (p : Program) (numbers : Numbers) (m : Machi
   pub laid : Laid
   pub firsts : List ℕ
   pub nodes : List NodeInfo
-  pub open_so : IsOpen world (meaning_of p numbers m.code.now) m st e s laid firsts nodes
-  pub initializers : NumberInitializers m.code.now nodes
+  pub open_so : IsOpen world (meaning_of p numbers m.image.code.now) m st e s laid firsts nodes
+  pub initializers : NumberInitializers m.image.code.now nodes
 
 abbrev pub OpenStandsSo : Type 0
 OpenStandsSo = (world : World) (p : Program) (numbers : Numbers) (m : Machine) (st : State) (n : ℕ) (e : Begun) (s : Stage)

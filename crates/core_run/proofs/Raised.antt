@@ -45,9 +45,9 @@ module _ (asked : EventIsAsked) (goes : ControlGoesOn) (asks : ArgumentsAreAsked
     pub line_is : e.line ≡ line
 
   -- ---- the line of the event's node
-  module _ (u : Place) (q : IsEventNext world (meaning_of p numbers old.code.now) old st u)
+  module _ (u : Place) (q : IsEventNext world (meaning_of p numbers old.image.code.now) old st u)
       (r : IsRaisedNext world old st u event line) where
-    straight : MayPickNext world (meaning_of p numbers old.code.now) old st q.expression q.stage q.laid u → q.stage.straight ≡ true
+    straight : MayPickNext world (meaning_of p numbers old.image.code.now) old st q.expression q.stage q.laid u → q.stage.straight ≡ true
     straight (plain b may) = may.straight
     straight (initializer b may) = may.straight
     straight (call b may) = may.straight
@@ -55,7 +55,7 @@ module _ (asked : EventIsAsked) (goes : ControlGoesOn) (asks : ArgumentsAreAsked
 
     line_of_node : line_of q.expression.root u.node ≡ line
     line_of_node =
-        let meaning = meaning_of p numbers old.code.now in
+        let meaning = meaning_of p numbers old.image.code.now in
         let on = straight q.may in
         let next = r.next q.stage q.staged on in
         let d = next.0.1.now in
@@ -74,11 +74,11 @@ module _ (asked : EventIsAsked) (goes : ControlGoesOn) (asks : ArgumentsAreAsked
   by_pick : GrowsNext old new answer → RaisesNext old answer → (q : Model_pick) → canonical_pick world st.top st.top.begun ≡ q → (e : Entry)
       → step world st q ≡ Raises clause (e ∷ st.trace) → IsOfRaise e
   by_pick g raises Control is e so =
-      absurd (g.steps world (meaning_of p numbers old.code.now) st a.going.stands
+      absurd (g.steps world (meaning_of p numbers old.image.code.now) st a.going.stands
       (may_go_on asked goes asks world p numbers old st n a few apart is))
   by_pick g raises (Ev u) is e so =
       let q = event_next asked goes asks world p numbers old st n a few extends u is in
-      let r = raises world (meaning_of p numbers old.code.now) st u a.going.stands is in
+      let r = raises world (meaning_of p numbers old.image.code.now) st u a.going.stands is in
       let same = same_entry e (entry_of world st.top (Ev u) []) st.trace st.trace (step_raises world st (Ev u) clause (e ∷ st.trace) so) in
       subst IsOfRaise (sym same) (record {
         event_is = ap Some (sym r.event_is);

@@ -100,7 +100,7 @@ module _ (asked : EventIsAsked) (goes : ControlGoesOn) (asks : ArgumentsAreAsked
       goes world p numbers old st n a.going (record { enters = λ closed. asks world p st a.arguments a.placed apart.apart }) is
 
   pub event_next : Extends old.memory.rows world.rows → (u : Place) → canonical_pick world st.top st.top.begun ≡ Ev u
-      → IsEventNext world (meaning_of p numbers old.code.now) old st u
+      → IsEventNext world (meaning_of p numbers old.image.code.now) old st u
   event_next extends u is =
       asked world p numbers old st n u
       (record {
@@ -115,18 +115,18 @@ module _ (asked : EventIsAsked) (goes : ControlGoesOn) (asks : ArgumentsAreAsked
       }) is
 
   module _ (new : Machine) (r : Result Pick Halt) (g : GrowsNext old new r) (extends : Extends old.memory.rows world.rows) (apart : AreApart world.rows) where
-    by_event : (u : Place) → canonical_pick world st.top st.top.begun ≡ Ev u → (q : IsEventNext world (meaning_of p numbers old.code.now) old st u)
+    by_event : (u : Place) → canonical_pick world st.top st.top.begun ≡ Ev u → (q : IsEventNext world (meaning_of p numbers old.image.code.now) old st u)
         → KeepsAnswered old new r
     by_event u is q = by q.may
       where
-        by : MayPickNext world (meaning_of p numbers old.code.now) old st q.expression q.stage q.laid u → KeepsAnswered old new r
-        by (plain b may) = g.events world (meaning_of p numbers old.code.now) st q.expression q.stage q.laid u may is
-        by (initializer b may) = g.bodies world (meaning_of p numbers old.code.now) st q.expression q.stage u may is
-        by (call b may) = g.calls world (meaning_of p numbers old.code.now) st q.expression q.stage u may is
-        by (library b may) = g.libraries world (meaning_of p numbers old.code.now) st q.expression q.stage q.laid u may is
+        by : MayPickNext world (meaning_of p numbers old.image.code.now) old st q.expression q.stage q.laid u → KeepsAnswered old new r
+        by (plain b may) = g.events world (meaning_of p numbers old.image.code.now) st q.expression q.stage q.laid u may is
+        by (initializer b may) = g.bodies world (meaning_of p numbers old.image.code.now) st q.expression q.stage u may is
+        by (call b may) = g.calls world (meaning_of p numbers old.image.code.now) st q.expression q.stage u may is
+        by (library b may) = g.libraries world (meaning_of p numbers old.image.code.now) st q.expression q.stage q.laid u may is
 
     pub rows_stay : (q : Model_pick) → canonical_pick world st.top st.top.begun ≡ q → KeepsAnswered old new r
-    rows_stay Control is = kept_by_step old new r (g.steps world (meaning_of p numbers old.code.now) st a.going.stands (may_go_on apart is))
+    rows_stay Control is = kept_by_step old new r (g.steps world (meaning_of p numbers old.image.code.now) st a.going.stands (may_go_on apart is))
     rows_stay (Ev u) is = by_event u is (event_next extends u is)
 
 -- ---- so it is of each pick of a run

@@ -45,8 +45,8 @@ use Rattle.core_run.proofs.Rows.{are_addresses, end_in_time}
 -- what a run is made of: a lawful program, its code, and a machine that was made ready for these arguments and this input, with all that they count
 pub record IsMade (p : Program) (strings : List (List ℕ)) (input : List ℕ) (numbers : Numbers) (m : Machine) (count : ℕ) : Type 0 where
   pub whole : IsWhole p
-  pub code : IsItsCode p numbers m.code.now
-  pub labels : KeepsLabels m.code.now m.jumps
+  pub code : IsItsCode p numbers m.image.code.now
+  pub labels : KeepsLabels m.image.code.now m.jumps
   pub ready : IsMadeReady p strings input m
   pub counts : IsStartCount p strings count
   pub within : count ≤ 2 ^ 26
@@ -81,7 +81,7 @@ pub begins_at : StartsGoing → GoingIsAlong → LawfulWorldsKeepSmall → MainI
 begins_at starts goes keeps placed small p strings input numbers heard m count made = λ rows number suits.
     let world = world_in p strings rows number in
     let extends = All-head (λ (z : List Row). Extends z rows) m.memory.rows [] suits.has in
-    let set_up : IsSetUp world p numbers m.code.now m.jumps = record {
+    let set_up : IsSetUp world p numbers m.image.code.now m.jumps = record {
       whole = made.whole;
       code = made.code;
       world = its_world p strings rows number suits.map;
@@ -136,8 +136,8 @@ pub record IsGivenMachine (p : Program) (strings : List (List ℕ)) (input : Lis
   pub begins : BeginsAsDefined p strings input m
   pub counts : CountsAsDefined p strings input m
   pub given : HoldsGiven p strings m
-  pub labels : KeepsLabels m.code.now m.jumps
-  pub over : m.code ≡ code
+  pub labels : KeepsLabels m.image.code.now m.jumps
+  pub over : m.image.code ≡ code
   pub first : IsUnstarted p m
 
 pub empty_of : (m : Kept) (mode : Option Mode) → m ≡ empty [] mode → m ≡ empty m.rows m.mode

@@ -85,7 +85,7 @@ fn accessed(act: &Act<'_>) -> Option<Operand> {
 // Where the event of the open full expression accesses memory.
 fn place_of(machine: &Machine, event: Event) -> Option<Operand> {
     let stage = machine.top.stage?;
-    let code = machine.code;
+    let code = machine.image.code;
     let expression = code.expressions.get(stage.expression as usize)?;
     for at in expression.first..expression.end {
         if let Some(Listed::Event(due)) = code.listing.get(at)

@@ -90,7 +90,7 @@ fn asked(machine: &Machine, call: &Typed, number: u32) -> Option<u128> {
 /// arguments are gone.
 pub fn asked_next(machine: &Machine) -> Option<u128> {
     let stage = machine.top.stage?;
-    let Some(Listed::Event(due)) = machine.code.listing.get(stage.cursor) else {
+    let Some(Listed::Event(due)) = machine.image.code.listing.get(stage.cursor) else {
         return None;
     };
     if due.place.kind != Kind::Body {

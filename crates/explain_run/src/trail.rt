@@ -89,7 +89,7 @@ fn does_to(item: &Item, sought: Sought) -> Does {
 
 // How the text names an object of a block of the top frame's function.
 fn named_in(machine: &Machine, block: u32, decl: u32) -> Option<Named> {
-    let code = machine.code;
+    let code = machine.image.code;
     let function = machine.top.function?;
     let Some(Some(laid)) = code.functions.get(function as usize) else {
         return None;

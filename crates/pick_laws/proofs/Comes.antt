@@ -40,7 +40,7 @@ use Rattle.pick_laws.proofs.Untouched.{going_untouched, same_state, steps_within
 
 -- ---- what is answered where a pick isn't taken says nothing of meanings
 err_same : (world : World) (p : Program) (numbers : Numbers) (old new : Machine) (e : Halt) (o : Outcome)
-    → Answers world (meaning_of p numbers old.code.now) (Err e) new o → Answers world (meaning_of p numbers new.code.now) (Err e) new o
+    → Answers world (meaning_of p numbers old.image.code.now) (Err e) new o → Answers world (meaning_of p numbers new.image.code.now) (Err e) new o
 err_same world p numbers old new (halt.Raised event line clause) o a = a
 err_same world p numbers old new (halt.Over cause number) o a = a
 err_same world p numbers old new halt.Unplaced o a = a
@@ -49,7 +49,7 @@ err_same world p numbers old new halt.NoMemory o a = a
 module _ (world : World) (p : Program) (numbers : Numbers) (old new : Machine) (st : State) (n : ℕ) (g : GoesFrom world p numbers old st n new) where
   -- a control step
   control_comes : StepGoesOn → (r : Result Pick Halt) → MayGoOn world old st
-      → AnswersPick world (meaning_of p numbers old.code.now) r new (step world st Control) → KeepsPick old new r
+      → AnswersPick world (meaning_of p numbers old.image.code.now) r new (step world st Control) → KeepsPick old new r
       → Comes world p numbers n new r (step world st Control)
   control_comes goes (Ok (pick.Step None)) may a k =
       let c = a g.rows in (
@@ -65,8 +65,8 @@ module _ (world : World) (p : Program) (numbers : Numbers) (old new : Machine) (
 
   -- an event that isn't a body
   event_comes : EventGoesOn → (e : Begun) (s : Stage) (laid : Laid) (firsts : List ℕ) (nodes : List NodeInfo) (u : Place) (r : Result Pick Halt)
-      → IsOpen world (meaning_of p numbers old.code.now) (untouched old) st e s laid firsts nodes
-      → AnswersTaken world (meaning_of p numbers old.code.now) (untouched old) st e s laid u r new (step world st (Ev u))
+      → IsOpen world (meaning_of p numbers old.image.code.now) (untouched old) st e s laid firsts nodes
+      → AnswersTaken world (meaning_of p numbers old.image.code.now) (untouched old) st e s laid u r new (step world st (Ev u))
       → Comes world p numbers n new r (step world st (Ev u))
   event_comes goes e s laid firsts nodes u (Ok (pick.Event event completed None)) o a =
       let c = a g.rows in
@@ -87,8 +87,8 @@ module _ (world : World) (p : Program) (numbers : Numbers) (old new : Machine) (
 
   -- a body that starts a frame
   start_comes : (Started : Type 0) (u : Place) (r : Result Pick Halt) → ((after : State) → step world st (Ev u) ≡ Running after → Started → (frame : Frame)
-      → Stands world (meaning_of p numbers old.code.now) (numbered new frame) after → IsGoing world p numbers (numbered new frame) after (suc n))
-      → AnswersStart world (meaning_of p numbers old.code.now) Started r new (step world st (Ev u)) → Comes world p numbers n new r (step world st (Ev u))
+      → Stands world (meaning_of p numbers old.image.code.now) (numbered new frame) after → IsGoing world p numbers (numbered new frame) after (suc n))
+      → AnswersStart world (meaning_of p numbers old.image.code.now) Started r new (step world st (Ev u)) → Comes world p numbers n new r (step world st (Ev u))
   start_comes Started u (Ok (pick.Starts event)) goes a =
       (a.0.0, a.0.1, a.0.2, λ frame is. goes a.0.0 a.0.1 a.1 frame (a.0.3.stands frame is))
   start_comes Started u (Ok (pick.Event event completed status)) goes a = absurd a
@@ -96,8 +96,8 @@ module _ (world : World) (p : Program) (numbers : Numbers) (old new : Machine) (
   start_comes Started u (Err h) goes a = err_same world p numbers old new h (step world st (Ev u)) a
 
   initializer_comes : InitializerGoesOn → (e : Begun) (s : Stage) (u : Place) (r : Result Pick Halt)
-      → MayStartNext world (meaning_of p numbers old.code.now) old st e s → canonical_pick world st.top st.top.begun ≡ Ev u
-      → AnswersStart world (meaning_of p numbers old.code.now) (StartsIsolated world (untouched old) st e s u new (step world st (Ev u))) r new
+      → MayStartNext world (meaning_of p numbers old.image.code.now) old st e s → canonical_pick world st.top st.top.begun ≡ Ev u
+      → AnswersStart world (meaning_of p numbers old.image.code.now) (StartsIsolated world (untouched old) st e s u new (step world st (Ev u))) r new
       (step world st (Ev u)) → Comes world p numbers n new r (step world st (Ev u))
   initializer_comes goes e s u r may is a =
       start_comes (StartsIsolated world (untouched old) st e s u new (step world st (Ev u))) u r
@@ -105,29 +105,29 @@ module _ (world : World) (p : Program) (numbers : Numbers) (old new : Machine) (
       may.stage may.stood.begun is steps (subst (StartsIsolated world (untouched old) st e s u new) steps started) stands
       (steps_within world after st (Ev u) steps) g.few) a
 
-  call_comes : CallGoesOn → (e : Begun) (s : Stage) (u : Place) (r : Result Pick Halt) → MayCallNext world (meaning_of p numbers old.code.now) old st e s
+  call_comes : CallGoesOn → (e : Begun) (s : Stage) (u : Place) (r : Result Pick Halt) → MayCallNext world (meaning_of p numbers old.image.code.now) old st e s
       → canonical_pick world st.top st.top.begun ≡ Ev u
-      → AnswersStart world (meaning_of p numbers old.code.now)
-      (CallsFunction world (meaning_of p numbers old.code.now) (untouched old) st e s u new (step world st (Ev u))) r new (step world st (Ev u))
+      → AnswersStart world (meaning_of p numbers old.image.code.now)
+      (CallsFunction world (meaning_of p numbers old.image.code.now) (untouched old) st e s u new (step world st (Ev u))) r new (step world st (Ev u))
       → Comes world p numbers n new r (step world st (Ev u))
   call_comes goes e s u r may is a =
-      start_comes (CallsFunction world (meaning_of p numbers old.code.now) (untouched old) st e s u new (step world st (Ev u))) u r
+      start_comes (CallsFunction world (meaning_of p numbers old.image.code.now) (untouched old) st e s u new (step world st (Ev u))) u r
       (λ after steps started frame stands. goes world p numbers (untouched old) new st after n e s u frame (going_untouched world p numbers old st n g.going)
-      may.stood.begun is steps (subst (CallsFunction world (meaning_of p numbers old.code.now) (untouched old) st e s u new) steps started) stands
+      may.stood.begun is steps (subst (CallsFunction world (meaning_of p numbers old.image.code.now) (untouched old) st e s u new) steps started) stands
       (steps_within world after st (Ev u) steps) g.few) a
 
 pub controls : StepGoesOn → ControlComes
 controls goes world p numbers old new st n r answers keeps g may =
-    control_comes world p numbers old new st n g goes r may (answers world (meaning_of p numbers old.code.now) st g.going.stands may) keeps
+    control_comes world p numbers old new st n g goes r may (answers world (meaning_of p numbers old.image.code.now) st g.going.stands may) keeps
 
 pub events : EventGoesOn → EventComes
 events goes world p numbers old new st n e s laid firsts nodes u r answers g may o is =
-    event_comes world p numbers old new st n g goes e s laid firsts nodes u r o (answers world (meaning_of p numbers old.code.now) st e s laid u may is)
+    event_comes world p numbers old new st n g goes e s laid firsts nodes u r o (answers world (meaning_of p numbers old.image.code.now) st e s laid u may is)
 
 pub initializers : InitializerGoesOn → InitializerComes
 initializers goes world p numbers old new st n e s u r answers g may is =
-    initializer_comes world p numbers old new st n g goes e s u r may is (answers world (meaning_of p numbers old.code.now) st e s u may is)
+    initializer_comes world p numbers old new st n g goes e s u r may is (answers world (meaning_of p numbers old.image.code.now) st e s u may is)
 
 pub calls : CallGoesOn → CallComes
 calls goes world p numbers old new st n e s u r answers g may is =
-    call_comes world p numbers old new st n g goes e s u r may is (answers world (meaning_of p numbers old.code.now) st e s u may is)
+    call_comes world p numbers old new st n g goes e s u r may is (answers world (meaning_of p numbers old.image.code.now) st e s u may is)

@@ -71,7 +71,7 @@ kept_open world m height o (Some t) f (Some x) s e is at k =
 abbrev pub moved_frame : Open → Stage → ℕ → Open
 moved_frame o s cursor = record o { stage = Some (record s { cursor = cursor }) }
 
-module _ (old new : Machine) (o : Open) (s : Stage) (cursor : ℕ) (stage : o.stage ≡ Some s) (code : new.code ≡ old.code)
+module _ (old new : Machine) (o : Open) (s : Stage) (cursor : ℕ) (stage : o.stage ≡ Some s) (code : new.image.code ≡ old.image.code)
     (locals : length old.locals.items ≤ length new.locals.items) where
   sees_function : (n : ℕ) → SeesFunction old o n → SeesFunction new (moved_frame o s cursor) n
   sees_function n x = record {
@@ -99,8 +99,8 @@ module _ (world : World) (p : Program) (numbers : Numbers) (old new : Machine) (
   abbrev below : List Open
   below = reverse old.below.items
 
-  code_same : new.code ≡ old.code
-  code_same = ap (λ (k : Machine). k.code) m.rest
+  code_same : new.image.code ≡ old.image.code
+  code_same = ap (λ (k : Machine). k.image.code) m.rest
 
   locals_same : length old.locals.items ≤ length new.locals.items
   locals_same = let same = ap (λ (k : Machine). length k.locals.items) m.rest in omega (arith, same)
@@ -122,7 +122,7 @@ module _ (world : World) (p : Program) (numbers : Numbers) (old new : Machine) (
   open_before : KeepsOpen world old (length below) old.top s st.top.scene e
   open_before = kept_open world old (length below) old.top old.top.stage st.top.scene st.top.begun s e stage begun going.frames.0.begun
 
-  module _ (stays : StandsOpen world (meaning_of p numbers old.code.now) new next (with_given e u v)) where
+  module _ (stays : StandsOpen world (meaning_of p numbers old.image.code.now) new next (with_given e u v)) where
     chosen_then : (b : Shown) → slice_get new.begun.items (length below) ≡ Some b → IsKept world st.top.scene (with_given e u v) (taken_in b.taken)
     chosen_then b is =
         stays.chosen b (ap (λ (k : ℕ). slice_get new.begun.items k) (ap (λ bs. length bs.items) below_same ∙ sym height) ∙ is)
@@ -141,7 +141,7 @@ module _ (world : World) (p : Program) (numbers : Numbers) (old new : Machine) (
 
     below_then : KeepFrames world new below (map (λ h. h.0) st.held) (suc n)
     below_then =
-        frames_still world old new (meaning_of p numbers old.code.now) None below old.work.below st.held n (suc n) (omega arith) more_below
+        frames_still world old new (meaning_of p numbers old.image.code.now) None below old.work.below st.held n (suc n) (omega arith) more_below
         going.stands.frames.2 going.frames.1
 
     frames_then : KeepFrames world new (new.top ∷ reverse new.below.items) (locals_of next) (suc n)
@@ -151,7 +151,7 @@ module _ (world : World) (p : Program) (numbers : Numbers) (old new : Machine) (
         → step world st (Ev u) ≡ Running next → suc n < 2 ^ 32 → IsGoing world p numbers new next (suc n)
     goes_on scoped ordered reached within may steps few = record {
       program = ap (λ (k : Machine). k.program.now) m.rest ∙ going.program;
-      set_up = subst (λ (k : Machine). IsSetUp world p numbers k.code.now k.jumps) (sym m.rest) going.set_up;
+      set_up = subst (λ (k : Machine). IsSetUp world p numbers k.image.code.now k.jumps) (sym m.rest) going.set_up;
       stands = subst (λ (c : Code). Stands world (meaning_of p numbers c) new next) (ap (λ c. c.now) (sym code_same)) stays.stands;
       within = within;
       ordered =

@@ -44,7 +44,7 @@ one_pick world st after u is steps =
 module _ (scoped : LawfulIsScoped) (ordered : StepsOrdered) where
   pub events_go : StepsReached → OpenStays → EventGoesOn
   events_go reached stays world p numbers old new st n e s laid firsts nodes d v going o t steps within few =
-      let moves = stays world (meaning_of p numbers old.code.now) old new st e s laid firsts nodes d v o t in
+      let moves = stays world (meaning_of p numbers old.image.code.now) old new st e s laid firsts nodes d v o t in
       event_goes world p numbers old new st n e s d.place v new.items going o.stage o.stood.begun (moved_by old s new moves.0) moves.1.stood scoped ordered
       reached within t.may steps few
 
@@ -59,14 +59,14 @@ module _ (scoped : LawfulIsScoped) (ordered : StepsOrdered) where
       (u : Place)
       (g : Local) (frame : Frame) → IsGoing world p numbers old st n → old.top.stage ≡ Some s → st.top.begun ≡ Some e → HasStarted old s new
       → canonical_pick world st.top st.top.begun ≡ Ev u → step world st (Ev u) ≡ Running after → Running after ≡ Running (started_state world st u g)
-      → Stands world (meaning_of p numbers old.code.now) (numbered new frame) after → IsWithin world after → suc n < 2 ^ 32
+      → Stands world (meaning_of p numbers old.image.code.now) (numbered new frame) after → IsWithin world after → suc n < 2 ^ 32
       → IsGoing world p numbers (numbered new frame) after (suc n)
   starts_go reached world p numbers old new st after n e s u g frame going stage begun has may steps comes stands within few =
       let same : started_state world st u g ≡ after = same_state (started_state world st u g) after (sym comes) in
       subst (λ (z : State). IsGoing world p numbers (numbered new frame) z (suc n)) same
       (frame_goes world p numbers old new st n e s u g going stage begun has frame scoped ordered (subst (IsWithin world) (sym same) within)
       (subst (λ (z : State). AreReached world z.top z.held) (sym same) (reached world 1 st after going.reached (one_pick world st after u may steps)))
-      (steps ∙ comes) few (subst (Stands world (meaning_of p numbers old.code.now) (numbered new frame)) (sym same) stands))
+      (steps ∙ comes) few (subst (Stands world (meaning_of p numbers old.image.code.now) (numbered new frame)) (sym same) stands))
 
   pub initializers_go : CanonicalReached → InitializerGoesOn
   initializers_go reached world p numbers old new st after n e s u frame going stage begun may steps x stands within few =

@@ -31,7 +31,7 @@ use Rattle.pick_laws.proofs.Untouched.{going_untouched, steps_within}
 module _ (world : World) (p : Program) (numbers : Numbers) (old new : Machine) (st : State) (n : ℕ) (g : GoesFrom world p numbers old st n new)
     (extends : Extends new.memory.rows world.rows) (goes : LibraryGoesOn) (e : Begun) (s : Stage) (laid : Laid) where
   comes_at : (d : Due) (f : LibFunc) (r : Result Pick Halt)
-      → AnswersCalled world (meaning_of p numbers old.code.now) (untouched old) st e s laid d f r new (step world st (Ev d.place))
+      → AnswersCalled world (meaning_of p numbers old.image.code.now) (untouched old) st e s laid d f r new (step world st (Ev d.place))
       → ComesOfLibrary world p numbers n new f r (step world st (Ev d.place))
   comes_at d f (Ok (pick.Event event completed None)) a =
       let c = a extends in
@@ -51,15 +51,15 @@ module _ (world : World) (p : Program) (numbers : Numbers) (old new : Machine) (
   comes_at d f (Err halt.NoMemory) a = tt
 
   comes_called : (u : Place) (r : Result Pick Halt)
-      → IsCalledNext world (meaning_of p numbers old.code.now) old st e s laid r new (step world st (Ev u)) u
+      → IsCalledNext world (meaning_of p numbers old.image.code.now) old st e s laid r new (step world st (Ev u)) u
       → (f : LibFunc) × ComesOfLibrary world p numbers n new f r (step world st (Ev u))
   comes_called u r c =
-      let a = subst (λ (w : Place). AnswersCalled world (meaning_of p numbers old.code.now) (untouched old) st e s laid c.due c.function r new
+      let a = subst (λ (w : Place). AnswersCalled world (meaning_of p numbers old.image.code.now) (untouched old) st e s laid c.due c.function r new
       (step world st (Ev w))) (sym c.is) c.answers in
       (c.function, subst (λ (w : Place). ComesOfLibrary world p numbers n new c.function r (step world st (Ev w))) c.is (comes_at c.due c.function r a))
 
   comes_next : (u : Place) (r : Result Pick Halt)
-      → AnswersCalledNext world (meaning_of p numbers old.code.now) old st e s laid r new (step world st (Ev u)) u
+      → AnswersCalledNext world (meaning_of p numbers old.image.code.now) old st e s laid r new (step world st (Ev u)) u
       → (r ≡ Err halt.NoMemory) ⊎ ((f : LibFunc) × ComesOfLibrary world p numbers n new f r (step world st (Ev u)))
   comes_next u (Ok k) a = inr (comes_called u (Ok k) a)
   comes_next u (Err (halt.Raised event line clause)) a = inr (comes_called u (Err (halt.Raised event line clause)) a)
@@ -69,4 +69,4 @@ module _ (world : World) (p : Program) (numbers : Numbers) (old new : Machine) (
 
 pub libraries : LibraryGoesOn → LibraryComes
 libraries goes world p numbers old new st n e s laid u r answers g extends may is =
-    comes_next world p numbers old new st n g extends goes e s laid u r (answers world (meaning_of p numbers old.code.now) st e s laid u may is)
+    comes_next world p numbers old new st n g extends goes e s laid u r (answers world (meaning_of p numbers old.image.code.now) st e s laid u may is)

@@ -54,7 +54,7 @@ module _ (world : World) (meaning : Option ℕ → Meaning) (old new : Machine) 
   chosen_none : d.choice ≡ None
   chosen_none =
       let it = t.event.lays.each t.event.at (listed.Event d) t.event.first t.event.end t.event.entry in
-      no_choice t.event.firsts old.code.now.tables t.event.nodes d.place.node it.0 d.place.kind d.choice t.body.kind it.3
+      no_choice t.event.firsts old.image.code.now.tables t.event.nodes d.place.node it.0 d.place.kind d.choice t.body.kind it.3
 
   as_done : new ≡ t.called.done
   as_done =
@@ -105,5 +105,6 @@ libraries_go scoped ordered reached world p numbers old new st n e s laid d f ts
     let opened = kept_open world old (length (reverse old.below.items)) old.top old.top.stage st.top.scene st.top.begun s e t.stage t.stood.begun
     going.frames.0.begun in
     goes_on world p numbers old new st n e s d.place _ is going t.stage t.stood.begun
-    (call_moves world (meaning_of p numbers old.code.now) old new st e s laid d f ts hs w opened.straight t) stands scoped ordered reached within t.may steps
+    (call_moves world (meaning_of p numbers old.image.code.now) old new st e s laid d f ts hs w opened.straight t) stands scoped ordered reached within t.may
+    steps
     few

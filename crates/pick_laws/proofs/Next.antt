@@ -56,7 +56,7 @@ same_place u v q = cc
 -- what comes next along the listing is the canonical pick
 module _ (follows : FollowsCanonical) (world : World) (p : Program) (numbers : Numbers) (m : Machine) (st : State) (n : ℕ) (e : Begun) (s : Stage)
     (laid : Laid) (firsts : List ℕ) (nodes : List NodeInfo) (u : Place) (going : IsGoing world p numbers m st n)
-    (o : IsOpen world (meaning_of p numbers m.code.now) m st e s laid firsts nodes) (is : canonical_pick world st.top st.top.begun ≡ Ev u) where
+    (o : IsOpen world (meaning_of p numbers m.image.code.now) m st e s laid firsts nodes) (is : canonical_pick world st.top st.top.begun ≡ Ev u) where
   pub straight : s.straight ≡ true
   straight =
       (kept_open world m (length (reverse m.below.items)) m.top m.top.stage st.top.scene st.top.begun s e o.stage o.stood.begun
@@ -65,21 +65,21 @@ module _ (follows : FollowsCanonical) (world : World) (p : Program) (numbers : N
   pub next_is : (next : ℕ × Bor Due) → ComesNext m s (Some next) → next.1.now.place ≡ u
   next_is next c =
       same_place next.1.now.place u
-      (follows m (gone m s next.0) (Some next.1) (comes_follows m s next o.stage straight c) world (meaning_of p numbers m.code.now) st going.stands ∙ is)
+      (follows m (gone m s next.0) (Some next.1) (comes_follows m s next o.stage straight c) world (meaning_of p numbers m.image.code.now) st going.stands ∙ is)
 
   ready : Extends m.memory.rows world.rows → IsReady world m st
   ready extends = record { within = going.within; extends = extends }
 
 pub event_next : FollowsCanonical → OpenMayTakeNext → EventIsNext
 event_next follows may world p numbers m st n e s laid firsts nodes u going o extends is plain =
-    may world (meaning_of p numbers m.code.now) m st e s laid firsts nodes o
+    may world (meaning_of p numbers m.image.code.now) m st e s laid firsts nodes o
     (ready follows world p numbers m st n e s laid firsts nodes u going o is extends)
     (straight follows world p numbers m st n e s laid firsts nodes u going o is)
     (λ next c. ap (λ (w : Place). is_body w.kind) (next_is follows world p numbers m st n e s laid firsts nodes u going o is next c) ∙ plain)
 
 pub initializer_next : FollowsCanonical → OpenMayStartNext → InitializerIsNext
 initializer_next follows may world p numbers m st n e s laid firsts nodes u x tree going o extends is body own at isolated =
-    may world (meaning_of p numbers m.code.now) m st e s laid firsts nodes o
+    may world (meaning_of p numbers m.image.code.now) m st e s laid firsts nodes o
     (ready follows world p numbers m st n e s laid firsts nodes u going o is extends)
     (straight follows world p numbers m st n e s laid firsts nodes u going o is) own
     (λ next c. let place = next_is follows world p numbers m st n e s laid firsts nodes u going o is next c in record {
@@ -92,7 +92,7 @@ initializer_next follows may world p numbers m st n e s laid firsts nodes u x tr
 
 pub call_next : FollowsCanonical → OpenMayCallNext → CallIsNext
 call_next follows may world p numbers m st n e s laid firsts nodes u x discarded going o extends is body places callable at call own =
-    may world (meaning_of p numbers m.code.now) m st e s laid firsts nodes o
+    may world (meaning_of p numbers m.image.code.now) m st e s laid firsts nodes o
     (ready follows world p numbers m st n e s laid firsts nodes u going o is extends)
     (straight follows world p numbers m st n e s laid firsts nodes u going o is) places callable
     (λ next c. let place = next_is follows world p numbers m st n e s laid firsts nodes u going o is next c in (

@@ -47,8 +47,8 @@ module _ (old past new : Machine) (s : Stage) (c number : ℕ) (who : Event) (st
   depth_same : new.depth ≡ old.depth
   depth_same = ap (λ (k : Machine). k.depth) in_parts
 
-  code_same : new.code ≡ old.code
-  code_same = ap (λ (k : Machine). k.code) in_parts
+  code_same : new.image.code ≡ old.image.code
+  code_same = ap (λ (k : Machine). k.image.code) in_parts
 
   sees_below : (f : Option ℕ) → Sees old old.top f → Sees new top_there f
   sees_below None x = absurd x
@@ -167,8 +167,8 @@ module _ (old past new : Machine) (s : Stage) (c number : ℕ) (who : Event) (os
   sees_own : SeesFunction new (top_in from) number
   sees_own = record {
     code = f.opens.code;
-    at = ap (λ (k : Machine). slice_get k.code.now.functions.items number) called_parts
-        ∙ sym (ap (λ (k : Machine). slice_get k.code.now.functions.items number) passed_parts) ∙ f.opens.there;
+    at = ap (λ (k : Machine). slice_get k.image.code.now.functions.items number) called_parts
+        ∙ sym (ap (λ (k : Machine). slice_get k.image.code.now.functions.items number) passed_parts) ∙ f.opens.there;
     blocks = refl;
     expressions = refl;
     above = let p = places in omega (arith, p, new.locals.ok.0, new.locals.ok.1, new.locals.small);

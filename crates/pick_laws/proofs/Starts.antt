@@ -75,8 +75,8 @@ module _ (world : World) (p : Program) (numbers : Numbers) (old new : Machine) (
   in_parts : then ≡ parts
   in_parts = ap (λ (k : Machine). numbered k frame) h.rest
 
-  code_same : then.code ≡ old.code
-  code_same = ap (λ (k : Machine). k.code) h.rest
+  code_same : then.image.code ≡ old.image.code
+  code_same = ap (λ (k : Machine). k.image.code) h.rest
 
   begun_same : then.begun ≡ old.begun
   begun_same = ap (λ (k : Machine). k.begun) h.rest
@@ -110,7 +110,7 @@ module _ (world : World) (p : Program) (numbers : Numbers) (old new : Machine) (
 
   below_then : KeepFrames world then below (map (λ h. h.0) st.held) (suc n)
   below_then =
-      frames_still world old then (meaning_of p numbers old.code.now) None below old.work.below st.held n (suc n) (omega arith) (more (length below))
+      frames_still world old then (meaning_of p numbers old.image.code.now) None below old.work.below st.held n (suc n) (omega arith) (more (length below))
       going.stands.frames.2 going.frames.1
 
   numbered_sees : (f : Option ℕ) → Sees new h.top f → Sees then (record h.top { frame = frame }) f
@@ -145,11 +145,11 @@ module _ (world : World) (p : Program) (numbers : Numbers) (old new : Machine) (
       (sym (ap reverse h.below ∙ onto_last old.below.items was)) (top_then, (was_then, below_then)))
 
   pub goes_on : LawfulIsScoped → StepsOrdered → IsWithin world next → AreReached world next.top next.held
-      → step world st (Ev u) ≡ Running next → suc n < 2 ^ 32 → Stands world (meaning_of p numbers old.code.now) then next
+      → step world st (Ev u) ≡ Running next → suc n < 2 ^ 32 → Stands world (meaning_of p numbers old.image.code.now) then next
       → IsGoing world p numbers then next (suc n)
   goes_on scoped ordered within reached steps few stands = record {
     program = ap (λ (k : Machine). k.program.now) in_parts ∙ going.program;
-    set_up = subst (λ (k : Machine). IsSetUp world p numbers k.code.now k.jumps) (sym in_parts) going.set_up;
+    set_up = subst (λ (k : Machine). IsSetUp world p numbers k.image.code.now k.jumps) (sym in_parts) going.set_up;
     stands = subst (λ (c : Code). Stands world (meaning_of p numbers c) then next) (ap (λ c. c.now) (sym code_same)) stands;
     within = within;
     ordered = ordered world st next (Ev u) (scoped p world going.set_up.whole.lawful going.set_up.world.program.functions) going.ordered steps;

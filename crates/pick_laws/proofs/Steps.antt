@@ -104,7 +104,7 @@ BodyKeeps = (world : World) (f : Scene) (e : Begun) (n : ℕ) (v : Value) (kept 
 
 -- ---- the frame stays
 -- it sees the same function, with one of its full expressions open or none
-sees_with : (old new : Machine) (o t : Open) (f : Option ℕ) → new.code ≡ old.code → length old.locals.items ≤ length new.locals.items
+sees_with : (old new : Machine) (o t : Open) (f : Option ℕ) → new.image.code ≡ old.image.code → length old.locals.items ≤ length new.locals.items
     → ((c : _) → IsOneOf c t.stage) → Sees old o f → Sees new (frame_with o t) f
 sees_with old new o t None code locals own x = absurd x
 sees_with old new o t (Some n) code locals own x = record {
@@ -117,7 +117,7 @@ sees_with old new o t (Some n) code locals own x = record {
   own = own x.code.expressions;
 }
 
-sees_begun : (old new : Machine) (o t : Open) (f : Option ℕ) (s : Stage) → new.code ≡ old.code → length old.locals.items ≤ length new.locals.items
+sees_begun : (old new : Machine) (o t : Open) (f : Option ℕ) (s : Stage) → new.image.code ≡ old.image.code → length old.locals.items ≤ length new.locals.items
     → t.stage ≡ Some s → IsAmong o.expressions s.expression → Sees old o f → Sees new (frame_with o t) f
 sees_begun old new o t None s code locals stage own x = absurd x
 sees_begun old new o t (Some n) s code locals stage own x = record {
@@ -136,17 +136,17 @@ top_code m o None x = absurd x
 top_code m o (Some n) x = (n, x)
 
 module _ (world : World) (p : Program) (numbers : Numbers) (old new : Machine) (st after : State) (n : ℕ) (going : IsGoing world p numbers old st n)
-    (stands : Stands world (meaning_of p numbers old.code.now) new after) (steps : step world st Control ≡ Running after) where
+    (stands : Stands world (meaning_of p numbers old.image.code.now) new after) (steps : step world st Control ≡ Running after) where
   abbrev meaning : Option ℕ → Meaning
-  meaning = meaning_of p numbers old.code.now
+  meaning = meaning_of p numbers old.image.code.now
 
   -- what is alike whatever the step is
-  rest_goes : LawfulIsScoped → StepsOrdered → StepsReached → new.program ≡ old.program → new.code ≡ old.code → new.jumps ≡ old.jumps
+  rest_goes : LawfulIsScoped → StepsOrdered → StepsReached → new.program ≡ old.program → new.image.code ≡ old.image.code → new.jumps ≡ old.jumps
       → MayPick world st.top st.top.begun Control → IsWithin world after → suc n < 2 ^ 32
       → KeepFrames world new (new.top ∷ reverse new.below.items) (locals_of after) (suc n) → IsGoing world p numbers new after (suc n)
   rest_goes scoped ordered reached program code jumps may within few frames = record {
     program = ap (λ b. b.now) program ∙ going.program;
-    set_up = subst (λ c. IsSetUp world p numbers c.now new.jumps) (sym code) (subst (IsSetUp world p numbers old.code.now) (sym jumps) going.set_up);
+    set_up = subst (λ c. IsSetUp world p numbers c.now new.jumps) (sym code) (subst (IsSetUp world p numbers old.image.code.now) (sym jumps) going.set_up);
     stands = subst (λ (c : Code). Stands world (meaning_of p numbers c) new after) (ap (λ c. c.now) (sym code)) stands;
     within = within;
     ordered = ordered world st after Control (scoped p world going.set_up.whole.lawful going.set_up.world.program.functions) going.ordered steps;
@@ -157,8 +157,8 @@ module _ (world : World) (p : Program) (numbers : Numbers) (old new : Machine) (
 
   -- 1. The top frame stays.
   module _ (k : KeepsFrames old new) where
-    code_same : new.code ≡ old.code
-    code_same = ap (λ (m : Machine). m.code) k.rest
+    code_same : new.image.code ≡ old.image.code
+    code_same = ap (λ (m : Machine). m.image.code) k.rest
 
     below_same : new.below ≡ old.below
     below_same = ap (λ (m : Machine). m.below) k.rest
@@ -224,9 +224,9 @@ module _ (world : World) (p : Program) (numbers : Numbers) (old new : Machine) (
     function : (f : ℕ) × SeesFunction old old.top f
     function = top_code old old.top (function_of old.top.function (reverse old.below.items)) going.frames.0.sees
 
-    laid_out : IsOwnLaid old.code.now b.number
+    laid_out : IsOwnLaid old.image.code.now b.number
     laid_out =
-        own_laid p numbers old.code.now going.set_up.code function.0 function.1.code function.1.at b.number
+        own_laid p numbers old.image.code.now going.set_up.code function.0 function.1.code function.1.at b.number
         (subst (λ r. IsAmong r b.number) function.1.expressions b.own)
 
     -- the state's full expression
@@ -240,8 +240,8 @@ module _ (world : World) (p : Program) (numbers : Numbers) (old new : Machine) (
           same_Some laid_out.laid x.laid
           (sym laid_out.at ∙ ap (λ (c : Code). slice_get c.expressions.items b.number) (sym (ap (λ c. c.now) (code_same b.keeps))) ∙ x.at)
 
-      can : CanBegin world old.code.now old.top st e.root
-      can = subst (CanTake world old.code.now old.jumps old.top st) fresh.begins (can_step world old st st.top.begun closed can_go).takes
+      can : CanBegin world old.image.code.now old.top st e.root
+      can = subst (CanTake world old.image.code.now old.jumps old.top st) fresh.begins (can_step world old st st.top.begun closed can_go).takes
 
       views : Views world after.top.scene laid_out.firsts 0 laid_out.laid.root.now e.root
       views =
@@ -251,11 +251,13 @@ module _ (world : World) (p : Program) (numbers : Numbers) (old new : Machine) (
       formed : is_formed (tree_of e.root) ≡ true
       formed =
           ap is_formed (ap tree_of (x.root ∙ ap (λ (l : Laid). expr_of l.root.now) (sym laid_same)) ∙ same_tree laid_out.laid.root.now)
-          ∙ (each_at (HasListing old.code.now.listing.items) old.code.now.expressions.items b.number laid_out.laid laid_out.at going.stands.listed).formed
+          ∙ (each_at (HasListing old.image.code.now.listing.items) old.image.code.now.expressions.items b.number laid_out.laid laid_out.at
+          going.stands.listed).formed
 
-      kept : IsKept world after.top.scene e (with_chosen (part_of old.code.now.tables.chosen.items laid_out.laid.chosen) (λ k. None))
+      kept : IsKept world after.top.scene e (with_chosen (part_of old.image.code.now.tables.chosen.items laid_out.laid.chosen) (λ k. None))
       kept =
-          at_begin world after.top.scene laid_out.firsts laid_out.nodes old.code.now.tables old.code.now.listing.items laid_out.laid e laid_out.lays views
+          at_begin world after.top.scene laid_out.firsts laid_out.nodes old.image.code.now.tables old.image.code.now.listing.items laid_out.laid e laid_out.lays
+          views
           formed fresh.given
 
       -- the machine shows just those choices
@@ -266,20 +268,20 @@ module _ (world : World) (p : Program) (numbers : Numbers) (old new : Machine) (
       laid_is = same_Some b.laid laid_out.laid (sym b.at ∙ laid_out.at)
 
       choices_kept : (choices : List (Option ℕ))
-          → ((k : ℕ) → taken_in choices k ≡ with_chosen (part_of new.code.now.tables.chosen.items b.laid.chosen) (taken_in []) k)
+          → ((k : ℕ) → taken_in choices k ≡ with_chosen (part_of new.image.code.now.tables.chosen.items b.laid.chosen) (taken_in []) k)
           → IsKept world after.top.scene e (taken_in choices)
       choices_kept choices same =
           let start : taken_in [] ≡ (λ k. None) = (λ i k. None) in
-          let chosen : part_of new.code.now.tables.chosen.items b.laid.chosen ≡ part_of old.code.now.tables.chosen.items laid_out.laid.chosen =
+          let chosen : part_of new.image.code.now.tables.chosen.items b.laid.chosen ≡ part_of old.image.code.now.tables.chosen.items laid_out.laid.chosen =
           ap (λ (c : Code). part_of c.tables.chosen.items b.laid.chosen) (ap (λ c. c.now) (code_same b.keeps))
-          ∙ ap (λ (l : Laid). part_of old.code.now.tables.chosen.items l.chosen) laid_is in
+          ∙ ap (λ (l : Laid). part_of old.image.code.now.tables.chosen.items l.chosen) laid_is in
           subst (IsKept world after.top.scene e)
-          (λ i k. sym (same k ∙ ap (λ (t : ℕ → Option ℕ). with_chosen (part_of new.code.now.tables.chosen.items b.laid.chosen) t k) start
+          (λ i k. sym (same k ∙ ap (λ (t : ℕ → Option ℕ). with_chosen (part_of new.image.code.now.tables.chosen.items b.laid.chosen) t k) start
           ∙ ap (λ cs. with_chosen cs (λ j. None) k) chosen) i) kept
 
       shown : (choices : List (Option ℕ))
           × (top_of new ≡ Some (record { frame = new.top.frame; turn = new.top.turn; tree = b.number; root = b.laid.root; taken = choices }))
-          × ((k : ℕ) → taken_in choices k ≡ with_chosen (part_of new.code.now.tables.chosen.items b.laid.chosen) (taken_in []) k)
+          × ((k : ℕ) → taken_in choices k ≡ with_chosen (part_of new.image.code.now.tables.chosen.items b.laid.chosen) (taken_in []) k)
       shown = b.shown shown_there
 
       open_then : KeepsOpen world new (length (reverse old.below.items)) (frame_with old.top new.top) s after.top.scene e
@@ -321,8 +323,8 @@ module _ (world : World) (p : Program) (numbers : Numbers) (old new : Machine) (
 
   -- 3. The frame below goes on, at the body that waited.
   module _ (given : BodyKeeps) (z : EndsTop old new) where
-    code_still : new.code ≡ old.code
-    code_still = ap (λ (m : Machine). m.code) z.rest
+    code_still : new.image.code ≡ old.image.code
+    code_still = ap (λ (m : Machine). m.image.code) z.rest
 
     same_values : length new.values.items ≡ length old.values.items
     same_values = z.values
@@ -442,10 +444,10 @@ module _ (world : World) (p : Program) (numbers : Numbers) (old new : Machine) (
       of_program (begins b) = ap (λ (m : Machine). m.program) b.keeps.rest
       of_program (ends z) = ap (λ (m : Machine). m.program) z.rest
 
-      of_code : KeepsStep old new → new.code ≡ old.code
-      of_code (stays k) = ap (λ (m : Machine). m.code) k.keeps.rest
-      of_code (begins b) = ap (λ (m : Machine). m.code) b.keeps.rest
-      of_code (ends z) = ap (λ (m : Machine). m.code) z.rest
+      of_code : KeepsStep old new → new.image.code ≡ old.image.code
+      of_code (stays k) = ap (λ (m : Machine). m.image.code) k.keeps.rest
+      of_code (begins b) = ap (λ (m : Machine). m.image.code) b.keeps.rest
+      of_code (ends z) = ap (λ (m : Machine). m.image.code) z.rest
 
       of_jumps : KeepsStep old new → new.jumps ≡ old.jumps
       of_jumps (stays k) = ap (λ (m : Machine). m.jumps) k.keeps.rest

@@ -19,7 +19,7 @@ use Rattle.run_laws.specs.Frames.{KeepFrames, KeepsBegun, KeepsFrame, KeepsOpen,
 
 -- the code is the same, what is shown of frames below this height stays, and there are no fewer rooms and places
 pub record IsMore (height : ℕ) (old new : Machine) : Type 0 where
-  pub code : new.code ≡ old.code
+  pub code : new.image.code ≡ old.image.code
   pub begun : (j : ℕ) (b : Shown) → j < height → slice_get old.begun.items j ≡ Some b → slice_get new.begun.items j ≡ Some b
   pub values : length old.values.items ≤ length new.values.items
   pub locals : length old.locals.items ≤ length new.locals.items

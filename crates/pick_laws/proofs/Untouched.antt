@@ -79,7 +79,7 @@ pub going_untouched : (world : World) (p : Program) (numbers : Numbers) (m : Mac
 going_untouched world p numbers m st n g = record {
   program = g.program;
   set_up = g.set_up;
-  stands = items_stand world (meaning_of p numbers m.code.now) m [] m.spare st g.stands;
+  stands = items_stand world (meaning_of p numbers m.image.code.now) m [] m.spare st g.stands;
   within = g.within;
   ordered = g.ordered;
   reached = g.reached;

@@ -34,8 +34,8 @@ abbrev pub EventGoesOn : Type 0
 EventGoesOn =
     (world : World) (p : Program) (numbers : Numbers) (old new : Machine) (st : State) (n : ℕ) (e : Begun) (s : Stage) (laid : Laid) (firsts : List ℕ)
     (nodes : List NodeInfo) (d : Due) (v : Value) → IsGoing world p numbers old st n
-    → IsOpen world (meaning_of p numbers old.code.now) old st e s laid firsts nodes
-    → TakesEvent world (meaning_of p numbers old.code.now) old st e s laid d v new
+    → IsOpen world (meaning_of p numbers old.image.code.now) old st e s laid firsts nodes
+    → TakesEvent world (meaning_of p numbers old.image.code.now) old st e s laid d v new
     → step world st (Ev d.place) ≡ Running (after_event world st e d.place v new.items (store_after new))
     → IsWithin world (after_event world st e d.place v new.items (store_after new)) → suc n < 2 ^ 32
     → IsGoing world p numbers new (after_event world st e d.place v new.items (store_after new)) (suc n)
@@ -45,8 +45,8 @@ abbrev pub LibraryGoesOn : Type 0
 LibraryGoesOn =
     (world : World) (p : Program) (numbers : Numbers) (old new : Machine) (st : State) (n : ℕ) (e : Begun) (s : Stage) (laid : Laid) (d : Due)
     (f : LibFunc) (ts : List CType) (hs : List Kept_value) (w : LibValue) (is : List Item) → IsGoing world p numbers old st n
-    → TakesCall world (meaning_of p numbers old.code.now) old st e s laid d f ts hs w new
-    → StandsOpen world (meaning_of p numbers old.code.now) new (after_event world st e d.place (result w) is (store_after new))
+    → TakesCall world (meaning_of p numbers old.image.code.now) old st e s laid d f ts hs w new
+    → StandsOpen world (meaning_of p numbers old.image.code.now) new (after_event world st e d.place (result w) is (store_after new))
     (with_given e d.place (result w)) → step world st (Ev d.place) ≡ Running (after_event world st e d.place (result w) is (store_after new))
     → IsWithin world (after_event world st e d.place (result w) is (store_after new)) → suc n < 2 ^ 32
     → IsGoing world p numbers new (after_event world st e d.place (result w) is (store_after new)) (suc n)
@@ -57,15 +57,15 @@ InitializerGoesOn =
     (world : World) (p : Program) (numbers : Numbers) (old new : Machine) (st after : State) (n : ℕ) (e : Begun) (s : Stage) (u : Place) (frame : Frame)
     → IsGoing world p numbers old st n → old.top.stage ≡ Some s → st.top.begun ≡ Some e → canonical_pick world st.top st.top.begun ≡ Ev u
     → step world st (Ev u) ≡ Running after → StartsIsolated world old st e s u new (Running after)
-    → Stands world (meaning_of p numbers old.code.now) (numbered new frame) after → IsWithin world after → suc n < 2 ^ 32
+    → Stands world (meaning_of p numbers old.image.code.now) (numbered new frame) after → IsWithin world after → suc n < 2 ^ 32
     → IsGoing world p numbers (numbered new frame) after (suc n)
 
 abbrev pub CallGoesOn : Type 0
 CallGoesOn =
     (world : World) (p : Program) (numbers : Numbers) (old new : Machine) (st after : State) (n : ℕ) (e : Begun) (s : Stage) (u : Place) (frame : Frame)
     → IsGoing world p numbers old st n → st.top.begun ≡ Some e → canonical_pick world st.top st.top.begun ≡ Ev u
-    → step world st (Ev u) ≡ Running after → CallsFunction world (meaning_of p numbers old.code.now) old st e s u new (Running after)
-    → Stands world (meaning_of p numbers old.code.now) (numbered new frame) after → IsWithin world after → suc n < 2 ^ 32
+    → step world st (Ev u) ≡ Running after → CallsFunction world (meaning_of p numbers old.image.code.now) old st e s u new (Running after)
+    → Stands world (meaning_of p numbers old.image.code.now) (numbered new frame) after → IsWithin world after → suc n < 2 ^ 32
     → IsGoing world p numbers (numbered new frame) after (suc n)
 
 -- 3. A control step.
@@ -73,5 +73,5 @@ abbrev pub StepGoesOn : Type 0
 StepGoesOn =
     (world : World) (p : Program) (numbers : Numbers) (old new : Machine) (st after : State) (n : ℕ) → IsGoing world p numbers old st n
     → MayGoOn world old st → KeepsStep old new → step world st Control ≡ Running after
-    → Stands world (meaning_of p numbers old.code.now) new after → IsWithin world after → suc n < 2 ^ 32
+    → Stands world (meaning_of p numbers old.image.code.now) new after → IsWithin world after → suc n < 2 ^ 32
     → IsGoing world p numbers new after (suc n)

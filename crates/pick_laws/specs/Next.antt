@@ -32,17 +32,17 @@ abbrev pub EventIsNext : Type 0
 EventIsNext =
     (world : World) (p : Program) (numbers : Numbers) (m : Machine) (st : State) (n : ℕ) (e : Begun) (s : Stage) (laid : Laid) (firsts : List ℕ)
     (nodes : List NodeInfo) (u : Place) → IsGoing world p numbers m st n
-    → IsOpen world (meaning_of p numbers m.code.now) m st e s laid firsts nodes → Extends m.memory.rows world.rows
-    → canonical_pick world st.top st.top.begun ≡ Ev u → is_body u.kind ≡ false → MayTakeNext world (meaning_of p numbers m.code.now) m st e s laid
+    → IsOpen world (meaning_of p numbers m.image.code.now) m st e s laid firsts nodes → Extends m.memory.rows world.rows
+    → canonical_pick world st.top st.top.begun ≡ Ev u → is_body u.kind ≡ false → MayTakeNext world (meaning_of p numbers m.image.code.now) m st e s laid
 
 -- 2. The body of an isolated initializer may start, where each has the number of the full expression of its own tree (6.7.9p23).
 abbrev pub InitializerIsNext : Type 0
 InitializerIsNext =
     (world : World) (p : Program) (numbers : Numbers) (m : Machine) (st : State) (n : ℕ) (e : Begun) (s : Stage) (laid : Laid) (firsts : List ℕ)
     (nodes : List NodeInfo) (u : Place) (x : NodeInfo) (tree : Typed) → IsGoing world p numbers m st n
-    → IsOpen world (meaning_of p numbers m.code.now) m st e s laid firsts nodes → Extends m.memory.rows world.rows
-    → canonical_pick world st.top st.top.begun ≡ Ev u → u.kind ≡ Body → NumberInitializers m.code.now nodes → slice_get nodes u.node ≡ Some x
-    → IsIsolated x tree → MayStartNext world (meaning_of p numbers m.code.now) m st e s
+    → IsOpen world (meaning_of p numbers m.image.code.now) m st e s laid firsts nodes → Extends m.memory.rows world.rows
+    → canonical_pick world st.top st.top.begun ≡ Ev u → u.kind ≡ Body → NumberInitializers m.image.code.now nodes → slice_get nodes u.node ≡ Some x
+    → IsIsolated x tree → MayStartNext world (meaning_of p numbers m.image.code.now) m st e s
 
 -- 3. The body of a call may start the function's frame, where the function is none of the library (6.5.2.2p10).
 
@@ -60,6 +60,6 @@ abbrev pub CallIsNext : Type 0
 CallIsNext =
     (world : World) (p : Program) (numbers : Numbers) (m : Machine) (st : State) (n : ℕ) (e : Begun) (s : Stage) (laid : Laid) (firsts : List ℕ)
     (nodes : List NodeInfo) (u : Place) (x : NodeInfo) (discarded : Bool) → IsGoing world p numbers m st n
-    → IsOpen world (meaning_of p numbers m.code.now) m st e s laid firsts nodes → Extends m.memory.rows world.rows
+    → IsOpen world (meaning_of p numbers m.image.code.now) m st e s laid firsts nodes → Extends m.memory.rows world.rows
     → canonical_pick world st.top st.top.begun ≡ Ev u → u.kind ≡ Body → HasPlaces m → AreCallable world m.program.now → slice_get nodes u.node ≡ Some x
-    → IsCallNode x discarded → CallsOwnAt world st.top.scene e u.node → MayCallNext world (meaning_of p numbers m.code.now) m st e s
+    → IsCallNode x discarded → CallsOwnAt world st.top.scene e u.node → MayCallNext world (meaning_of p numbers m.image.code.now) m st e s

@@ -53,7 +53,7 @@ module _ (world : World) (p : Program) (numbers : Numbers) (n : ℕ) (new : Mach
   Comes (Ok (pick.Starts event)) o = GoesOnNumbered o
   Comes (Ok (pick.Event event completed None)) o = GoesOn o
   Comes (Ok (pick.Event event completed (Some status))) o = HasEnded status o
-  Comes (Err e) o = Answers world (meaning_of p numbers new.code.now) (Err e) new o
+  Comes (Err e) o = Answers world (meaning_of p numbers new.image.code.now) (Err e) new o
 
   -- Of the body of a call of a library function, whose items the machine has with what is read of a string in one range.
   abbrev pub GoesOnJoined : LibFunc → Outcome → Type 0
@@ -88,8 +88,8 @@ abbrev pub EventComes : Type 0
 EventComes =
     (world : World) (p : Program) (numbers : Numbers) (old new : Machine) (st : State) (n : ℕ) (e : Begun) (s : Stage) (laid : Laid) (firsts : List ℕ)
     (nodes : List NodeInfo) (u : Place) (r : Result Pick Halt) → AnswersNext old new r → GoesFrom world p numbers old st n new
-    → MayTakeNext world (meaning_of p numbers old.code.now) old st e s laid
-    → IsOpen world (meaning_of p numbers old.code.now) (untouched old) st e s laid firsts nodes → canonical_pick world st.top st.top.begun ≡ Ev u
+    → MayTakeNext world (meaning_of p numbers old.image.code.now) old st e s laid
+    → IsOpen world (meaning_of p numbers old.image.code.now) (untouched old) st e s laid firsts nodes → canonical_pick world st.top st.top.begun ≡ Ev u
     → Comes world p numbers n new r (step world st (Ev u))
 
 -- the body of a call of a function of the library, if memory isn't wanted
@@ -97,19 +97,19 @@ abbrev pub LibraryComes : Type 0
 LibraryComes =
     (world : World) (p : Program) (numbers : Numbers) (old new : Machine) (st : State) (n : ℕ) (e : Begun) (s : Stage) (laid : Laid) (u : Place)
     (r : Result Pick Halt) → AnswersNextLibrary old new r → GoesFrom world p numbers old st n new → Extends new.memory.rows world.rows
-    → MayCallLibraryNext world (meaning_of p numbers old.code.now) old st e s laid → canonical_pick world st.top st.top.begun ≡ Ev u
+    → MayCallLibraryNext world (meaning_of p numbers old.image.code.now) old st e s laid → canonical_pick world st.top st.top.begun ≡ Ev u
     → (r ≡ Err halt.NoMemory) ⊎ ((f : LibFunc) × ComesOfLibrary world p numbers n new f r (step world st (Ev u)))
 
 -- the body of an isolated initializer
 abbrev pub InitializerComes : Type 0
 InitializerComes =
     (world : World) (p : Program) (numbers : Numbers) (old new : Machine) (st : State) (n : ℕ) (e : Begun) (s : Stage) (u : Place) (r : Result Pick Halt)
-    → AnswersNextBody old new r → GoesFrom world p numbers old st n new → MayStartNext world (meaning_of p numbers old.code.now) old st e s
+    → AnswersNextBody old new r → GoesFrom world p numbers old st n new → MayStartNext world (meaning_of p numbers old.image.code.now) old st e s
     → canonical_pick world st.top st.top.begun ≡ Ev u → Comes world p numbers n new r (step world st (Ev u))
 
 -- the body of a call of a function that the program defines
 abbrev pub CallComes : Type 0
 CallComes =
     (world : World) (p : Program) (numbers : Numbers) (old new : Machine) (st : State) (n : ℕ) (e : Begun) (s : Stage) (u : Place) (r : Result Pick Halt)
-    → AnswersNextCall old new r → GoesFrom world p numbers old st n new → MayCallNext world (meaning_of p numbers old.code.now) old st e s
+    → AnswersNextCall old new r → GoesFrom world p numbers old st n new → MayCallNext world (meaning_of p numbers old.image.code.now) old st e s
     → canonical_pick world st.top st.top.begun ≡ Ev u → Comes world p numbers n new r (step world st (Ev u))

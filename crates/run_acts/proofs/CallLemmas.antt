@@ -74,6 +74,11 @@ checks_run false ok n rows s = refl
 checks_run true false n rows s = refl
 checks_run true true n rows s = refl
 
+-- what passes them can be called
+pub checks_pass : (callable ok : Bool) → Ok tt ≡ call_checks callable ok → callable ≡ true
+checks_pass true ok e = refl
+checks_pass false ok e = absurd (cc)
+
 pub call_of : (held : List Typed) (fs : List Function) (f : Typed) (n a : ℕ) (ty : Signature) (agree : CType → CType → Bool) (rows : List Row) (s : Store) →
     AreFunctions held fs → AgreesAsCompatible agree → n < length held → f ≡ get_or held n f → a ≡ function_address n →
     run rows (checked_call agree (type_by ty) (function_of fs 0 a)) s

@@ -1,5 +1,5 @@
 // Calls and their results (6.5.2.2).
-ghost use Rattle.std.specs.Prelude.{IfOk, ◌≡◌, ◌≢◌, ℕ, ◌<◌, ◌≤◌, ◌^◌, ◌||◌, List, [], length, slice_get, is_some, Bool, Some, IfSome, IfNone, pos};
+ghost use Rattle.std.specs.Prelude.{IfOk, ◌≡◌, ◌≢◌, ℕ, ◌<◌, ◌≤◌, ◌^◌, ◌||◌, List, [], length, slice_get, is_some, Bool, true, Some, IfSome, IfNone, pos};
 ghost use Rattle.std.specs.Option.{option_copied};
 ghost use Rattle.addr_map.specs.declared.map.Row.{Row};
 ghost use Rattle.c_model.specs.Nodes.{call_value};
@@ -28,9 +28,12 @@ use ub_base::Clause;
 /// The number of the function that a call through this address and type calls: 6.5.3.2p4 where no function that is
 /// defined or of the library stands there, and 6.5.2.2p9 where its type isn't compatible.
 pub fn callee(p: &Program, addr: u64, ty: &FuncTy) -> Result<u32, Clause>
-    ensures { length p.now.functions ≤ 2 ^ 32 → (fs : List Called) → AreFunctions p.now.functions fs → (agree : CType → CType → Bool) →
+    ensures exact { length p.now.functions ≤ 2 ^ 32 → (fs : List Called) → AreFunctions p.now.functions fs → (agree : CType → CType → Bool) →
         AgreesAsCompatible agree → (rows : List Row) (s : Store) →
         run rows (checked_call agree (type_by (signature_of ty.now)) (function_of fs 0 addr)) s ≡ act_of result [] s }
+    // It is a function of the program, which the program defines or the library has.
+    ensures there { IfOk result (λ n. n < length p.now.functions) }
+    ensures callable { IfOk result (λ n. (f : Typed) × (slice_get p.now.functions n ≡ Some f) × ((is_some f.body || is_some f.library) ≡ true)) }
 {
     let Some(number) = number_at(addr) else {
         return Err(Clause::InvalidPointer);

@@ -86,7 +86,7 @@ pub passes_so : (m now : Machine) (s : Stage) (d : Due) (straight : Bool) → s.
 passes_so m now s d true is stage few at =
     let n = at.1.0 in
     let c = min (s.cursor + n) (2 ^ 64 - 1) in
-    let lt = taken_within (s.end - s.cursor) (drop s.cursor m.code.now.listing.items) n _ at.4.0 in (
+    let lt = taken_within (s.end - s.cursor) (drop s.cursor m.image.code.now.listing.items) n _ at.4.0 in (
       at.0,
       at.1,
       at.2,
@@ -114,11 +114,11 @@ stage_past m past s d true stage p = (suc (s.cursor + p.1.0), ap (λ (k : Machin
 stage_past m past s d false stage p = (s.cursor, ap (λ (k : Machine). k.top.stage) p ∙ stage)
 
 -- ---- what was noted and decided
-pub noted_code : (straight : Bool) (done noted : Machine) (u : Place) → NotesWay straight done u noted → noted.code.now ≡ done.code.now
-noted_code true done noted u n = ap (λ (k : Machine). k.code.now) n
-noted_code false done noted u n = ap (λ (k : Machine). k.code.now) n.rest
+pub noted_code : (straight : Bool) (done noted : Machine) (u : Place) → NotesWay straight done u noted → noted.image.code.now ≡ done.image.code.now
+noted_code true done noted u n = ap (λ (k : Machine). k.image.code.now) n
+noted_code false done noted u n = ap (λ (k : Machine). k.image.code.now) n.rest
 
-pub decides_so : (o : Option ℕ) (code : Code) (noted new : Machine) → noted.code.now ≡ code → DecidesBy code o noted new → Decides o noted new
+pub decides_so : (o : Option ℕ) (code : Code) (noted new : Machine) → noted.image.code.now ≡ code → DecidesBy code o noted new → Decides o noted new
 decides_so None code noted new is d = d
 decides_so (Some n) code noted new is d = subst (λ (c : Code). Chooses c n noted new) (sym is) d
 
@@ -164,7 +164,7 @@ module _ (steps : EventSteps) (world : World) (meaning : Option ℕ → Meaning)
   -- ---- it is done
   module _ (done noted new : Machine) (v : Value) (does_so : IsDone world.rows past done who d.act v)
       (changes : ChangesOnly past done d.place.node d.act) (effect : gives_value d.act ≡ false → done.values ≡ past.values)
-      (notes : Notes done d.place noted) (decides : DecidesBy now.code.now d.choice noted new) (rows : RowsStay new.memory.rows world.rows) where
+      (notes : Notes done d.place noted) (decides : DecidesBy now.image.code.now d.choice noted new) (rows : RowsStay new.memory.rows world.rows) where
     stage_done : (k : ℕ) × (done.top.stage ≡ Some (record s { cursor = k }))
     stage_done =
         let p = stage_past m past s d s.straight t.stage passes in
@@ -173,8 +173,8 @@ module _ (steps : EventSteps) (world : World) (meaning : Option ℕ → Meaning)
     way : NotesWay s.straight done d.place noted
     way = subst (λ (z : Option Stage). NotesIn z done d.place noted) stage_done.1 notes
 
-    same_code : noted.code.now ≡ now.code.now
-    same_code = noted_code s.straight done noted d.place way ∙ ap (λ (k : Machine). k.code.now) changes.rest
+    same_code : noted.image.code.now ≡ now.image.code.now
+    same_code = noted_code s.straight done noted d.place way ∙ ap (λ (k : Machine). k.image.code.now) changes.rest
 
     taken : IsTaken world m s d v new
     taken = record {
@@ -187,7 +187,7 @@ module _ (steps : EventSteps) (world : World) (meaning : Option ℕ → Meaning)
       rows = rows;
       effect = effect;
       notes = way;
-      decides = decides_so d.choice now.code.now noted new same_code decides;
+      decides = decides_so d.choice now.image.code.now noted new same_code decides;
     }
 
     takes : TakesEvent world meaning m st e s laid d v new
@@ -215,7 +215,7 @@ module _ (steps : EventSteps) (world : World) (meaning : Option ℕ → Meaning)
   -- what it completes is what the definitions say, along the canonical way
   pub completes_done : EventCompletes → (done new : Machine) → ((v : Value) × IsDone world.rows past done who d.act v) →
       ChangesOnly past done d.place.node d.act → (gives_value d.act ≡ false → done.values ≡ past.values) → s.straight ≡ true → (r : Result Pick Halt) →
-      FollowsEvent now.code.now who None d done new r → CompletesPick d new r → CompletesAfter world r d.place new (step world st (Ev d.place))
+      FollowsEvent now.image.code.now who None d done new r → CompletesPick d new r → CompletesAfter world r d.place new (step world st (Ev d.place))
   unfolding takes taken
   completes_done completes done new did changes effect straight (Ok (pick.Event event completed None)) f noted = λ rows later is first begun.
       let v = did.0 in
@@ -235,7 +235,7 @@ module _ (steps : EventSteps) (world : World) (meaning : Option ℕ → Meaning)
 
   pub performed : (status : Option ℕ) → status ≡ None → (done new : Machine) → ((v : Value) × IsDone world.rows past done who d.act v) →
       ChangesOnly past done d.place.node d.act → (gives_value d.act ≡ false → done.values ≡ past.values) → (r : Result Pick Halt) →
-      FollowsEvent now.code.now who status d done new r → AnswersTaken world meaning m st e s laid d.place r new (step world st (Ev d.place))
+      FollowsEvent now.image.code.now who status d done new r → AnswersTaken world meaning m st e s laid d.place r new (step world st (Ev d.place))
   performed status none done new did changes effect (Ok (pick.Event event completed ended)) f =
       subst (λ (o : Option ℕ). AnswersTaken world meaning m st e s laid d.place (Ok (pick.Event event completed o)) new (step world st (Ev d.place)))
       (sym (f.1 ∙ none))
@@ -291,14 +291,14 @@ did_so now d start done p q is same did =
 
 module _ (steps : EventSteps) (d : Due) (now start done new : Machine) (p : Result Done_as Fault) (r : Result Pick Halt)
     (is : start ≡ past_event now) (did : Did now d start done p) where
-  pub taken_done : p ≡ Ok outcome.Done → FollowsEvent now.code.now (event_at now d.place) None d done new r → AnswersEvent d now new r
+  pub taken_done : p ≡ Ok outcome.Done → FollowsEvent now.image.code.now (event_at now d.place) None d done new r → AnswersEvent d now new r
   taken_done same f = λ world meaning m st e s laid t.
       let so = did_so now d start done p (Ok outcome.Done) is same did in
       performed steps world meaning m st e s laid d now t None refl done new
       (so.0 world.rows (can steps world meaning m st e s laid d now t) (given steps world meaning m st e s laid d now t) t.act.no_body)
       (so.1 t.act.no_body) (so.2 t.act.no_body) r f
 
-  pub completed_done : EventCompletes → p ≡ Ok outcome.Done → FollowsEvent now.code.now (event_at now d.place) None d done new r → CompletesPick d new r
+  pub completed_done : EventCompletes → p ≡ Ok outcome.Done → FollowsEvent now.image.code.now (event_at now d.place) None d done new r → CompletesPick d new r
       → CompletesEvent d now new r
   completed_done completes same f noted = λ world meaning m st e s laid t straight.
       let so = did_so now d start done p (Ok outcome.Done) is same did in

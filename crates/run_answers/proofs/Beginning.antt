@@ -235,12 +235,12 @@ shown_in number laid o choices = record { frame = o.frame; turn = o.turn; tree =
 
 -- what is there of it, as it begins
 pub record HasBegun (m n : Machine) (turn number : ℕ) (how : Use) (laid : Expression) : Type 0 where
-  pub at : slice_get m.code.now.expressions.items number ≡ Some laid
+  pub at : slice_get m.image.code.now.expressions.items number ≡ Some laid
   pub turned : turn ≡ min (m.top.turn + 1) (2 ^ 64 - 1)
   pub keeps : KeepsRooms m n (length m.below.items)
   pub shown : length m.below.items ≤ length m.begun.items → (choices : List (Option ℕ))
       × (slice_get n.begun.items (length m.below.items) ≡ Some (shown_in number laid (begun_open m.top turn number how laid) choices))
-      × ((k : ℕ) → taken_in choices k ≡ with_chosen (part_of m.code.now.tables.chosen.items laid.chosen) (taken_in []) k)
+      × ((k : ℕ) → taken_in choices k ≡ with_chosen (part_of m.image.code.now.tables.chosen.items laid.chosen) (taken_in []) k)
 
 some_given : {A : Type 0} (P : Type 0) (o : Option A) (x : A) → o ≡ None → o ≡ Some x → P
 some_given P o x none some = absurd (not_both o x none some)
@@ -253,7 +253,8 @@ locals_turned world m n before turn number how laid f (b ∷ bs) l = (l.0, local
 
 module _ (trees : TreesAreKept) (begins : StandsAtBegin) (keeps : KeepsAtBegin) where
   module _ (world : World) (meaning : Option ℕ → Meaning) (m n : Machine) (turn number : ℕ) (how : Use) (laid : Expression) (st : State)
-      (before : List Work) (s : Stands world meaning (as_before m before) st) (can : CanBegin world m.code.now m.top st ((meaning m.top.function).root number))
+      (before : List Work) (s : Stands world meaning (as_before m before) st)
+      (can : CanBegin world m.image.code.now m.top st ((meaning m.top.function).root number))
       (b : HasBegun m n turn number how laid) where
     abbrev mg : Meaning
     mg = meaning m.top.function
@@ -279,13 +280,14 @@ module _ (trees : TreesAreKept) (begins : StandsAtBegin) (keeps : KeepsAtBegin) 
     treed : tree_of e.root ≡ typed.tree_of laid.root.now
     treed = ap tree_of rooted ∙ trees laid.root.now
 
-    listed : IsListingOf (along.part_of m.code.now.listing.items laid.first laid.end) (tree_of e.root)
-    listed = subst (λ t. IsListingOf (along.part_of m.code.now.listing.items laid.first laid.end) t) (sym treed)
-        (each_at (HasListing m.code.now.listing.items) m.code.now.expressions.items number laid b.at s.listed)
+    listed : IsListingOf (along.part_of m.image.code.now.listing.items laid.first laid.end) (tree_of e.root)
+    listed = subst (λ t. IsListingOf (along.part_of m.image.code.now.listing.items laid.first laid.end) t) (sym treed)
+        (each_at (HasListing m.image.code.now.listing.items) m.image.code.now.expressions.items number laid b.at s.listed)
 
     ordered : laid.first ≤ laid.end
     ordered =
-        (each_at (IsExpressionOf m.code.now.tables m.code.now.listing.items) m.code.now.expressions.items number laid b.at m.code.now.within).0
+        (each_at (IsExpressionOf m.image.code.now.tables m.image.code.now.listing.items) m.image.code.now.expressions.items number laid b.at
+        m.image.code.now.within).0
 
     expression_begun : StandsExpression world mg gone (length m.below.items) opened
         (record { expression = number; first = laid.first; cursor = laid.first; end = laid.end; straight = true; value = laid.value }) f.scene e None
@@ -304,9 +306,9 @@ module _ (trees : TreesAreKept) (begins : StandsAtBegin) (keeps : KeepsAtBegin) 
       turn = refl;
       tree = refl;
       tree_root = refl;
-      taken = taken_first world f.scene m.code.now number laid e keeps there.0 b.at
+      taken = taken_first world f.scene m.image.code.now number laid e keeps there.0 b.at
           (λ firsts. can.known number laid firsts b.at (sym rooted)) _ listed (λ u. refl) there.2;
-      done = begins world f.scene m.code.now.listing.items laid.first laid.end e ordered listed (λ u. refl);
+      done = begins world f.scene m.image.code.now.listing.items laid.first laid.end e ordered listed (λ u. refl);
       values = record {
         val = λ k v given. some_given (Holds m.memory n.values.items (m.top.base + k) v) None v refl given;
         body = λ k v none given. some_given (Holds m.memory n.values.items (m.top.base + k) v) None v refl given;
@@ -374,7 +376,7 @@ module _ (trees : TreesAreKept) (begins : StandsAtBegin) (keeps : KeepsAtBegin) 
 
   -- by the calls that it consists of: room is made for its values, it is shown, and the first operands are chosen
   pub begin_answers : (m g s n : Machine) (turn number : ℕ) (how : Use) (laid : Expression) (cs : List (ℕ × ℕ)) →
-      slice_get m.code.now.expressions.items number ≡ Some laid → cs ≡ part_of m.code.now.tables.chosen.items laid.chosen →
+      slice_get m.image.code.now.expressions.items number ≡ Some laid → cs ≡ part_of m.image.code.now.tables.chosen.items laid.chosen →
       turn ≡ min (m.top.turn + 1) (2 ^ 64 - 1) → g ≡ record m { top = begun_open m.top turn number how laid; values = g.values } →
       ((j : ℕ) (h : Kept_value) → slice_get m.values.items j ≡ Some h → slice_get g.values.items j ≡ Some h) →
       HasShown g number laid.root s → HasChosen s cs n → AnswersStep (taking.Begin number how) m n (Ok None)

@@ -172,9 +172,9 @@ module _ (trees : TreesAreKept) (starts : StandsAtStart) (world : World) (meanin
       some_same : {A : Type 0} (x y : A) → Some x ≡ Some y → x ≡ y
       some_same x y e = cc
 
-      there_code : slice_get old.code.now.functions.items number ≡ Some (Some starts_so.opens.code)
+      there_code : slice_get old.image.code.now.functions.items number ≡ Some (Some starts_so.opens.code)
       there_code =
-          ap (λ (k : Machine). slice_get k.code.now.functions.items number) (sym starts_so.rest) ∙ starts_so.opens.there
+          ap (λ (k : Machine). slice_get k.image.code.now.functions.items number) (sym starts_so.rest) ∙ starts_so.opens.there
 
   turned : reverse opened.below.items ≡ there ∷ reverse old.below.items
   turned =
@@ -313,8 +313,8 @@ module _ (trees : TreesAreKept) (starts : StandsAtStart) (world : World) (meanin
     stands_numbered = subst (λ (k : Machine). Stands world meaning k then_state) (sym new_is) stands_then
 
   -- the code is as it was
-  code_same : new.code.now ≡ old.code.now
-  code_same = ap (λ (k : Machine). k.code.now) starts_so.counted ∙ ap (λ (k : Machine). k.code.now) opened_is
+  code_same : new.image.code.now ≡ old.image.code.now
+  code_same = ap (λ (k : Machine). k.image.code.now) starts_so.counted ∙ ap (λ (k : Machine). k.image.code.now) opened_is
 
   below_same : new.below.items ≡ opened.below.items
   below_same = ap (λ (k : Machine). k.below.items) starts_so.counted
@@ -323,7 +323,7 @@ module _ (trees : TreesAreKept) (starts : StandsAtStart) (world : World) (meanin
   function_stands_so = record {
     stands = stands_numbered;
     rooms = subst (λ (c : Code). KeepToRooms c (reverse new.below.items) held) (sym code_same)
-        (subst (λ (rest : List Open). KeepToRooms old.code.now rest held) (sym (ap reverse below_same ∙ turned)) w.keeps);
+        (subst (λ (rest : List Open). KeepToRooms old.image.code.now rest held) (sym (ap reverse below_same ∙ turned)) w.keeps);
     result = ap (λ (k : Machine). k.left) starts_so.counted ∙ ap (λ (k : Machine). k.left) opened_is ∙ t.stood.result;
   }
 

@@ -414,4 +414,4 @@ module _ (rows : List Row) where
 -- the act of an event that was done as its script has created nothing
 pub act_creates_none : (rows : List Row) (m : Machine) (who : Event) (a : Node_act) (s u : Store) (v : Value) (is : List Item) →
     run rows (script_in rows m who a) s ≡ Done v is u → u.created ≡ s.created
-act_creates_none rows m who a s u v is = none_run rows (script_in rows m who a) s u v is (none_act rows m.code.now.tables who (given_by m) a)
+act_creates_none rows m who a s u v is = none_run rows (script_in rows m who a) s u v is (none_act rows m.image.code.now.tables who (given_by m) a)

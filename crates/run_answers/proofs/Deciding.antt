@@ -107,12 +107,12 @@ pub record ChosenThen (world : World) (f : Scene) (e : Begun) (m new : Machine) 
   pub kept : IsKept world f e (taken_in choices)
 
 module _ (keeps_at : KeepsAtEvent) (gives : RoomGives) (world : World) (f : Scene) (laid : Expression) (e : Begun) (d : Due) (v : Value) (m new : Machine)
-    (b : Shown) (event : IsEventOf world m.code.now f laid e d) (entries : List Listed) (lists : IsListingOf entries (tree_of e.root))
+    (b : Shown) (event : IsEventOf world m.image.code.now f laid e d) (entries : List Listed) (lists : IsListingOf entries (tree_of e.root))
     (kept : IsKept world f e (taken_in b.taken))
     (due : is_due (tree_of e.root) (taken_by world f e) d.place ≡ true) (left : e.given d.place ≡ None) (top : top_of m ≡ Some b)
     (value : is_val d.place.kind ≡ true → Holds m.memory m.values.items (m.top.base + d.place.node) v) where
   abbrev tables : Tables
-  tables = m.code.now.tables
+  tables = m.image.code.now.tables
 
   abbrev after : Begun
   after = with_given e d.place v
@@ -162,12 +162,13 @@ module _ (keeps_at : KeepsAtEvent) (gives : RoomGives) (world : World) (f : Scen
   chosen_then decides =
       let entry = event.lays.each event.at (listed.Event d) event.first event.end event.entry in
       made entry.0 entry.1 d.choice entry.3 decides
-      (keeps_at world f event.firsts event.nodes tables m.code.now.listing.items laid e (taken_in b.taken) event.at d v event.lays event.views lists.formed kept
+      (keeps_at world f event.firsts event.nodes tables m.image.code.now.listing.items laid e (taken_in b.taken) event.at d v event.lays event.views
+      lists.formed kept
       event.first event.end event.entry due left)
 
 -- ---- what is done of it then
 module _ (behind : StandsBehind) (world : World) (old : Machine) (s : Stage) (f : Scene) (e : Begun) (d : Due) (v : Value) (height : ℕ) (shown : Shown)
-    (top : top_of old ≡ Some shown) (in_listing : HasListed world f old.code.now.listing.items s.first s.end e (taken_in shown.taken))
+    (top : top_of old ≡ Some shown) (in_listing : HasListed world f old.image.code.now.listing.items s.first s.end e (taken_in shown.taken))
     (stage : old.top.stage ≡ Some s) where
   abbrev after_it : Begun
   after_it = with_given e d.place v
@@ -176,7 +177,7 @@ module _ (behind : StandsBehind) (world : World) (old : Machine) (s : Stage) (f 
   pub record Passed (straight : Bool) (past : Machine) : Type 0 where
     pub cursor : ℕ
     pub is : past ≡ at_cursor old s cursor
-    pub stands : straight ≡ true → StandsStraight world f old.code.now.listing.items s.first cursor s.end after_it None
+    pub stands : straight ≡ true → StandsStraight world f old.image.code.now.listing.items s.first cursor s.end after_it None
 
   pub passed : (straight : Bool) (past : Machine) → IsPast straight old s d past →
       StandsDone straight world old height s.first s.cursor s.end f e None → Passed straight past
@@ -186,9 +187,9 @@ module _ (behind : StandsBehind) (world : World) (old : Machine) (s : Stage) (f 
         cursor = suc (s.cursor + p.1.0);
         is = p.5;
         stands = λ h. subst (λ (z : Due).
-            StandsStraight world f old.code.now.listing.items s.first (suc (s.cursor + p.1.0)) s.end (with_given e z.place v) None) p.3
-            (behind world f old.code.now.listing.items s.first s.cursor s.end e (taken_in shown.taken) p.1 v done in_listing
-            (subst (λ (z : Shown). Next (taken_in z.taken) (part_of old.code.now.listing.items s.cursor s.end) (Some p.1)) same p.4));
+            StandsStraight world f old.image.code.now.listing.items s.first (suc (s.cursor + p.1.0)) s.end (with_given e z.place v) None) p.3
+            (behind world f old.image.code.now.listing.items s.first s.cursor s.end e (taken_in shown.taken) p.1 v done in_listing
+            (subst (λ (z : Shown). Next (taken_in z.taken) (part_of old.image.code.now.listing.items s.cursor s.end) (Some p.1)) same p.4));
       }
   passed false past p done = record {
     cursor = s.cursor;
@@ -226,7 +227,7 @@ noted_then world f e u v false m old noted first at end notes done same =
     }
 
 pub done_then : (world : World) (m : Machine) (straight : Bool) (height first at end : ℕ) (f : Scene) (e : Begun) →
-    (straight ≡ true → StandsStraight world f m.code.now.listing.items first at end e None) →
+    (straight ≡ true → StandsStraight world f m.image.code.now.listing.items first at end e None) →
     (straight ≡ false → StandsStrayed m.strayed.items height e) → StandsDone straight world m height first at end f e None
 done_then world m true height first at end f e along strays = along refl
 done_then world m false height first at end f e along strays = strays refl

@@ -82,8 +82,8 @@ kept_gives (act.Initialize n) r e = absurd (cc)
 
 -- ---- the values of the full expression
 module _ (world : World) (m n : Machine) (t : Open) (keeps : Keeps m.memory n.memory) (f : Scene) (e : Begun) (d : Due) (v : Value)
-    (base first end count : ℕ) (rooms : RoomsLaid (part_of m.code.now.listing.items first end) count e)
-    (listed_there : IsListed (part_of m.code.now.listing.items first end) d) (plain : is_body d.place.kind ≡ false)
+    (base first end count : ℕ) (rooms : RoomsLaid (part_of m.image.code.now.listing.items first end) count e)
+    (listed_there : IsListed (part_of m.image.code.now.listing.items first end) d) (plain : is_body d.place.kind ≡ false)
     (within : (w : Place) → is_some (e.given w) ≡ true → w.node < size (tree_of e.root)) (here : d.place.node < size (tree_of e.root))
     (there : base + count ≤ length m.values.items)
     (others : (j : ℕ) → j ≢ base + d.place.node → ForSome (kept_room d.act) (λ r. j ≢ base + r) → slice_get n.values.items j ≡ slice_get m.values.items j)
@@ -155,9 +155,9 @@ module _ (world : World) (m n : Machine) (t : Open) (keeps : Keeps m.memory n.me
       (s.body k w (sym (given_else e d.place (place k Val) v is) ∙ none) before)
 
   abbrev room_of : (i : ℕ) (due : Due) (store room : ℕ) (target : Operand) (c : Change) (old : Bool) (es : Exprs)
-      → slice_get (part_of m.code.now.listing.items first end) i ≡ Some (listed.Event due) → due.act ≡ act.Store store target (Done room)
+      → slice_get (part_of m.image.code.now.listing.items first end) i ≡ Some (listed.Event due) → due.act ≡ act.Store store target (Done room)
       → due.place.kind ≡ Eff → IsUpdate (at_node 0 e.root due.place.node) c old es
-      → IsUpdateRoom (part_of m.code.now.listing.items first end) e room
+      → IsUpdateRoom (part_of m.image.code.now.listing.items first end) e room
   room_of i due store room target c old es at does kind is = record {
     due = due;
     store = store;
@@ -172,7 +172,7 @@ module _ (world : World) (m n : Machine) (t : Open) (keeps : Keeps m.memory n.me
   }
 
   -- what an update is to store that gives its new value
-  new_after : (due : Due) (room : ℕ) (r : IsUpdateRoom (part_of m.code.now.listing.items first end) e room) → r.due ≡ due → r.old ≡ false
+  new_after : (due : Due) (room : ℕ) (r : IsUpdateRoom (part_of m.image.code.now.listing.items first end) e room) → r.due ≡ due → r.old ≡ false
       → (w : Value) (b : Bool) → same_place d.place (place due.place.node Val) ≡ b → after.given (place due.place.node Val) ≡ Some w
       → (e.given (place due.place.node Val) ≡ Some w → Holds m.memory m.values.items (base + room) w)
       → Holds n.memory n.values.items (base + room) w
@@ -188,7 +188,7 @@ module _ (world : World) (m n : Machine) (t : Open) (keeps : Keeps m.memory n.me
       held room w (node_stays room (omega (arith, number, lt)) (λ val eq. other_node due.place.node is val (sym number ∙ eq))) (before was)
 
   -- .. and that gives its old one
-  old_after : (due : Due) (room : ℕ) (r : IsUpdateRoom (part_of m.code.now.listing.items first end) e room) → r.due ≡ due → r.old ≡ true
+  old_after : (due : Due) (room : ℕ) (r : IsUpdateRoom (part_of m.image.code.now.listing.items first end) e room) → r.due ≡ due → r.old ≡ true
       → (w : Value) (b : Bool) → same_place d.place (place due.place.node Val) ≡ b → after.given (place due.place.node Val) ≡ Some w
       → (e.given (place due.place.node Val) ≡ Some w → Holds m.memory m.values.items (base + room) (changed r.change w (pos 1)))
       → Holds n.memory n.values.items (base + room) (changed r.change w (pos 1))
@@ -210,7 +210,7 @@ module _ (world : World) (m n : Machine) (t : Open) (keeps : Keeps m.memory n.me
 
   update_after : (i : ℕ) (due : Due) (store room : ℕ) (target : Operand) (c : Change) (old : Bool) (es : Exprs) (w : Value)
       → StandsValues world m base first end f e
-      → slice_get (part_of m.code.now.listing.items first end) i ≡ Some (listed.Event due) → due.act ≡ act.Store store target (Done room)
+      → slice_get (part_of m.image.code.now.listing.items first end) i ≡ Some (listed.Event due) → due.act ≡ act.Store store target (Done room)
       → due.place.kind ≡ Eff → IsUpdate (at_node 0 e.root due.place.node) c old es → after.given (place due.place.node Val) ≡ Some w
       → Holds n.memory n.values.items (base + room) (new_value c old w (amount old (values_of world f after.given (suc due.place.node) es)))
   update_after i due store room target c false es w s at does kind is given =

@@ -122,7 +122,7 @@ no_update (Some (expr h t l xs)) discarded ty line os c old es is update = cc (i
 module _ (world : World) (m n : Machine) (t : Open) (keeps : Keeps m.memory n.memory) (f : Scene) (e : Begun) (node : ℕ) (v : Value)
     (base first end : ℕ) (others : (j : ℕ) → j ≢ base + node → slice_get n.values.items j ≡ slice_get m.values.items j)
     (value : Holds n.memory n.values.items (base + node) v) (free : e.given (place node Val) ≡ None)
-    (apart : (room : ℕ) → IsUpdateRoom (part_of m.code.now.listing.items first end) e room → room ≢ node) where
+    (apart : (room : ℕ) → IsUpdateRoom (part_of m.image.code.now.listing.items first end) e room → room ≢ node) where
   elsewhere : (k : ℕ) (w : Value) → k ≢ node → Holds m.memory m.values.items (base + k) w → Holds n.memory n.values.items (base + k) w
   elsewhere k w ne h =
       holds_stay m.memory n.memory m.values.items n.values.items (base + k) w keeps (others (base + k) (λ eq. ne (omega (arith, eq)))) h
@@ -189,7 +189,7 @@ module _ (trees : TreesAreKept) (keeps_at : KeepsAtEvent) (gives : RoomGives) (b
   look = opened trees world (meaning old.top.function) old s x.shown st.top e t.stood.stands.listed x.shows x
 
   abbrev listing : List Listed
-  listing = old.code.now.listing.items
+  listing = old.image.code.now.listing.items
 
   parts : whole_part old s ≡ part_of listing x.laid.first x.laid.end
   parts = part_same listing s.first x.laid.first s.end x.laid.end x.first x.end
@@ -202,8 +202,8 @@ module _ (trees : TreesAreKept) (keeps_at : KeepsAtEvent) (gives : RoomGives) (b
 
   in_rooms : RoomsLaid (part_of listing x.laid.first x.laid.end) old.top.rooms e
   in_rooms =
-      rooms_laid old.code.now.tables listing x.laid t.event.firsts t.event.nodes
-      (subst (λ (l : Expression). LaidOutBy t.event.firsts t.event.nodes old.code.now.tables listing l) same_laid t.event.lays) e x.root few old.top.rooms
+      rooms_laid old.image.code.now.tables listing x.laid t.event.firsts t.event.nodes
+      (subst (λ (l : Expression). LaidOutBy t.event.firsts t.event.nodes old.image.code.now.tables listing l) same_laid t.event.lays) e x.root few old.top.rooms
       (subst (λ (es : List Listed). HasRooms es old.top.rooms e) parts t.rooms)
 
   -- the cursor has passed it
@@ -434,8 +434,8 @@ module _ (trees : TreesAreKept) (keeps_at : KeepsAtEvent) (gives : RoomGives) (b
 
     by_law : completed_by (tree_of e.root) (taken_by world st.top.scene after) (is_done after) d.place.node
         ≡ completed_of d (events_of (taken_in chosen.choices) (part_of listing (suc position) x.laid.end))
-    by_law = law world st.top.scene listing t.event.firsts t.event.nodes old.code.now.tables x.laid position after (taken_in chosen.choices) d
-        (subst (λ (l : Expression). LaidOutBy t.event.firsts t.event.nodes old.code.now.tables listing l) same_laid t.event.lays)
+    by_law = law world st.top.scene listing t.event.firsts t.event.nodes old.image.code.now.tables x.laid position after (taken_in chosen.choices) d
+        (subst (λ (l : Expression). LaidOutBy t.event.firsts t.event.nodes old.image.code.now.tables listing l) same_laid t.event.lays)
         (sym (ap tree_of x.root ∙ trees x.laid.root.now)) stands_after in_list first_low here
 
     pub completes_so : (c : Completed) → CompletesNoted d new c
@@ -443,7 +443,7 @@ module _ (trees : TreesAreKept) (keeps_at : KeepsAtEvent) (gives : RoomGives) (b
     completes_so c noted_so =
         noted_so (record s { cursor = way.cursor }) (record x.shown { taken = chosen.choices }) (ap (λ (k : Machine). k.top.stage) moves)
         (ap top_of moves ∙ chosen.shows)
-        ∙ (ap (λ (k : Machine). completed_of d (events_of (taken_in chosen.choices) (part_of k.code.now.listing.items way.cursor s.end))) moves
+        ∙ (ap (λ (k : Machine). completed_of d (events_of (taken_in chosen.choices) (part_of k.image.code.now.listing.items way.cursor s.end))) moves
         ∙ (ap (λ (n : ℕ). completed_of d (events_of (taken_in chosen.choices) (part_of listing n s.end))) cursor_is
         ∙ (ap (λ (n : ℕ). completed_of d (events_of (taken_in chosen.choices) (part_of listing (suc position) n))) x.end ∙ sym by_law)))
 

@@ -175,7 +175,7 @@ pub library_steps : CallsMoreRows → LibraryCallSteps → LibrarySteps
 library_steps rows steps world meaning old new st e s laid d g ts hs w vs t has call same within =
     let c = t.called in
     let p = past_staged s.straight old s d c.past c.passes in
-    let behind = same_behind s.straight c.done c.noted new d.place d.choice (choice_none world old.code.now st.top.scene laid e d t.event t.body) c.notes
+    let behind = same_behind s.straight c.done c.noted new d.place d.choice (choice_none world old.image.code.now st.top.scene laid e d t.event t.body) c.notes
     c.decides in
     let memory : c.past.memory ≡ old.memory = ap (λ (k : Machine). k.memory) p.1 in
     let comes = comes_to rows steps world meaning old c.past c.done st e d.place g ts hs vs t.stood.stands t.stood.begun p.0 p.1

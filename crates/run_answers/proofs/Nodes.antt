@@ -281,7 +281,7 @@ module _ (world : World) (m : Machine) (f : Scene) (e : Begun) (firsts : List �
   nothing a r is e = right a act.Nothing r is (sym e, tt, refl)
 
   stored : (n : ℕ) (s : StoreCode) (how : Access) (first : Bool) (object : CType) (ty : CType) (p v : Operand) (q w : Value)
-      → slice_get m.code.now.tables.stores.items n ≡ Some s → IsStore how first object s → ty ≡ object → Gives m p q → Gives m v w
+      → slice_get m.image.code.now.tables.stores.items n ≡ Some s → IsStore how first object s → ty ≡ object → Gives m p q → Gives m v w
       → Right (act.Store n p v) (nodes.put world.rows first how ty (pointer_of q) w)
   stored n s how first object ty p v q w there is same g h = (
     ap (λ (o : Option StoreCode). stored_by world.rows o (pointer_of (given_by m p)) (given_by m v)) there
@@ -457,7 +457,7 @@ module _ (world : World) (m : Machine) (f : Scene) (e : Begun) (firsts : List �
 
   -- the effect of an update
   update : (k : Change) (old : Bool) (ty : CType) (ts : List Typed) (room : ℕ) (a : Act) → 0 < length ts
-      → code.Stores m.code.now.tables (code.change_access k) false (pointed (code.first_type ty ts)) (resolved.value_at (Ops ts) 0) (operand.Done room) a
+      → code.Stores m.image.code.now.tables (code.change_access k) false (pointed (code.first_type ty ts)) (resolved.value_at (Ops ts) 0) (operand.Done room) a
       → Gives m (resolved.value_at (Ops ts) 0) (values.value_at (Vals ts) 0)
       → Gives m (operand.Done room) (nodes.new_value k old (own_value Eff) (nodes.amount old (Vals ts)))
       → Right a (nodes.put world.rows false (nodes.change_access k) (pointed_by (steps.first_type (exprs_of ts))) (pointer_of (values.value_at (Vals ts) 0))
@@ -475,7 +475,7 @@ module _ (world : World) (m : Machine) (f : Scene) (e : Begun) (firsts : List �
   -- its effect
   effect : (d : Node-F Node Typed) (ty : CType) (ts : List Typed) (own : Operand) (room : ℕ) (a : Act)
       → is_quiet_class (head_class (head_in d ty) (model.trees_of (exprs_of ts))) ≡ false → CountIs (sites.head_of d) (length ts)
-      → code.IsEffect firsts m.code.now.tables (sites.head_of d) (sight ty ts own room) a → Operands (head_in d ty) ts
+      → code.IsEffect firsts m.image.code.now.tables (sites.head_of d) (sight ty ts own room) a → Operands (head_in d ty) ts
       → OwnIsGiven world m f firsts u.node room (head_in d ty) Eff (Vals ts) (own_value Eff) → Right a (done_by (head_in d ty) ts Eff)
   effect (shape.Const z) ty ts own room a q c is g mine = absurd (not_quiet_number z ty (model.trees_of (exprs_of ts)) q)
   effect (shape.Assign first how) ty ts own room a q c is g mine =
@@ -519,7 +519,7 @@ module _ (world : World) (m : Machine) (f : Scene) (e : Begun) (firsts : List �
   -- by the kind of the event
   event : (d : Node-F Node Typed) (ty : CType) (ts : List Typed) (own : Operand) (room initializer : ℕ) (k : Kind) (a : Act) → is_body k ≡ false
       → is_quiet_class (head_class (head_in d ty) (model.trees_of (exprs_of ts))) ≡ false → CountIs (sites.head_of d) (length ts)
-      → IsAct firsts m.code.now.tables initializer (sites.head_of d) (sight ty ts own room) k a → Operands (head_in d ty) ts
+      → IsAct firsts m.image.code.now.tables initializer (sites.head_of d) (sight ty ts own room) k a → Operands (head_in d ty) ts
       → IsNearBy (head_in d ty) (Vals ts) → OwnIsGiven world m f firsts u.node room (head_in d ty) k (Vals ts) (own_value k)
       → Right a (done_by (head_in d ty) ts k)
   event d ty ts own room initializer Val a plain q c is g near mine = value d ty ts own room a q c is g near mine
@@ -539,7 +539,7 @@ acts_are_of_nodes world m f e firsts root noted d x whole are there due plain qu
     let done = event world m f e firsts u (node_in t) ty ts s.own s.room x.initializer u.kind d.act plain
     (ap (λ (z : Expr). is_quiet (tree_of z)) (sym (expr_at t)) ∙ quiet)
     (subst (λ (h : sites.Head). CountIs h (length ts)) (head_is t) takes.counts)
-    (subst (λ (h : sites.Head). IsAct firsts m.code.now.tables x.initializer h s u.kind d.act) (head_is t) due.does)
+    (subst (λ (h : sites.Head). IsAct firsts m.image.code.now.tables x.initializer h s u.kind d.act) (head_is t) due.does)
     (subst (λ (h : Head). Operands world m f e firsts u h ts) head takes.operands)
     (subst (λ (h : Head). IsNearBy h (values_of world f e.given (suc u.node) (exprs_of ts))) head takes.near)
     (subst (λ (h : Head). OwnIsGiven world m f firsts u.node s.room h u.kind (values_of world f e.given (suc u.node) (exprs_of ts))

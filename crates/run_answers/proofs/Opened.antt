@@ -67,16 +67,17 @@ one_open world meaning m height o (Some t) s f (Some x) b h =
 pub record Opened (world : World) (m : Machine) (s : Stage) (b : Shown) (f : Local) (e : Begun) : Type 0 where
   pub tree : model.tree_of e.root ≡ tree_of b.root.now
   pub few : size (tree_of b.root.now) < 2 ^ 32
-  pub listed : cursor.IsListed world f.scene m.code.now.listing.items s.first s.end e (taken_in b.taken)
+  pub listed : cursor.IsListed world f.scene m.image.code.now.listing.items s.first s.end e (taken_in b.taken)
   pub done : StandsDone s.straight world m (length m.below.items) s.first s.cursor s.end f.scene e None
 
 pub opened : TreesAreKept → (world : World) (meaning : Meaning) (m : Machine) (s : Stage) (b : Shown) (f : Local) (e : Begun) →
-    All (HasListing m.code.now.listing.items) m.code.now.expressions.items → top_of m ≡ Some b →
+    All (HasListing m.image.code.now.listing.items) m.image.code.now.expressions.items → top_of m ≡ Some b →
     StandsExpression world meaning m (length m.below.items) m.top s f.scene e None → Opened world m s b f e
 opened trees world meaning m s b f e all top x =
     let same : x.shown ≡ b = (let both : Some x.shown ≡ Some b = sym x.shows ∙ top in cc) in
-    let has = each_at (HasListing m.code.now.listing.items) m.code.now.expressions.items s.expression x.laid x.at all in
-    let laid = each_at (IsExpressionOf m.code.now.tables m.code.now.listing.items) m.code.now.expressions.items s.expression x.laid x.at m.code.now.within in
+    let has = each_at (HasListing m.image.code.now.listing.items) m.image.code.now.expressions.items s.expression x.laid x.at all in
+    let laid = each_at (IsExpressionOf m.image.code.now.tables m.image.code.now.listing.items) m.image.code.now.expressions.items s.expression x.laid x.at
+    m.image.code.now.within in
     let typed : tree_of x.laid.root.now ≡ tree_of b.root.now = ap tree_of (sym x.tree_root) ∙ ap (λ (z : Shown). tree_of z.root.now) same in
     let modelled : model.tree_of e.root ≡ tree_of x.laid.root.now = ap model.tree_of x.root ∙ trees x.laid.root.now in
     record {
@@ -84,8 +85,8 @@ opened trees world meaning m s b f e all top x =
       few = subst (λ t. size t < 2 ^ 32) typed laid.3;
       listed = (
         subst (λ t. IsListingOf (whole_part m s) t) (sym modelled)
-            (subst (λ (n : ℕ). IsListingOf (part_of m.code.now.listing.items n s.end) (tree_of x.laid.root.now)) (sym x.first)
-            (subst (λ (n : ℕ). IsListingOf (part_of m.code.now.listing.items x.laid.first n) (tree_of x.laid.root.now)) (sym x.end) has)),
+            (subst (λ (n : ℕ). IsListingOf (part_of m.image.code.now.listing.items n s.end) (tree_of x.laid.root.now)) (sym x.first)
+            (subst (λ (n : ℕ). IsListingOf (part_of m.image.code.now.listing.items x.laid.first n) (tree_of x.laid.root.now)) (sym x.end) has)),
         λ n due. ap (λ (z : Shown). taken_in z.taken n) (sym same) ∙ x.taken n due,
       );
       done = subst (λ (n : ℕ). StandsDone s.straight world m (length m.below.items) n s.cursor s.end f.scene e None) (sym x.first)
@@ -164,7 +165,7 @@ canonical_may by_done world f e u is =
     (chosen_place world (canonical (model.tree_of e.root) t (is_done e)) u is))
 
 straight_done : (world : World) (m : Machine) (height : ℕ) (straight : Bool) (first at end : ℕ) (f : Scene) (e : Begun) → straight ≡ true →
-    StandsDone straight world m height first at end f e None → cursor.StandsStraight world f m.code.now.listing.items first at end e None
+    StandsDone straight world m height first at end f e None → cursor.StandsStraight world f m.image.code.now.listing.items first at end e None
 straight_done world m height true first at end f e is done = done
 straight_done world m height false first at end f e is done = absurd (true≢false (sym is))
 
@@ -174,7 +175,7 @@ next_may trees picks by_done m s next stage straight comes world meaning st stan
     let e = there.0 in
     let b = comes.0 in
     let x = there.2 b comes.1 in
-    let takes = picks world st.top m.code.now.listing.items s.first s.cursor s.end e (taken_in b.taken) (Some next)
+    let takes = picks world st.top m.image.code.now.listing.items s.first s.cursor s.end e (taken_in b.taken) (Some next)
     (straight_done world m (length m.below.items) s.straight s.first s.cursor s.end st.top.scene e straight x.done) x.listed comes.2 in (
       λ h. subst (λ (z : Option Begun). May world st.top z next.1.now.place) (sym there.1) (canonical_may by_done world st.top e next.1.now.place takes.0),
       λ may. refl,
@@ -187,10 +188,10 @@ strayed_done world m s b f e done u = ap (λ o. kept_in o u) done.1 ∙ done.2 u
 
 decided_by : PermitsPicks → PermitsByDone → (world : World) (m : Machine) (s : Stage) (b : Shown) (f : Local) (e : Begun) (u : Place) (straight : Bool) →
     StandsDone straight world m (length m.below.items) s.first s.cursor s.end f.scene e None →
-    cursor.IsListed world f.scene m.code.now.listing.items s.first s.end e (taken_in b.taken) →
+    cursor.IsListed world f.scene m.image.code.now.listing.items s.first s.end e (taken_in b.taken) →
     (is_permitted (model.tree_of e.root) (taken_in b.taken) (by_way straight m s b) u ≡ true) ↔ May world f (Some e) u
 decided_by picks by_done world m s b f e u true done listed =
-    picks world f m.code.now.listing.items s.first s.cursor s.end e (taken_in b.taken) u done listed
+    picks world f m.image.code.now.listing.items s.first s.cursor s.end e (taken_in b.taken) u done listed
 decided_by picks by_done world m s b f e u false done listed =
     by_done world f e (taken_in b.taken) (kept_of m) u listed.1 (strayed_done world m s b f.scene e done)
 
@@ -211,9 +212,9 @@ follows_way : ListsTree → NextIsCanonical → TakesByDone → (world : World) 
     (straight : Bool) (due : Option (Bor Due)) → StandsDone straight world old (length old.below.items) s.first s.cursor s.end f.scene e None →
     Opened world old s b f e → ByWay straight old s b new due → chosen_pick world (place_of due) ≡ canonical_pick world f (Some e)
 follows_way lists next by_done world old new s b f e true None done x way =
-    sym (next world f old.code.now.listing.items s.first s.cursor s.end e (taken_in b.taken) None done x.listed way.0).0
+    sym (next world f old.image.code.now.listing.items s.first s.cursor s.end e (taken_in b.taken) None done x.listed way.0).0
 follows_way lists next by_done world old new s b f e true (Some due) done x way =
-    sym (next world f old.code.now.listing.items s.first s.cursor s.end e (taken_in b.taken) (Some (way.0, due)) done x.listed way.1).0
+    sym (next world f old.image.code.now.listing.items s.first s.cursor s.end e (taken_in b.taken) (Some (way.0, due)) done x.listed way.1).0
 follows_way lists next by_done world old new s b f e false due done x way =
     let t = taken_in b.taken in
     let all : events_of t (whole_part old s) ≡ events t 0 (tree_of b.root.now) =

@@ -171,12 +171,12 @@ moved_on m n t = record m {
 }
 
 pub tables_on : (m n : Machine) (t : Open) → Keeps m.memory n.memory →
-    All (λ cs. All (λ c. ContentIsLawful m.program.now c.content) cs.now) m.code.now.tables.constants.items → StandsTables m →
+    All (λ cs. All (λ c. ContentIsLawful m.program.now c.content) cs.now) m.image.code.now.tables.constants.items → StandsTables m →
     StandsTables (moved_on m n t)
 tables_on m n t keeps lawful s = record {
   places = placed_still m.memory n.memory m.program.now m.places keeps s.places;
-  vias = vias_on m.memory n.memory keeps m.code.now.tables.stores.items m.vias.items s.vias;
-  fillings = bytes_on m.memory n.memory keeps m.program.now m.places s.places m.code.now.tables.constants.items m.fillings.items lawful s.fillings;
+  vias = vias_on m.memory n.memory keeps m.image.code.now.tables.stores.items m.image.vias.items s.vias;
+  fillings = bytes_on m.memory n.memory keeps m.program.now m.places s.places m.image.code.now.tables.constants.items m.image.fillings.items lawful s.fillings;
 }
 
 pub result_none : (k l : Kept) (n : Option ℕ) → result_seen k n None ≡ result_seen l n None
@@ -217,7 +217,7 @@ module _ (world : World) (m n : Machine) (t : Open) (keeps : Keeps m.memory n.me
   holds_under : (room : ℕ) (v : Value) → room < at → Holds m.memory m.values.items room v → Holds n.memory n.values.items room v
   holds_under room v lt h = holds_stay m.memory n.memory m.values.items n.values.items room v keeps (rooms room lt) h
 
-  values_under : (base first end : ℕ) (f : Scene) (e : Begun) (count : ℕ) → IsInRooms (part_of m.code.now.listing.items first end) count e →
+  values_under : (base first end : ℕ) (f : Scene) (e : Begun) (count : ℕ) → IsInRooms (part_of m.image.code.now.listing.items first end) count e →
       base + count ≤ at → StandsValues world m base first end f e → StandsValues world (moved_on m n t) base first end f e
   values_under base first end f e count in_rooms le s = record {
     val = λ k w given. holds_under (base + k) w
@@ -246,7 +246,7 @@ module _ (world : World) (m n : Machine) (t : Open) (keeps : Keeps m.memory n.me
   done_under false height first cursor end f e waiting ne d = (d.0, strays height d.0 ne d.1, d.2)
 
   expression_under : (meaning : Meaning) (height : ℕ) (o : Open) (stage : Stage) (f : Scene) (e : Begun) (waiting : Option Place) → height ≢ top →
-      o.base + o.rooms ≤ at → IsInRooms (stage_part m.code.now stage) o.rooms e →
+      o.base + o.rooms ≤ at → IsInRooms (stage_part m.image.code.now stage) o.rooms e →
       StandsExpression world meaning m height o stage f e waiting → StandsExpression world meaning (moved_on m n t) height o stage f e waiting
   expression_under meaning height o stage f e waiting ne le in_rooms x = record {
     laid = x.laid;
@@ -267,11 +267,11 @@ module _ (world : World) (m n : Machine) (t : Open) (keeps : Keeps m.memory n.me
     done = done_under stage.straight height x.laid.first stage.cursor x.laid.end f e waiting ne x.done;
     values = values_under o.base x.laid.first x.laid.end f e o.rooms
         (subst (λ (es : List Listed). IsInRooms es o.rooms e)
-        (part_same m.code.now.listing.items stage.first x.laid.first stage.end x.laid.end x.first x.end) in_rooms) le x.values;
+        (part_same m.image.code.now.listing.items stage.first x.laid.first stage.end x.laid.end x.first x.end) in_rooms) le x.values;
   }
 
   begun_under : (meaning : Meaning) (height : ℕ) (o : Open) (stage : Option Stage) (f : Scene) (e : Option Begun) (waiting : Option Place) (g : Local) →
-      height ≢ top → o.base + o.rooms ≤ at → KeepsTo m.code.now o.rooms stage g e →
+      height ≢ top → o.base + o.rooms ≤ at → KeepsTo m.image.code.now o.rooms stage g e →
       StandsBegun world meaning m height o stage f e waiting → StandsBegun world meaning (moved_on m n t) height o stage f e waiting
   begun_under meaning height o None f None waiting g ne le to b = b
   begun_under meaning height o None f (Some e) waiting g ne le to b = absurd b
@@ -279,10 +279,10 @@ module _ (world : World) (m n : Machine) (t : Open) (keeps : Keeps m.memory n.me
   begun_under meaning height o (Some stage) f (Some e) waiting g ne le to b = expression_under meaning height o stage f e waiting ne le to.1 b
 
   frame_under : (meaning : Meaning) (height : ℕ) (o : Open) (ws : List Work) (f : Local) (u : Place) → height ≢ top → o.base + o.rooms ≤ at →
-      KeepsTo m.code.now o.rooms o.stage f f.begun → StandsFrame world meaning m height o ws None f (Some u) →
+      KeepsTo m.image.code.now o.rooms o.stage f f.begun → StandsFrame world meaning m height o ws None f (Some u) →
       StandsFrame world meaning (moved_on m n t) height o ws None f (Some u)
   frame_under meaning height o ws f u ne le to s =
-      let none = no_arguments world meaning m height o o.stage f.scene f.begun u f m.code.now o.rooms s.begun to in
+      let none = no_arguments world meaning m height o o.stage f.scene f.begun u f m.image.code.now o.rooms s.begun to in
       record {
         number = s.number;
         turn = s.turn;
@@ -296,7 +296,7 @@ module _ (world : World) (m n : Machine) (t : Open) (keeps : Keeps m.memory n.me
 
   -- the frames below one whose rooms begin there or before
   pub frames_under : (meaning : Option ℕ → Meaning) (o : Open) (f : Local) (os : List Open) (wss : List (List Work)) (hs : List (Local × Place)) →
-      length os ≤ top → o.base ≤ at → IsAbove o f os (map (λ h. (h.0, Some h.1)) hs) → KeepToRooms m.code.now os hs →
+      length os ≤ top → o.base ≤ at → IsAbove o f os (map (λ h. (h.0, Some h.1)) hs) → KeepToRooms m.image.code.now os hs →
       StandFrames world meaning m None os wss (map (λ h. (h.0, Some h.1)) hs) →
       StandFrames world meaning (moved_on m n t) None os wss (map (λ h. (h.0, Some h.1)) hs)
   frames_under meaning o f [] wss [] high le a to s = s

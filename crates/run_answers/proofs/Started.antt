@@ -65,7 +65,7 @@ initializer_within world st u n tree is =
 -- ---- the frame has started
 module _ (world : World) (meaning : Option ℕ → Meaning) (old past : Machine) (st : State) (e : Begun) (s : Stage) (d : Due)
     (stood : StandsOpen world meaning old st e) (w : Waits world meaning old past st s d.place) (few : old.top.base + old.top.rooms < 2 ^ 64)
-    (event : IsInitializer old.code.now e d) where
+    (event : IsInitializer old.image.code.now e d) where
   frame : StandsFrame world (meaning old.top.function) old (length old.below.items) old.top old.work.now old.left st.top None
   frame = top_frame world meaning old st stood.stands
 
@@ -163,15 +163,15 @@ module _ (world : World) (meaning : Option ℕ → Meaning) (old past : Machine)
       depth = stood.stands.depth ∙ sym (none_more (depth_of st.top st.held));
     }
 
-    code_same : new.code.now ≡ old.code.now
-    code_same = ap (λ (k : Machine). k.code.now) opens.rest
+    code_same : new.image.code.now ≡ old.image.code.now
+    code_same = ap (λ (k : Machine). k.image.code.now) opens.rest
 
     stands_started : StandsStarted world meaning new then_state
     stands_started = record {
       stands = λ n is.
           subst (λ (k : Machine). Stands world meaning k then_state) (sym (ap (λ (k : Machine). numbered k n) opens.rest)) (stands_then n is);
       rooms = subst (λ (c : Code). KeepToRooms c (reverse new.below.items) then_state.held) (sym code_same)
-          (subst (λ (os : List Open). KeepToRooms old.code.now os then_state.held) (sym turned) w.keeps);
+          (subst (λ (os : List Open). KeepToRooms old.image.code.now os then_state.held) (sym turned) w.keeps);
       result = ap (λ (k : Machine). k.left) opens.rest ∙ stood.result;
     }
 

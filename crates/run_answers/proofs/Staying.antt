@@ -245,7 +245,7 @@ has_taken o s m below now none is same ready world meaning st stands goes items 
       next = next;
       within = goes.within;
       closed = closed;
-      can = subst (λ (t : Todo). CanTake world m.code.now m.jumps m.top st t) (sym (next ∙ stands.frames.0.control.ready)) can.takes;
+      can = subst (λ (t : Todo). CanTake world m.image.code.now m.jumps m.top st t) (sym (next ∙ stands.frames.0.control.ready)) can.takes;
       items = items;
       enters = enters_as world m below now st (step_of mg s ∷ todo_of mg now)
           (subst (λ (t : Todo). CanEnterFirst world m st t) (sym (next ∙ stands.frames.0.control.ready)) can.enters);

@@ -25,7 +25,7 @@ use Rattle.run_answers.proofs.Still.{above_same}
 
 straight_done : (straight : Bool) (world : World) (m : Machine) (s : Stage) (height : ℕ) (f : State) (e : Begun) → straight ≡ true →
     StandsDone straight world m height s.first s.cursor s.end f.top.scene e None →
-    StandsStraight world f.top.scene m.code.now.listing.items s.first s.cursor s.end e None
+    StandsStraight world f.top.scene m.image.code.now.listing.items s.first s.cursor s.end e None
 straight_done true world m s height f e is d = d
 straight_done false world m s height f e is d = absurd (cc)
 
@@ -55,7 +55,7 @@ module _ (trees : TreesAreKept) (passed : PassedIsDone) (world : World) (meaning
   kept : (u : Place) → done_in leaves.marks u ≡ has_done e u
   kept u =
       leaves.done x.shown x.shows u ∙ ap (λ (b : Bool). by_way b old s x.shown u) straight
-      ∙ passed world st.top.scene old.code.now.listing.items s.first s.cursor s.end e _ u
+      ∙ passed world st.top.scene old.image.code.now.listing.items s.first s.cursor s.end e _ u
       (straight_done s.straight world old s height st e straight look.done) look.listed
 
   expression : StandsExpression world (meaning old.top.function) (moved_on old end there) height there off st.top.scene e None

@@ -460,11 +460,11 @@ module _ (quiet_gives : QuietGives) (world : World) (m : Machine) (f : Scene) (e
     (stands : StandsObjects world m f)
     (held : StandsValues world m m.top.base first end f e)
     (permitted : IsPermitted (tree_of e.root) (taken_by world f e) (is_done e) due.place) (plain : is_body due.place.kind ≡ false)
-    (at : ℕ) (listed_there : slice_get (part_of m.code.now.listing.items first end) at ≡ Some (listed.Event due)) where
+    (at : ℕ) (listed_there : slice_get (part_of m.image.code.now.listing.items first end) at ≡ Some (listed.Event due)) where
   own_gives : (d : Node-F Node Typed) (ty : CType) (line : ℕ) (ts : List Typed) (own : Operand) (room initializer : ℕ) (k : Kind) → due.place.kind ≡ k
       → at_node 0 e.root due.place.node ≡ Some (expr (head_in d ty) ty line (exprs_of ts)) → CountIs (sites.head_of d) (length ts)
       → All (λ o. is_quiet (tree_of (expr_of o)) ≡ true → IsNamed m firsts f.blocks (expr_of o)) ts → ListIsThere m firsts f.blocks (head_in d ty)
-      → IsAct firsts m.code.now.tables initializer (sites.head_of d)
+      → IsAct firsts m.image.code.now.tables initializer (sites.head_of d)
       (record {
         operands = operands_from firsts (suc due.place.node) ts;
         object = pointed (code.first_type ty ts);
@@ -537,7 +537,7 @@ permitted_takes_given quiet_gives room_gives world m f e firsts root noted d x f
           (own_gives quiet_gives world m f e firsts first end d stands held permitted plain i listed_there (node_in t) ty line ts s.own s.room x.initializer
           u.kind
           refl here counts fits.operands (subst (λ (h : Head). ListIsThere m firsts f.blocks h) head fits.list)
-          (subst (λ (h : sites.Head). IsAct firsts m.code.now.tables x.initializer h s u.kind d.act) (head_is t) due.does));
+          (subst (λ (h : sites.Head). IsAct firsts m.image.code.now.tables x.initializer h s u.kind d.act) (head_is t) due.does));
     }
 
 -- ---- the operands of the body of a call

@@ -46,7 +46,7 @@ record PassedTo (world : World) (old : Machine) (s : Stage) (f : Scene) (e : Beg
   stands : StandsDone straight world old height s.first cursor s.end f e (Some d.place)
 
 passed_to : StandsAtStart → (world : World) (old : Machine) (s : Stage) (f : Scene) (e : Begun) (d : Due) (height : ℕ) (shown : Shown) →
-    top_of old ≡ Some shown → cursor.IsListed world f old.code.now.listing.items s.first s.end e (taken_in shown.taken) → old.top.stage ≡ Some s →
+    top_of old ≡ Some shown → cursor.IsListed world f old.image.code.now.listing.items s.first s.end e (taken_in shown.taken) → old.top.stage ≡ Some s →
     (straight : Bool) (past : Machine) → IsPast straight old s d past → StandsDone straight world old height s.first s.cursor s.end f e None →
     PassedTo world old s f e d height straight past
 passed_to starts world old s f e d height shown top listed stage true past p done =
@@ -55,9 +55,9 @@ passed_to starts world old s f e d height shown top listed stage true past p don
       cursor = suc (s.cursor + p.1.0);
       is = p.5;
       stands = subst (λ (z : Due).
-          StandsStraight world f old.code.now.listing.items s.first (suc (s.cursor + p.1.0)) s.end e (Some z.place)) p.3
-          (starts world f old.code.now.listing.items s.first s.cursor s.end e (taken_in shown.taken) p.1 done listed
-          (subst (λ (z : Shown). Next (taken_in z.taken) (part_of old.code.now.listing.items s.cursor s.end) (Some p.1)) same p.4));
+          StandsStraight world f old.image.code.now.listing.items s.first (suc (s.cursor + p.1.0)) s.end e (Some z.place)) p.3
+          (starts world f old.image.code.now.listing.items s.first s.cursor s.end e (taken_in shown.taken) p.1 done listed
+          (subst (λ (z : Shown). Next (taken_in z.taken) (part_of old.image.code.now.listing.items s.cursor s.end) (Some p.1)) same p.4));
     }
 passed_to starts world old s f e d height shown top listed stage false past p done = record {
   cursor = s.cursor;
@@ -71,7 +71,7 @@ pub record Waits (world : World) (meaning : Option ℕ → Meaning) (old past : 
   pub is : past ≡ at_cursor old s cursor
   pub frames : StandFrames world meaning old None (record old.top { stage = Some (record s { cursor = cursor }) } ∷ reverse old.below.items)
       (old.work.now ∷ old.work.below) ((st.top, Some u) ∷ map (λ h. (h.0, Some h.1)) st.held)
-  pub keeps : KeepToRooms old.code.now (record old.top { stage = Some (record s { cursor = cursor }) } ∷ reverse old.below.items) ((st.top, u) ∷ st.held)
+  pub keeps : KeepToRooms old.image.code.now (record old.top { stage = Some (record s { cursor = cursor }) } ∷ reverse old.below.items) ((st.top, u) ∷ st.held)
 
 module _ (trees : TreesAreKept) (starts : StandsAtStart) (world : World) (meaning : Option ℕ → Meaning) (old past : Machine) (st : State) (e : Begun)
     (s : Stage) (d : Due) (stood : StandsOpen world meaning old st e) (stage : old.top.stage ≡ Some s)
@@ -140,15 +140,15 @@ module _ (trees : TreesAreKept) (starts : StandsAtStart) (world : World) (meanin
       let nodes = rooms.nodes in
       omega (arith, inside, nodes)
 
-  in_rooms : IsInRooms (stage_part old.code.now s) old.top.rooms e
+  in_rooms : IsInRooms (stage_part old.image.code.now s) old.top.rooms e
   in_rooms = record {
     val = λ k given. given_within (place k Val) given;
     body = λ k given. given_within (place k Body) given;
     update = rooms.within;
   }
 
-  keeps_there : KeepsTo old.code.now there.rooms there.stage st.top st.top.begun
-  keeps_there = subst (λ (b : Option Begun). KeepsTo old.code.now there.rooms there.stage st.top b) (sym stood.begun) (stood.arguments, in_rooms)
+  keeps_there : KeepsTo old.image.code.now there.rooms there.stage st.top st.top.begun
+  keeps_there = subst (λ (b : Option Begun). KeepsTo old.image.code.now there.rooms there.stage st.top b) (sym stood.begun) (stood.arguments, in_rooms)
 
   pub waits_there : Waits world meaning old past st s d.place
   waits_there = record {

@@ -96,7 +96,7 @@ act_script rows tables who v a = value_script rows who v a
 
 -- the act by the values of its operands
 abbrev pub script_in : List Row → Machine → Event → Act → Script Value
-script_in rows m who a = act_script rows m.code.now.tables who (given_by m) a
+script_in rows m who a = act_script rows m.image.code.now.tables who (given_by m) a
 
 -- the body of a call, or of an isolated initializer
 abbrev pub is_body_act : Act → Bool

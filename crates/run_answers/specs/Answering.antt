@@ -103,7 +103,7 @@ CanTake world code jumps o st _ = ⊥
 -- Where no full expression is open in the top frame, the machine can take the step, enter the block that comes next, and end the frame where it ends with
 -- the step; else it can settle what is open.
 pub record CanStep (world : World) (m : Machine) (st : State) : Type 0 where
-  pub takes : CanTake world m.code.now m.jumps m.top st (ready_work st.top.todo)
+  pub takes : CanTake world m.image.code.now m.jumps m.top st (ready_work st.top.todo)
   pub enters : CanEnterFirst world m st (ready_work st.top.todo)
   pub ends : is_last (ready_work st.top.todo) ≡ true → CanEnd m st
 
@@ -151,7 +151,7 @@ pub record HasTaken (world : World) (meaning : Option ℕ → Meaning) (s : Step
   pub next : step_of (meaning m.top.function) s ∷ todo_of (meaning m.top.function) m.work.now ≡ ready_work (todo_of (meaning m.top.function) before)
   pub within : IsWithin world st
   pub closed : st.top.begun ≡ None
-  pub can : CanTake world m.code.now m.jumps m.top st (step_of (meaning m.top.function) s ∷ todo_of (meaning m.top.function) m.work.now)
+  pub can : CanTake world m.image.code.now m.jumps m.top st (step_of (meaning m.top.function) s ∷ todo_of (meaning m.top.function) m.work.now)
   pub items : m.items ≡ []
   pub ends : is_last (step_of (meaning m.top.function) s ∷ todo_of (meaning m.top.function) m.work.now) ≡ true → CanEnd m st
   pub enters : CanEnterFirst world m st (step_of (meaning m.top.function) s ∷ todo_of (meaning m.top.function) m.work.now)

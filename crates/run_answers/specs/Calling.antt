@@ -73,4 +73,4 @@ Calls old call event new result =
 -- .. of the call of this number in the code
 abbrev pub CallsNumbered : ℕ → Machine → Event → Machine → Result Outcome Fault → Type 0
 CallsNumbered number old event new result =
-    (call : CallCode) → slice_get old.code.now.tables.calls.items number ≡ Some call → Calls old call event new result
+    (call : CallCode) → slice_get old.image.code.now.tables.calls.items number ≡ Some call → Calls old call event new result

@@ -195,8 +195,8 @@ IsFunctionIn p (Some n) = is_some (slice_get p.functions n) ≡ true
 -- for what it leaves
 pub record CanEnd (m : Machine) (st : State) : Type 0 where
   pub function : IsFunctionIn m.program.now m.top.function
-  pub rooms : KeepToRooms m.code.now (reverse m.below.items) st.held
-  pub room : HasRoomBelow m.code.now (length m.values.items) m.top.node (reverse m.below.items) st.held
+  pub rooms : KeepToRooms m.image.code.now (reverse m.below.items) st.held
+  pub room : HasRoomBelow m.image.code.now (length m.values.items) m.top.node (reverse m.below.items) st.held
 
 -- the step that comes next is the last of its frame: with the leave of its last block a frame ends
 abbrev pub is_last : Todo → Bool

@@ -173,20 +173,20 @@ reached_with m c = min (m.memory.created + c.created) (2 ^ 62)
 abbrev pub EntersWithin : (old new : Machine) → BlockCode → Result (Option ℕ) Halt → Type 0
 EntersWithin old new c (Ok status) =
     (status ≡ None) × (reached_with old c ≤ 2 ^ 26) × (middle : Machine)
-    × AreNew old (part_of old.code.now.tables.objects.items c.objects) c.first (length (part_of old.code.now.tables.objects.items c.objects)) middle
-    × PassesAll middle (with_arguments (part_of old.code.now.tables.objects.items c.objects) c.arguments) c.first new
+    × AreNew old (part_of old.image.code.now.tables.objects.items c.objects) c.first (length (part_of old.image.code.now.tables.objects.items c.objects)) middle
+    × PassesAll middle (with_arguments (part_of old.image.code.now.tables.objects.items c.objects) c.arguments) c.first new
 EntersWithin old new c (Err (halt.Over cause number)) =
     (cause ≡ Created) × (number ≡ reached_with old c) × (2 ^ 26 < number) × (new.memory ≡ old.memory)
 EntersWithin old new c (Err halt.Unplaced) =
-    (reached_with old c ≤ 2 ^ 26) × HasNoPlace old (part_of old.code.now.tables.objects.items c.objects) c.first new
+    (reached_with old c ≤ 2 ^ 26) × HasNoPlace old (part_of old.image.code.now.tables.objects.items c.objects) c.first new
 EntersWithin old new c (Err halt.NoMemory) = Unit {0}
 EntersWithin old new c (Err (halt.Raised event line clause)) = ⊥
 
 abbrev pub Enters : (old : Machine) → ℕ → (new : Machine) → Result (Option ℕ) Halt → Type 0
 Enters old number new (Err halt.NoMemory) = Unit {0}
 Enters old number new r =
-    (c : BlockCode) × (slice_get old.code.now.tables.blocks.items (min (old.top.blocks + number) (2 ^ 32 - 1)) ≡ Some c)
-    × (CanBear (turned old number) c.first (length (part_of old.code.now.tables.objects.items c.objects))
+    (c : BlockCode) × (slice_get old.image.code.now.tables.blocks.items (min (old.top.blocks + number) (2 ^ 32 - 1)) ≡ Some c)
+    × (CanBear (turned old number) c.first (length (part_of old.image.code.now.tables.objects.items c.objects))
     → EntersWithin (turned old number) new c r)
 
 -- 2. What is asked of a machine, and of the state that it stands for.
@@ -233,10 +233,10 @@ pub record CanEnter (world : World) (m : Machine) (st : State) (b : ℕ) (ds : L
   pub limit : world.limits.created ≡ 2 ^ 26
   pub turn : st.top.scene.turn + 1 < 2 ^ 64
   pub number : m.top.blocks + b < 2 ^ 32
-  pub block : (c : BlockCode) → slice_get m.code.now.tables.blocks.items (m.top.blocks + b) ≡ Some c
-      → HasBirths m.code.now m.top st.top.scene.blocks c ds st.top.arguments
-  pub below : KeepPlaces m.code.now m.top.locals (reverse m.below.items) st.held
-  pub rooms : KeepToRooms m.code.now (reverse m.below.items) st.held
+  pub block : (c : BlockCode) → slice_get m.image.code.now.tables.blocks.items (m.top.blocks + b) ≡ Some c
+      → HasBirths m.image.code.now m.top st.top.scene.blocks c ds st.top.arguments
+  pub below : KeepPlaces m.image.code.now m.top.locals (reverse m.below.items) st.held
+  pub rooms : KeepToRooms m.image.code.now (reverse m.below.items) st.held
   pub rows : RowsAreLawful world.rows
   pub takes : (k : ℕ) (d : Decl) (v : Value) → slice_get ds k ≡ Some d → slice_get st.top.arguments k ≡ Some v
       → TakesValue world.rows (auto_name world st.top.scene (suc st.top.scene.turn) k) d v

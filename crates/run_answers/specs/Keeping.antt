@@ -83,14 +83,14 @@ pub record BeginsExpression (old new : Machine) : Type 0 where
   pub closed : old.top.stage ≡ None
   pub number : ℕ
   pub laid : Expression
-  pub at : slice_get old.code.now.expressions.items number ≡ Some laid
+  pub at : slice_get old.image.code.now.expressions.items number ≡ Some laid
   pub own : IsAmong old.top.expressions number
   pub stage : new.top.stage ≡ Some (first_stage number laid)
   pub many : new.top.rooms ≡ laid.rooms
   pub rooms : new.top.base + laid.rooms ≤ length new.values.items
   pub shown : length old.below.items ≤ length old.begun.items → (choices : List (Option ℕ))
       × (top_of new ≡ Some (record { frame = new.top.frame; turn = new.top.turn; tree = number; root = laid.root; taken = choices }))
-      × ((k : ℕ) → taken_in choices k ≡ with_chosen (part_of new.code.now.tables.chosen.items laid.chosen) (taken_in []) k)
+      × ((k : ℕ) → taken_in choices k ≡ with_chosen (part_of new.image.code.now.tables.chosen.items laid.chosen) (taken_in []) k)
   pub left : new.left ≡ old.left
 
 -- The top frame ended, and the one below it goes on at the stage at which it waited (6.8.6.4p1, 6.9.1p12). It has no result yet. Full expressions and objects

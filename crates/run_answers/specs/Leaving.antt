@@ -42,7 +42,7 @@ pub record HaveDied (old : Machine) (first n : ℕ) (new : Machine) : Type 0 whe
 -- those of the block of this number in the frame's function
 abbrev pub LeavesBlock : Machine → ℕ → Machine → Type 0
 LeavesBlock old number new =
-    (c : BlockCode) × (slice_get old.code.now.tables.blocks.items (min (old.top.blocks + number) (2 ^ 32 - 1)) ≡ Some c)
+    (c : BlockCode) × (slice_get old.image.code.now.tables.blocks.items (min (old.top.blocks + number) (2 ^ 32 - 1)) ≡ Some c)
     × HaveDied old c.first c.objects.count new
 
 -- the frame goes on: nothing but what is left to do may have changed

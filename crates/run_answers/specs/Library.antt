@@ -85,10 +85,10 @@ pub record TakesCall (world : World) (meaning : Option ℕ → Meaning) (old : M
     (f : LibFunc) (ts : List CType) (hs : List Kept_value) (w : LibValue) (new : Machine) : Type 0 where
   pub stood : StandsOpen world meaning old st e
   pub stage : old.top.stage ≡ Some s
-  pub at : slice_get old.code.now.expressions.items s.expression ≡ Some laid
+  pub at : slice_get old.image.code.now.expressions.items s.expression ≡ Some laid
   pub rooms : HasRooms (whole_part old s) old.top.rooms e
-  pub event : IsEventOf world old.code.now st.top.scene laid e d
-  pub constants : AreLawful old.program.now old.code.now
+  pub event : IsEventOf world old.image.code.now st.top.scene laid e d
+  pub constants : AreLawful old.program.now old.image.code.now
   pub body : IsBodyOfCall e d.place
   pub may : MayPick world st.top (Some e) (Ev d.place)
   pub called : IsCalled world old s d f ts hs w new
@@ -130,7 +130,7 @@ pub record IsCallOfLibrary (world : World) (past : Machine) (f : Scene) (e : Beg
   pub act : d.act ≡ act.Call number
   pub body : IsBodyOfCall e d.place
   pub code : CallCode
-  pub there : slice_get past.code.now.tables.calls.items number ≡ Some code
+  pub there : slice_get past.image.code.now.tables.calls.items number ≡ Some code
   pub typed : type_of_call code.ty ≡ function_type (target (first_type body.operands))
   pub types : types_seen code.types ≡ argument_types body.operands
   pub designator : Gives past code.designator (value_at (values_of world f e.given (suc d.place.node) body.operands) 0)
@@ -153,10 +153,10 @@ pub record MayCallLibrary (world : World) (meaning : Option ℕ → Meaning) (m 
   pub within : IsWithin world st
   pub stage : m.top.stage ≡ Some s
   pub end : s.end < 2 ^ 64
-  pub at : slice_get m.code.now.expressions.items s.expression ≡ Some laid
+  pub at : slice_get m.image.code.now.expressions.items s.expression ≡ Some laid
   pub rooms : HasRooms (whole_part m s) m.top.rooms e
-  pub event : IsEventOf world m.code.now st.top.scene laid e d
-  pub constants : AreLawful m.program.now m.code.now
+  pub event : IsEventOf world m.image.code.now st.top.scene laid e d
+  pub constants : AreLawful m.program.now m.image.code.now
   pub functions : HasFunctions world m.program.now
   pub may : MayPick world st.top (Some e) (Ev d.place)
   pub call : IsCallOfLibrary world (past_event now) st.top.scene e d
@@ -202,7 +202,7 @@ AnswersLibrary d old new r =
 
 -- an event of the full expression that is such a body, of the machine that has gone on to it
 pub record CanCallNext (world : World) (m : Machine) (st : State) (e : Begun) (laid : Expression) (d : Due) (now : Machine) : Type 0 where
-  pub event : IsEventOf world m.code.now st.top.scene laid e d
+  pub event : IsEventOf world m.image.code.now st.top.scene laid e d
   pub call : IsCallOfLibrary world (past_event now) st.top.scene e d
 
 pub record MayCallLibraryNext (world : World) (meaning : Option ℕ → Meaning) (m : Machine) (st : State) (e : Begun) (s : Stage) (laid : Expression)
@@ -212,9 +212,9 @@ pub record MayCallLibraryNext (world : World) (meaning : Option ℕ → Meaning)
   pub stage : m.top.stage ≡ Some s
   pub straight : s.straight ≡ true
   pub end : s.end < 2 ^ 64
-  pub at : slice_get m.code.now.expressions.items s.expression ≡ Some laid
+  pub at : slice_get m.image.code.now.expressions.items s.expression ≡ Some laid
   pub rooms : HasRooms (whole_part m s) m.top.rooms e
-  pub constants : AreLawful m.program.now m.code.now
+  pub constants : AreLawful m.program.now m.image.code.now
   pub functions : HasFunctions world m.program.now
   pub each : (next : ℕ × Bor Due) → ComesNext m s (Some next) → CanCallNext world m st e laid next.1.now (at_next m s next.0)
 

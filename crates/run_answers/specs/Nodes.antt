@@ -71,5 +71,5 @@ abbrev pub ActsAreOfNodes : Type 0
 ActsAreOfNodes =
     (world : World) (m : Machine) (f : Scene) (e : Begun) (firsts : List ℕ) (root : Typed) (nodes : List NodeInfo) (d : Due) (x : NodeInfo)
     → e.root ≡ expr_of root → AreNodes firsts root nodes → slice_get nodes d.place.node ≡ Some x
-    → IsDue firsts m.code.now.tables (length nodes) d x → is_body d.place.kind ≡ false → is_quiet (tree_of (expr_of x.tree.now)) ≡ false
+    → IsDue firsts m.image.code.now.tables (length nodes) d x → is_body d.place.kind ≡ false → is_quiet (tree_of (expr_of x.tree.now)) ≡ false
     → TakesGiven world m f e firsts (length nodes) d.place x → IsActOf world m f e d

@@ -95,7 +95,7 @@ Passes old os room new = PassesFirst old os room (length os) (room + length os) 
 pub record OpensFrame (old : Machine) (number : ℕ) (event : Event) (new : Machine) : Type 0 where
   pub code : FunctionCode
   pub body : Bor Statement
-  pub there : slice_get old.code.now.functions.items number ≡ Some (Some code)
+  pub there : slice_get old.image.code.now.functions.items number ≡ Some (Some code)
   pub same : body.now ≡ code.body
   pub rest : new ≡ record old {
     below = new.below;

@@ -54,7 +54,7 @@ pub record HasPassed (old : Machine) (store : ℕ) (l : Local) (h : Kept_value) 
   pub kept : Keeps old.memory new.memory
   pub outcome : Result (List Item) Clause
   pub puts : (rows : List Row) → RowsStay old.memory.rows rows
-      → PutsAs rows old new (stored_by rows (slice_get old.code.now.tables.stores.items store) (place_of l) (value_in old.memory h)) outcome
+      → PutsAs rows old new (stored_by rows (slice_get old.image.code.now.tables.stores.items store) (place_of l) (value_in old.memory h)) outcome
 
 -- The object of this number of a block, whose first has this one in the function, takes the argument of its number out of its room.
 pub record IsOnePassed (old : Machine) (o : ObjectCode) (first k : ℕ) (new : Machine) : Type 0 where
@@ -67,7 +67,7 @@ pub record IsOnePassed (old : Machine) (o : ObjectCode) (first k : ℕ) (new : M
 
 -- the store of one, where its object, its place and its argument are there
 abbrev pub script_of : List Row → Machine → Option ObjectCode → Option Local → Option Kept_value → Script Value
-script_of rows m (Some o) (Some l) (Some h) = stored_by rows (slice_get m.code.now.tables.stores.items o.store) (place_of l) (value_in m.memory h)
+script_of rows m (Some o) (Some l) (Some h) = stored_by rows (slice_get m.image.code.now.tables.stores.items o.store) (place_of l) (value_in m.memory h)
 script_of rows m _ _ _ = Give Nothing
 
 abbrev pub argument_script : List Row → Machine → List ObjectCode → (first k : ℕ) → Script Value
@@ -84,7 +84,7 @@ first_of p (suc n) = first_of p n >> p n
 pub record CanPassAll (m : Machine) (first count : ℕ) : Type 0 where
   pub sound : IsSound m.memory
   pub tables : StandsTables m
-  pub lawful : All (λ cs. All (λ c. ContentIsLawful m.program.now c.content) cs.now) m.code.now.tables.constants.items
+  pub lawful : All (λ cs. All (λ c. ContentIsLawful m.program.now c.content) cs.now) m.image.code.now.tables.constants.items
   pub numbers : first + count < 2 ^ 32
   pub places : (k : ℕ) → k < count → (l : Local) × (slice_get m.locals.items (m.top.locals + (first + k)) ≡ Some l) × IsMade m.memory (Whole l.name)
   pub values : (k : ℕ) → k < count → (h : Kept_value) × (slice_get m.values.items (m.top.base + k) ≡ Some h) × IsOf m.memory h

@@ -45,7 +45,7 @@ pub record CanPerform (rows : List Row) (m : Machine) : Type 0 where
   pub can : CanAct m
   pub extends : Extends m.memory.rows rows
   pub tables : StandsTables m
-  pub constants : All (λ cs. All (λ c. ContentIsLawful m.program.now c.content) cs.now) m.code.now.tables.constants.items
+  pub constants : All (λ cs. All (λ c. ContentIsLawful m.program.now c.content) cs.now) m.image.code.now.tables.constants.items
 
 -- an effect gives no value, and a body keeps its own
 abbrev pub gives_value : Act → Bool

@@ -55,13 +55,13 @@ top_of m = slice_get m.begun.items (length m.below.items)
 
 -- of its listing: what the cursor has passed, what is ahead of it, and the whole
 abbrev pub passed_part : Machine → Stage → List Listed
-passed_part m s = part_of m.code.now.listing.items s.first s.cursor
+passed_part m s = part_of m.image.code.now.listing.items s.first s.cursor
 
 abbrev pub ahead_part : Machine → Stage → List Listed
-ahead_part m s = part_of m.code.now.listing.items s.cursor s.end
+ahead_part m s = part_of m.image.code.now.listing.items s.cursor s.end
 
 abbrev pub whole_part : Machine → Stage → List Listed
-whole_part m s = part_of m.code.now.listing.items s.first s.end
+whole_part m s = part_of m.image.code.now.listing.items s.first s.end
 
 -- what is kept of done events where the order isn't the canonical one
 abbrev pub kept_in : Option (List Marks) → Place → Bool

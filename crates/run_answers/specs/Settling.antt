@@ -71,7 +71,7 @@ pub record IsUsable (m : Machine) (f : Scene) (laid : Expression) : Type 0 where
 -- body. Rows begin at addresses.
 pub record CanSettle (world : World) (m : Machine) (st : State) (e : Begun) : Type 0 where
   pub behind : GoesBehind m.top.function m st e.what (settled world st.top (root_value world st.top e) e.what).todo
-  pub chooses : HasCases m.code.now m.jumps m.top.function m.top.how
+  pub chooses : HasCases m.image.code.now m.jumps m.top.function m.top.how
   pub addresses : AreAddresses world.rows
-  pub usable : (stage : Stage) (laid : Expression) → m.top.stage ≡ Some stage → slice_get m.code.now.expressions.items stage.expression ≡ Some laid
+  pub usable : (stage : Stage) (laid : Expression) → m.top.stage ≡ Some stage → slice_get m.image.code.now.expressions.items stage.expression ≡ Some laid
       → IsUsable m st.top.scene laid

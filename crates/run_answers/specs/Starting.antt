@@ -46,7 +46,7 @@ numbered m n = record m { top = record m.top { frame = n } }
 -- no result yet.
 pub record StandsStarted (world : World) (meaning : Option ℕ → Meaning) (m : Machine) (st : State) : Type 0 where
   pub stands : (n : Frame) → n.0 ≡ world.number st.top.scene.path → Stands world meaning (numbered m n) st
-  pub rooms : KeepToRooms m.code.now (reverse m.below.items) st.held
+  pub rooms : KeepToRooms m.image.code.now (reverse m.below.items) st.held
   pub result : m.left ≡ None
 
 -- the definitions go on to such a state, with the items of the pick
@@ -96,7 +96,7 @@ pub record MayStart (world : World) (meaning : Option ℕ → Meaning) (m : Mach
   pub end : s.end < 2 ^ 64
   pub rooms : HasRooms (whole_part m s) m.top.rooms e
   pub few : m.top.base + m.top.rooms < 2 ^ 64
-  pub event : IsInitializer m.code.now e d
+  pub event : IsInitializer m.image.code.now e d
   pub goes : IsAt s.straight m s d now
 
 -- 3. What is answered.
@@ -113,7 +113,7 @@ AnswersStart world meaning Started (Err e) m o = Answers world meaning (Err e) m
 pub record StartsIsolated (world : World) (old : Machine) (st : State) (e : Begun) (s : Stage) (u : Place) (new : Machine) (o : Outcome) : Type 0 where
   pub due : Due
   pub place : due.place ≡ u
-  pub is : IsInitializer old.code.now e due
+  pub is : IsInitializer old.image.code.now e due
   pub past : Machine
   pub passes : IsPast s.straight old s due past
   pub who : Event
@@ -138,7 +138,7 @@ pub record MayStartNext (world : World) (meaning : Option ℕ → Meaning) (m : 
   pub end : s.end < 2 ^ 64
   pub rooms : HasRooms (whole_part m s) m.top.rooms e
   pub few : m.top.base + m.top.rooms < 2 ^ 64
-  pub each : (next : ℕ × Bor Due) → ComesNext m s (Some next) → IsInitializer m.code.now e next.1.now
+  pub each : (next : ℕ × Bor Due) → ComesNext m s (Some next) → IsInitializer m.image.code.now e next.1.now
 
 -- a canonical pick that is an event, of the machine that has touched nothing yet
 abbrev pub AnswersNextBody : (old new : Machine) → Result Pick Halt → Type 0
@@ -224,7 +224,7 @@ pub record IsCall (world : World) (past : Machine) (f : Scene) (e : Begun) (d : 
   pub act : d.act ≡ act.Call number
   pub body : d.place.kind ≡ Body
   pub code : CallCode
-  pub there : slice_get past.code.now.tables.calls.items number ≡ Some code
+  pub there : slice_get past.image.code.now.tables.calls.items number ≡ Some code
   pub discarded : Bool
   pub ty : CType
   pub line : ℕ

@@ -40,8 +40,8 @@ abbrev pub PermittedTakesGiven : Type 0
 PermittedTakesGiven =
     (world : World) (m : Machine) (f : Scene) (e : Begun) (firsts : List ℕ) (root : Typed) (nodes : List NodeInfo) (d : Due) (x : NodeInfo)
     (first end i : ℕ) → StandsObjects world m f → StandsValues world m m.top.base first end f e → e.root ≡ expr_of root → AreNodes firsts root nodes
-    → slice_get nodes d.place.node ≡ Some x → IsDue firsts m.code.now.tables (length nodes) d x
-    → slice_get (part_of m.code.now.listing.items first end) i ≡ Some (listed.Event d)
+    → slice_get nodes d.place.node ≡ Some x → IsDue firsts m.image.code.now.tables (length nodes) d x
+    → slice_get (part_of m.image.code.now.listing.items first end) i ≡ Some (listed.Event d)
     → IsPermitted (tree_of e.root) (taken_by world f e) (is_done e) d.place → is_body d.place.kind ≡ false
     → NodeStands m firsts f.blocks x.tree.now
     → IsNearBy (head_of (expr_of x.tree.now)) (values_of world f e.given (suc d.place.node) (exprs_of (out-Typed x.tree.now).children))

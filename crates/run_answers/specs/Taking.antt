@@ -85,7 +85,7 @@ pub record StandsOpen (world : World) (meaning : Option ℕ → Meaning) (m : Ma
   pub arguments : st.top.arguments ≡ []
   pub result : m.left ≡ None
   pub rooms : m.top.base + m.top.rooms ≤ length m.values.items
-  pub below : KeepToRooms m.code.now (reverse m.below.items) st.held
+  pub below : KeepToRooms m.image.code.now (reverse m.below.items) st.held
 
 -- 2. What is asked of the code of that full expression: so it is in code that was laid out of a program.
 
@@ -129,7 +129,7 @@ DecidesBy code None old new = new ≡ old
 DecidesBy code (Some number) old new = Chooses code number old new
 
 abbrev pub Decides : Option ℕ → Machine → Machine → Type 0
-Decides o old new = DecidesBy old.code.now o old new
+Decides o old new = DecidesBy old.image.code.now o old new
 
 -- The cursor passed the event; then its act was done, with this value, and an effect left all values; it was noted; and its choice was made. The world has
 -- the rows that the memory then has.
@@ -164,10 +164,10 @@ pub record TakesEvent (world : World) (meaning : Option ℕ → Meaning) (old : 
     (v : Value) (new : Machine) : Type 0 where
   pub stood : StandsOpen world meaning old st e
   pub stage : old.top.stage ≡ Some s
-  pub at : slice_get old.code.now.expressions.items s.expression ≡ Some laid
+  pub at : slice_get old.image.code.now.expressions.items s.expression ≡ Some laid
   pub rooms : HasRooms (whole_part old s) old.top.rooms e
-  pub event : IsEventOf world old.code.now st.top.scene laid e d
-  pub constants : AreLawful old.program.now old.code.now
+  pub event : IsEventOf world old.image.code.now st.top.scene laid e d
+  pub constants : AreLawful old.program.now old.image.code.now
   pub plain : is_body d.place.kind ≡ false
   pub may : MayPick world st.top (Some e) (Ev d.place)
   pub taken : IsTaken world old s d v new
@@ -239,10 +239,10 @@ pub record MayTake (world : World) (meaning : Option ℕ → Meaning) (m : Machi
   pub items : m.items ≡ []
   pub stage : m.top.stage ≡ Some s
   pub end : s.end < 2 ^ 64
-  pub at : slice_get m.code.now.expressions.items s.expression ≡ Some laid
+  pub at : slice_get m.image.code.now.expressions.items s.expression ≡ Some laid
   pub rooms : HasRooms (whole_part m s) m.top.rooms e
-  pub event : IsEventOf world m.code.now st.top.scene laid e d
-  pub constants : AreLawful m.program.now m.code.now
+  pub event : IsEventOf world m.image.code.now st.top.scene laid e d
+  pub constants : AreLawful m.program.now m.image.code.now
   pub extends : Extends m.memory.rows world.rows
   pub plain : is_body d.place.kind ≡ false
   pub may : MayPick world st.top (Some e) (Ev d.place)
@@ -276,7 +276,7 @@ at_next m s n = at_cursor (untouched m) s (min (s.cursor + n) (2 ^ 64 - 1))
 
 -- an event of the full expression, which isn't a body: its act is that of its node, and finds what it takes in the machine that has gone on to it
 pub record CanBeTaken (world : World) (m : Machine) (st : State) (e : Begun) (laid : Expression) (d : Due) (now : Machine) : Type 0 where
-  pub event : IsEventOf world m.code.now st.top.scene laid e d
+  pub event : IsEventOf world m.image.code.now st.top.scene laid e d
   pub plain : is_body d.place.kind ≡ false
   pub act : IsActOf world (past_event now) st.top.scene e d
 
@@ -288,9 +288,9 @@ pub record MayTakeNext (world : World) (meaning : Option ℕ → Meaning) (m : M
   pub stage : m.top.stage ≡ Some s
   pub straight : s.straight ≡ true
   pub end : s.end < 2 ^ 64
-  pub at : slice_get m.code.now.expressions.items s.expression ≡ Some laid
+  pub at : slice_get m.image.code.now.expressions.items s.expression ≡ Some laid
   pub rooms : HasRooms (whole_part m s) m.top.rooms e
-  pub constants : AreLawful m.program.now m.code.now
+  pub constants : AreLawful m.program.now m.image.code.now
   pub extends : Extends m.memory.rows world.rows
   pub each : (next : ℕ × Bor Due) → ComesNext m s (Some next) → CanBeTaken world m st e laid next.1.now (at_next m s next.0)
 

@@ -127,7 +127,7 @@ abbrev left_by : Bor Statement → Stacked → Stacked
 left_by body w = record { below = w.now ∷ w.below; now = work.ToDo body ∷ [] }
 
 pub frame_opened : (old grown new : Machine) (number : ℕ) (event : Event) (code : FunctionCode) (body : Bor Statement) (left : Stacked) (above : ℕ) →
-    slice_get old.code.now.functions.items number ≡ Some (Some code) → body.now ≡ code.body → grown ≡ record old { locals = grown.locals } →
+    slice_get old.image.code.now.functions.items number ≡ Some (Some code) → body.now ≡ code.body → grown ≡ record old { locals = grown.locals } →
     ((j : ℕ) (l : Local) → slice_get old.locals.items j ≡ Some l → slice_get grown.locals.items j ≡ Some l) →
     above ≤ length grown.locals.items → length old.locals.items ≤ length grown.locals.items →
     above ≡ min (old.top.above + code.objects) (2 ^ 64 - 1) → left.below ≡ grown.work.now ∷ grown.work.below → left.now ≡ work.ToDo body ∷ [] →

@@ -62,25 +62,26 @@ module _ (rows : List Row) (m new : Machine) (who : Event) (can : CanPerform row
 
   pub store_performs : (a : Act) (n : ℕ) (place value : Operand) (r : Result Outcome Fault) → a ≡ act.Store n place value → AreGiven m who a
       → (IsGiven m place → IsGiven m value
-      → Effects m new (stored_by m.memory.rows (slice_get m.code.now.tables.stores.items n) (pointer_of (given_by m place)) (given_by m value)) r)
+      → Effects m new (stored_by m.memory.rows (slice_get m.image.code.now.tables.stores.items n) (pointer_of (given_by m place)) (given_by m value)) r)
       → Performs rows m new who a r
   store_performs a n place value r is given did =
       subst (λ (b : Act). AreGiven m who b → Performs rows m new who b r) (sym is)
       (λ (g : AreGiven m who (act.Store n place value)). effect_performs (act.Store n place value)
-      (stored_by m.memory.rows (slice_get m.code.now.tables.stores.items n) (pointer_of (given_by m place)) (given_by m value)) refl refl
-      (stored_same m rows can.extends can.can.sound (slice_get m.code.now.tables.stores.items n) place value g.0) r (did g.0 g.1)) given
+      (stored_by m.memory.rows (slice_get m.image.code.now.tables.stores.items n) (pointer_of (given_by m place)) (given_by m value)) refl refl
+      (stored_same m rows can.extends can.can.sound (slice_get m.image.code.now.tables.stores.items n) place value g.0) r (did g.0 g.1)) given
 
   pub fill_performs : (a : Act) (object : Operand) (n : ℕ) (r : Result Outcome Fault) → a ≡ act.Fill object n → AreGiven m who a
       → (IsGiven m object
-      → Effects m new (filled_from m.memory.rows (slice_get m.code.now.tables.constants.items n) (pointer_of (given_by m object))) r)
+      → Effects m new (filled_from m.memory.rows (slice_get m.image.code.now.tables.constants.items n) (pointer_of (given_by m object))) r)
       → Performs rows m new who a r
   fill_performs a object n r is given did =
       subst (λ (b : Act). AreGiven m who b → Performs rows m new who b r) (sym is)
       (λ (g : AreGiven m who (act.Fill object n)). effect_performs (act.Fill object n)
-      (filled_from m.memory.rows (slice_get m.code.now.tables.constants.items n) (pointer_of (given_by m object))) refl refl
-      (filled_same m rows can.extends can.can.sound (slice_get m.code.now.tables.constants.items n) object
-      (held_where m (slice_get m.code.now.tables.constants.items n) can.tables
-      (all_at (λ (cs : Bor (List Constant)). All (λ c. ContentIsLawful m.program.now c.content) cs.now) m.code.now.tables.constants.items n can.constants)) g)
+      (filled_from m.memory.rows (slice_get m.image.code.now.tables.constants.items n) (pointer_of (given_by m object))) refl refl
+      (filled_same m rows can.extends can.can.sound (slice_get m.image.code.now.tables.constants.items n) object
+      (held_where m (slice_get m.image.code.now.tables.constants.items n) can.tables
+      (all_at (λ (cs : Bor (List Constant)). All (λ c. ContentIsLawful m.program.now c.content) cs.now) m.image.code.now.tables.constants.items n
+      can.constants)) g)
       r (did g)) given
 
 -- ---- values

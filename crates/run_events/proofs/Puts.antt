@@ -29,16 +29,16 @@ use Rattle.run_events.proofs.Stored.{each_at}
 use Rattle.run_answers.proofs.Worlds.{in_rows, known_in}
 
 module _ (m : Machine) (number : ℕ) (s : StoreCode) (via : Via) (p : Pointer) (v : Kept_value) (new : Kept)
-    (store_there : slice_get m.code.now.tables.stores.items number ≡ Some s) (via_there : slice_get m.vias.items number ≡ Some via) where
+    (store_there : slice_get m.image.code.now.tables.stores.items number ≡ Some s) (via_there : slice_get m.image.vias.items number ≡ Some via) where
   is_via : StandsTables m → IsVia m.memory s via
-  is_via tables = each_at (IsVia m.memory) m.code.now.tables.stores.items m.vias.items number s via tables.vias store_there via_there
+  is_via tables = each_at (IsVia m.memory) m.image.code.now.tables.stores.items m.image.vias.items number s via tables.vias store_there via_there
 
   pub put_keeps : IsSound m.memory → StandsTables m → IsOf m.memory v
       → (IsNumbered (length m.memory.types) via → IsSound m.memory → IsOf m.memory v → Keeps m.memory new) → Keeps m.memory new
   put_keeps sound tables of keeps = keeps (is_via tables).1 sound of
 
   module _ (rows : List Row) (t : List Item) (can : CanPut rows m p v) where
-    script_is : run rows (stored_by rows (slice_get m.code.now.tables.stores.items number) (pointer_at p) (value_in m.memory v)) (store_in m)
+    script_is : run rows (stored_by rows (slice_get m.image.code.now.tables.stores.items number) (pointer_at p) (value_in m.memory v)) (store_in m)
         ≡ run m.memory.rows (put m.memory.rows s.initializing s.access (type_of s.ty.now) (pointer_at p) (value_in m.memory v)) (store_in m)
     script_is =
         ap (λ (o : Option StoreCode). run rows (stored_by rows o (pointer_at p) (value_in m.memory v)) (store_in m)) store_there
@@ -55,6 +55,6 @@ module _ (m : Machine) (number : ℕ) (s : StoreCode) (via : Via) (p : Pointer) 
         → IfErr r (λ c. CanStore m.memory p v → (ty : CType) → SeesAs m.memory via s.access ty → (io : Io)
         → run m.memory.rows (put m.memory.rows s.initializing s.access ty (pointer_at p) (value_in m.memory v)) (store_of m.memory io) ≡ Raised c)
         → Puts rows m (record m { memory = new; spare = t })
-        (stored_by rows (slice_get m.code.now.tables.stores.items number) (pointer_at p) (value_in m.memory v)) (Ok r)
+        (stored_by rows (slice_get m.image.code.now.tables.stores.items number) (pointer_at p) (value_in m.memory v)) (Ok r)
     put_does (Ok u) done raised = script_is ∙ done can_store (type_of s.ty.now) (is_via can.tables).0 m.streams
     put_does (Err c) done raised = script_is ∙ raised can_store (type_of s.ty.now) (is_via can.tables).0 m.streams

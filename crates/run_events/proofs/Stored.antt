@@ -66,8 +66,8 @@ room_copy v h n xs there e = let t : Some v ≡ Some h = sym there ∙ e in cc
 
 -- ---- a store
 module _ (m : Machine) (number : ℕ) (s : StoreCode) (via : Via) (p : Pointer) (v : Kept_value) (o : Operand) (new : Kept) (t : List Item)
-    (can : CanAct m) (tables : StandsTables m) (store_there : slice_get m.code.now.tables.stores.items number ≡ Some s)
-    (via_there : slice_get m.vias.items number ≡ Some via) (made : IsMade m.memory p.prov) (given : IsGiven m o)
+    (can : CanAct m) (tables : StandsTables m) (store_there : slice_get m.image.code.now.tables.stores.items number ≡ Some s)
+    (via_there : slice_get m.image.vias.items number ≡ Some via) (made : IsMade m.memory p.prov) (given : IsGiven m o)
     (same : (h : Kept_value) → operand_in m o ≡ Some h → v ≡ h) where
   value_is : value_in m.memory v ≡ given_by m o
   value_is = given_copy m o v same given
@@ -76,7 +76,7 @@ module _ (m : Machine) (number : ℕ) (s : StoreCode) (via : Via) (p : Pointer) 
   value_of = copy_of m o v same given
 
   is_via : IsVia m.memory s via
-  is_via = each_at (IsVia m.memory) m.code.now.tables.stores.items m.vias.items number s via tables.vias store_there via_there
+  is_via = each_at (IsVia m.memory) m.image.code.now.tables.stores.items m.image.vias.items number s via tables.vias store_there via_there
 
   can_store : CanStore m.memory p v
   can_store = record { cell = cell_of m.memory p.prov made; named = can.sound.named; made = value_of.made }
@@ -84,7 +84,7 @@ module _ (m : Machine) (number : ℕ) (s : StoreCode) (via : Via) (p : Pointer) 
   abbrev script : Script Value
   script = put m.memory.rows s.initializing s.access (type_of s.ty.now) (pointer_at p) (value_in m.memory v)
 
-  script_is : run m.memory.rows (stored_by m.memory.rows (slice_get m.code.now.tables.stores.items number) (pointer_at p) (given_by m o)) (store_in m)
+  script_is : run m.memory.rows (stored_by m.memory.rows (slice_get m.image.code.now.tables.stores.items number) (pointer_at p) (given_by m o)) (store_in m)
       ≡ run m.memory.rows script (store_in m)
   script_is =
       ap (λ (so : Option StoreCode). run m.memory.rows (stored_by m.memory.rows so (pointer_at p) (given_by m o)) (store_in m)) store_there
@@ -95,17 +95,17 @@ module _ (m : Machine) (number : ℕ) (s : StoreCode) (via : Via) (p : Pointer) 
       ≡ Done Nothing t (store_of new io))
       → (IsNumbered (length m.memory.types) via → IsSound m.memory → IsOf m.memory v → Keeps m.memory new)
       → Effects m (record m { memory = new; items = t })
-      (stored_by m.memory.rows (slice_get m.code.now.tables.stores.items number) (pointer_at p) (given_by m o)) (Ok outcome.Done)
+      (stored_by m.memory.rows (slice_get m.image.code.now.tables.stores.items number) (pointer_at p) (given_by m o)) (Ok outcome.Done)
   store_done exact keeps =
       (script_is ∙ exact can_store (type_of s.ty.now) is_via.0 m.streams, keeps is_via.1 can.sound value_of)
 
   pub store_raised : (c : Clause) (e : Fault) (end : Machine) → e ≡ fault.Raise c → (CanStore m.memory p v → (ty : CType)
       → SeesAs m.memory via s.access ty → (io : Io)
       → run m.memory.rows (put m.memory.rows s.initializing s.access ty (pointer_at p) (value_in m.memory v)) (store_of m.memory io) ≡ Raised c)
-      → Effects m end (stored_by m.memory.rows (slice_get m.code.now.tables.stores.items number) (pointer_at p) (given_by m o)) (Err e)
+      → Effects m end (stored_by m.memory.rows (slice_get m.image.code.now.tables.stores.items number) (pointer_at p) (given_by m o)) (Err e)
   store_raised c e end is raised =
       subst (λ (f : Fault). Effects m end
-      (stored_by m.memory.rows (slice_get m.code.now.tables.stores.items number) (pointer_at p) (given_by m o)) (Err f)) (sym is)
+      (stored_by m.memory.rows (slice_get m.image.code.now.tables.stores.items number) (pointer_at p) (given_by m o)) (Err f)) (sym is)
       (script_is ∙ raised can_store (type_of s.ty.now) is_via.0 m.streams)
 
   pub store_rows : (r : Result Outcome Fault) → (IsNumbered (length m.memory.types) via → IsSound m.memory → IsOf m.memory v → Keeps m.memory new)
@@ -123,18 +123,18 @@ stored_at old new s place value p r is given does =
 
 -- ---- an initialization
 module _ (m : Machine) (number : ℕ) (fs : List Filling) (o : Operand) (p : Pointer) (new : Kept) (t spare : List Item) (can : CanAct m)
-    (tables : StandsTables m) (there : slice_get m.fillings.items number ≡ Some fs) (place : Of m o pointer_of (pointer_at p)) (given : IsGiven m o) where
-  constants : (cs : Bor (List Constant)) × (slice_get m.code.now.tables.constants.items number ≡ Some cs)
-  constants = each_first (AreBytes m.memory) m.code.now.tables.constants.items m.fillings.items number fs tables.fillings there
+    (tables : StandsTables m) (there : slice_get m.image.fillings.items number ≡ Some fs) (place : Of m o pointer_of (pointer_at p)) (given : IsGiven m o) where
+  constants : (cs : Bor (List Constant)) × (slice_get m.image.code.now.tables.constants.items number ≡ Some cs)
+  constants = each_first (AreBytes m.memory) m.image.code.now.tables.constants.items m.image.fillings.items number fs tables.fillings there
 
   are_bytes : AreBytes m.memory constants.0 fs
   are_bytes =
-      each_at (AreBytes m.memory) m.code.now.tables.constants.items m.fillings.items number constants.0 fs tables.fillings constants.1 there
+      each_at (AreBytes m.memory) m.image.code.now.tables.constants.items m.image.fillings.items number constants.0 fs tables.fillings constants.1 there
 
   object_made : IsMade m.memory p.prov
   object_made = pointer_made m o p place given
 
-  filling_is : run m.memory.rows (filled_from m.memory.rows (slice_get m.code.now.tables.constants.items number) (pointer_of (given_by m o))) (store_in m)
+  filling_is : run m.memory.rows (filled_from m.memory.rows (slice_get m.image.code.now.tables.constants.items number) (pointer_of (given_by m o))) (store_in m)
       ≡ run m.memory.rows (fill m.memory.rows (pointer_at p) (map filled_by constants.0.now)) (store_in m)
   filling_is =
       ap (λ (cs : Option (Bor (List Constant))). run m.memory.rows (filled_from m.memory.rows cs (pointer_of (given_by m o))) (store_in m)) constants.1
@@ -145,21 +145,21 @@ module _ (m : Machine) (number : ℕ) (fs : List Filling) (o : Operand) (p : Poi
       → run m.memory.rows (fill m.memory.rows (pointer_at p) cs) (store_of m.memory io) ≡ Done Nothing t (store_of new io))
       → (AreOf m.memory fs → Keeps m.memory new)
       → Effects m (record m { memory = new; items = t; spare = spare })
-      (filled_from m.memory.rows (slice_get m.code.now.tables.constants.items number) (pointer_of (given_by m o))) (Ok outcome.Done)
+      (filled_from m.memory.rows (slice_get m.image.code.now.tables.constants.items number) (pointer_of (given_by m o))) (Ok outcome.Done)
   fill_done exact keeps =
       (filling_is ∙ exact object_made (map filled_by constants.0.now) are_bytes.0 m.streams, keeps are_bytes.1)
 
   pub fill_failed : (f : MemFault) (e : Fault) (end : Machine) → e ≡ fault_of f → IfRaise f (λ c. IsMade m.memory p.prov → (cs : List Filled)
       → AreFillings m.memory fs cs → (io : Io)
       → run m.memory.rows (fill m.memory.rows (pointer_at p) cs) (store_of m.memory io) ≡ Raised c)
-      → Effects m end (filled_from m.memory.rows (slice_get m.code.now.tables.constants.items number) (pointer_of (given_by m o))) (Err e)
+      → Effects m end (filled_from m.memory.rows (slice_get m.image.code.now.tables.constants.items number) (pointer_of (given_by m o))) (Err e)
   fill_failed (faults.Raise c) e end is raised =
       subst (λ (f : Fault). Effects m end
-      (filled_from m.memory.rows (slice_get m.code.now.tables.constants.items number) (pointer_of (given_by m o))) (Err f)) (sym is)
+      (filled_from m.memory.rows (slice_get m.image.code.now.tables.constants.items number) (pointer_of (given_by m o))) (Err f)) (sym is)
       (filling_is ∙ raised object_made (map filled_by constants.0.now) are_bytes.0 m.streams)
   fill_failed faults.NoMemory e end is raised =
       subst (λ (f : Fault). Effects m end
-      (filled_from m.memory.rows (slice_get m.code.now.tables.constants.items number) (pointer_of (given_by m o))) (Err f)) (sym is) tt
+      (filled_from m.memory.rows (slice_get m.image.code.now.tables.constants.items number) (pointer_of (given_by m o))) (Err f)) (sym is) tt
 
   pub fill_rows : (r : Result Outcome Fault) → (AreOf m.memory fs → Keeps m.memory new) → OnErr r (RowsStay m.memory.rows new.rows)
   fill_rows r keeps = rows_kept r m.memory new (keeps are_bytes.1)

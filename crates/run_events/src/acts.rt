@@ -36,9 +36,9 @@ use run_acts::{
 };
 use run_answers::{Fault, Outcome};
 use run_layout::{Act, Operand, StoreCode};
-use run_state::Machine;
+use run_state::{Image, Machine};
 use run_values::{Filling, Pointer};
-use ub_base::{Clause, Event, Items, NoMemory};
+use ub_base::{Clause, Event, NoMemory};
 
 fn number(value: bool) -> Value
     ensures seen { (m : Kept) → value_in m result ≡ bool_value value }
@@ -50,7 +50,7 @@ fn number(value: bool) -> Value
 /// Does the act of an event of the top frame's full expression: it touches what the pick touches, and a value goes to the room of the node.
 #[inline(always)]
 pub fn perform(machine: &mut Machine, act: &Act, event: Event) -> Result<Outcome, Fault>
-    requires named { IsNamed machine.old.code.now.tables act.now }
+    requires named { IsNamed machine.old.image.code.now.tables act.now }
     ensures exact { (rows : List Row) → CanPerform rows machine.old → AreGiven machine.old event act.now → is_body_act act.now ≡ false →
         Performs rows machine.old machine.new event act.now result }
     ensures changes { is_body_act act.now ≡ false → ChangesOnly machine.old machine.new event.node act.now }
@@ -78,11 +78,11 @@ pub fn perform(machine: &mut Machine, act: &Act, event: Event) -> Result<Outcome
 // The body of the call of this number.
 #[inline(never)]
 fn call_of(machine: &mut Machine, number: u32, event: Event) -> Result<Outcome, Fault>
-    requires there { number < length machine.old.code.now.tables.calls.items }
+    requires there { number < length machine.old.image.code.now.tables.calls.items }
     ensures calls { CallsNumbered number machine.old event machine.new result }
     ensures streams { OnErr result (machine.new.streams ≡ machine.old.streams) }
 {
-    let code = machine.code;
+    let code = machine.image.code;
     call(machine, &code.tables.calls[number as usize], event)
 }
 
@@ -671,14 +671,24 @@ fn answered(machine: &mut Machine, discarded: bool, event: Event) -> Result<Outc
 }
 
 // How the store of this number accesses memory.
-fn target_of<'p>(machine: &Machine<'p, '_>, number: u32) -> Result<(StoreCode<'p>, Via), NoMemory>
-    ensures store { IfOk result (λ t. slice_get machine.now.code.now.tables.stores.items number ≡ Some t.0) }
-    ensures via { IfOk result (λ t. slice_get machine.now.vias.items number ≡ Some t.1) }
+fn target_of<'p>(machine: &Machine<'p, '_>, number: u32) -> (StoreCode<'p>, Via)
+    requires there { number < length machine.now.image.code.now.tables.stores.items }
+    ensures store { slice_get machine.now.image.code.now.tables.stores.items number ≡ Some result.0 }
+    ensures via { slice_get machine.now.image.vias.items number ≡ Some result.1 }
 {
     let at = number as usize;
-    match (machine.code.tables.stores.get(at), machine.vias.get(at)) {
-        (Some(target), Some(via)) => Ok((*target, *via)),
-        _ => Err(NoMemory),
+    (machine.image.code.tables.stores[at], machine.image.vias[at])
+}
+
+// The same of a number that may be none of a store.
+fn target_at<'p>(machine: &Machine<'p, '_>, number: u32) -> Result<(StoreCode<'p>, Via), NoMemory>
+    ensures store { IfOk result (λ t. slice_get machine.now.image.code.now.tables.stores.items number ≡ Some t.0) }
+    ensures via { IfOk result (λ t. slice_get machine.now.image.vias.items number ≡ Some t.1) }
+{
+    let at = number as usize;
+    match machine.image.code.tables.stores.get(at) {
+        Some(target) => Ok((*target, machine.image.vias[at])),
+        None => Err(NoMemory),
     }
 }
 
@@ -699,8 +709,9 @@ fn store_value(
     place: &Operand,
     value: &Operand,
 ) -> Result<Outcome, Fault>
+    requires there { number < length machine.old.image.code.now.tables.stores.items }
     ensures exact { CanAct machine.old → StandsTables machine.old → IsGiven machine.old place.now → IsGiven machine.old value.now →
-        Effects machine.old machine.new (stored_by machine.old.memory.rows (slice_get machine.old.code.now.tables.stores.items number)
+        Effects machine.old machine.new (stored_by machine.old.memory.rows (slice_get machine.old.image.code.now.tables.stores.items number)
         (model.pointer_of (given_by machine.old place.now)) (given_by machine.old value.now)) result }
     ensures rest { TouchesMemory machine.old machine.new }
     ensures rows { CanAct machine.old → StandsTables machine.old → IsGiven machine.old place.now → IsGiven machine.old value.now →
@@ -721,14 +732,15 @@ fn store_room(
     place: Pointer,
     room: u32,
 ) -> Result<Outcome, Fault>
+    requires there { number < length machine.old.image.code.now.tables.stores.items }
     ensures exact { CanAct machine.old → StandsTables machine.old → IsMade machine.old.memory place.prov → IsGiven machine.old (operands.Done room) →
-        Effects machine.old machine.new (stored_by machine.old.memory.rows (slice_get machine.old.code.now.tables.stores.items number) (pointer_at place)
+        Effects machine.old machine.new (stored_by machine.old.memory.rows (slice_get machine.old.image.code.now.tables.stores.items number) (pointer_at place)
         (given_by machine.old (operands.Done room))) result }
     ensures rest { TouchesMemory machine.old machine.new }
     ensures rows { CanAct machine.old → StandsTables machine.old → IsMade machine.old.memory place.prov → IsGiven machine.old (operands.Done room) →
         OnErr result (RowsStay machine.old.memory.rows machine.new.memory.rows) }
 {
-    let found = target_of(machine, number)?;
+    let found = target_of(machine, number);
     let (target, via) = found;
     let value = in_room(&machine.values, machine.top.base, room)?;
     let (access, initializing) = (target.access, target.initializing);
@@ -753,14 +765,15 @@ fn store_quiet(
     place: Pointer,
     value: &Operand,
 ) -> Result<Outcome, Fault>
+    requires there { number < length machine.old.image.code.now.tables.stores.items }
     ensures exact { CanAct machine.old → StandsTables machine.old → IsMade machine.old.memory place.prov → IsGiven machine.old value.now →
-        Effects machine.old machine.new (stored_by machine.old.memory.rows (slice_get machine.old.code.now.tables.stores.items number) (pointer_at place)
+        Effects machine.old machine.new (stored_by machine.old.memory.rows (slice_get machine.old.image.code.now.tables.stores.items number) (pointer_at place)
         (given_by machine.old value.now)) result }
     ensures rest { TouchesMemory machine.old machine.new }
     ensures rows { CanAct machine.old → StandsTables machine.old → IsMade machine.old.memory place.prov → IsGiven machine.old value.now →
         OnErr result (RowsStay machine.old.memory.rows machine.new.memory.rows) }
 {
-    let found = target_of(machine, number)?;
+    let found = target_of(machine, number);
     let (target, via) = found;
     let value = machine.value(*value)?;
     let (access, initializing) = (target.access, target.initializing);
@@ -786,12 +799,12 @@ pub fn put_at(
     value: &Value,
 ) -> Result<Result<(), Clause>, NoMemory>
     ensures exact { (rows : List Row) → CanPut rows machine.old place value.now → Puts rows machine.old machine.new
-        (stored_by rows (slice_get machine.old.code.now.tables.stores.items number) (pointer_at place) (value_in machine.old.memory value.now)) result }
+        (stored_by rows (slice_get machine.old.image.code.now.tables.stores.items number) (pointer_at place) (value_in machine.old.memory value.now)) result }
     ensures kept { IsSound machine.old.memory → StandsTables machine.old → IsOf machine.old.memory value.now → Keeps machine.old.memory machine.new.memory }
     ensures rest { TouchesSpare machine.old machine.new }
     ensures work { machine.new.work ≡ machine.old.work }
 {
-    let found = target_of(machine, number)?;
+    let found = target_at(machine, number)?;
     let (target, via) = found;
     let (access, initializing) = (target.access, target.initializing);
     let t = &mut machine.spare;
@@ -807,27 +820,26 @@ pub fn put_at(
 }
 
 // The constant bytes of this number.
-fn fillings_of(fillings: &Vec<Items<Filling>>, number: u32) -> Result<&[Filling], NoMemory>
-    ensures { IfOk result (λ fs. slice_get fillings.now.items number ≡ Some fs.now) }
+fn fillings_of<'m>(image: &'m Image, number: u32) -> &'m [Filling]
+    requires there { number < length image.now.code.now.tables.constants.items }
+    ensures { slice_get image.now.fillings.items number ≡ Some result.now }
 {
-    match fillings.get(number as usize) {
-        Some(filling) => Ok(filling.as_slice()),
-        None => Err(NoMemory),
-    }
+    image.fillings[number as usize].as_slice()
 }
 
 // The effect of a List: its constant bytes go to its object.
 #[inline(never)]
 fn fill_list(machine: &mut Machine, object: &Operand, constants: u32) -> Result<Outcome, Fault>
+    requires there { constants < length machine.old.image.code.now.tables.constants.items }
     ensures exact { CanAct machine.old → StandsTables machine.old → IsGiven machine.old object.now →
-        Effects machine.old machine.new (filled_from machine.old.memory.rows (slice_get machine.old.code.now.tables.constants.items constants)
+        Effects machine.old machine.new (filled_from machine.old.memory.rows (slice_get machine.old.image.code.now.tables.constants.items constants)
         (model.pointer_of (given_by machine.old object.now))) result }
     ensures rest { TouchesMemory machine.old machine.new }
     ensures rows { CanAct machine.old → StandsTables machine.old → IsGiven machine.old object.now →
         OnErr result (RowsStay machine.old.memory.rows machine.new.memory.rows) }
 {
     let object = machine.pointer(*object);
-    let fillings = fillings_of(&machine.fillings, constants)?;
+    let fillings = fillings_of(&machine.image, constants);
     let (t, spare) = (&mut machine.items, &mut machine.spare);
     fill(&mut machine.memory, fillings, object, t, spare)?;
     Ok(Outcome::Done)

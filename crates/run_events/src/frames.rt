@@ -1,5 +1,5 @@
 // The bodies of calls, and the frames that they start.
-ghost use Rattle.std.specs.Prelude.{◌≡◌, false, OnErr, OnOk, IfOk, Some, slice_get};
+ghost use Rattle.std.specs.Prelude.{◌≡◌, ◌<◌, false, length, OnErr, OnOk, IfOk, Some, slice_get};
 ghost use Rattle.c_model.specs.Values.{function_in};
 ghost use Rattle.libc_arguments.specs.Answers.{gives_value};
 ghost use Rattle.prov_memory.specs.Memory.{Kept};
@@ -59,12 +59,10 @@ fn designated(machine: &Machine, designator: Operand) -> u64
 
 // Which function of the library the function of this number is, where it is one.
 fn library_of(program: &Program, number: u32) -> Option<LibFunc>
+    requires there { number < length program.now.functions }
     ensures { result ≡ library_in (slice_get program.now.functions number) }
 {
-    match program.functions.as_slice().get(number as usize) {
-        Some(function) => function.library,
-        None => None,
-    }
+    program.functions.as_slice()[number as usize].library
 }
 
 // The values of a call's arguments.
@@ -173,9 +171,9 @@ fn pass_arguments(machine: &mut Machine, operands: &[Operand], room: usize) -> R
 }
 
 fn function_code<'c>(machine: &Machine<'_, 'c>, function: u32) -> Result<&'c FunctionCode, NoMemory>
-    ensures { IfOk result (λ f. slice_get machine.now.code.now.functions.items function ≡ Some (Some f.now)) }
+    ensures { IfOk result (λ f. slice_get machine.now.image.code.now.functions.items function ≡ Some (Some f.now)) }
 {
-    let code = machine.code;
+    let code = machine.image.code;
     match code.functions.get(function as usize) {
         Some(Some(function)) => Ok(function),
         _ => Err(NoMemory),

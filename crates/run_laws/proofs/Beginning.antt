@@ -50,8 +50,9 @@ none_closed : (world : World) (f : Scene) (e : Begun) → ((u : Place) → e.giv
 none_closed world f e none v is = absurd (let no = ap is_some (none v) in cc)
 
 module _ (keeps : KeepsAtBegin) (known : OpenIsKnown) (world : World) (meaning : Option ℕ → Meaning) (m : Machine) (st : State) (e : Begun) (s : Stage)
-    (laid : Laid) (firsts : List ℕ) (nodes : List NodeInfo) (b : HasJustBegun world meaning m st e s laid) (code : IsLawfulCode m.program.now m.code.now)
-    (lays : LaidOutBy firsts nodes m.code.now.tables m.code.now.listing.items laid) (names : NamesAreOpen m firsts st.top.scene.blocks laid.root.now)
+    (laid : Laid) (firsts : List ℕ) (nodes : List NodeInfo) (b : HasJustBegun world meaning m st e s laid) (code : IsLawfulCode m.program.now m.image.code.now)
+    (lays : LaidOutBy firsts nodes m.image.code.now.tables m.image.code.now.listing.items laid)
+    (names : NamesAreOpen m firsts st.top.scene.blocks laid.root.now)
     (addresses : AreAddresses world.rows) where
   abbrev f : Scene
   f = st.top.scene
@@ -83,13 +84,13 @@ module _ (keeps : KeepsAtBegin) (known : OpenIsKnown) (world : World) (meaning :
   formed : is_formed (tree_of e.root) ≡ true
   formed =
       ap is_formed (ap tree_of root_is ∙ same_tree laid.root.now)
-      ∙ (each_at (HasListing m.code.now.listing.items) m.code.now.expressions.items s.expression laid b.has.at b.stands.listed).formed
+      ∙ (each_at (HasListing m.image.code.now.listing.items) m.image.code.now.expressions.items s.expression laid b.has.at b.stands.listed).formed
 
   -- what is kept of choices is so by the definitions
   pub kept : (x : Shown) → top_of m ≡ Some x → IsKept world f e (taken_in x.taken)
   kept x top =
-      let at_once = keeps world f firsts nodes m.code.now.tables m.code.now.listing.items laid e lays views formed b.given in
-      let cs = part_of m.code.now.tables.chosen.items laid.chosen in
+      let at_once = keeps world f firsts nodes m.image.code.now.tables m.image.code.now.listing.items laid e lays views formed b.given in
+      let cs = part_of m.image.code.now.tables.chosen.items laid.chosen in
       let start : taken_in [] ≡ (λ k. None) = (λ i k. None) in
       let made : taken_in x.taken ≡ with_chosen cs (λ k. None) = (λ i k. (b.has.chosen x top k ∙ ap (λ t. with_chosen cs t k) start) i) in
       subst (IsKept world f e) (sym made) at_once

@@ -240,8 +240,8 @@ module _ (calls : CallTakesGiven) (named : OpenIsNamed) (world : World) (meaning
   code_is places =
       let due = due_is world meaning m st e s laid firsts nodes o d b.node is b.there in
       let seen = sight_of firsts (length nodes) d.place.node b.node in
-      let does = subst (λ (q : Kind). IsAct firsts m.code.now.tables b.node.initializer (shape.Call b.discarded) seen q d.act) b.body
-      (subst (λ (h : sites.Head). IsAct firsts m.code.now.tables b.node.initializer h seen d.place.kind d.act)
+      let does = subst (λ (q : Kind). IsAct firsts m.image.code.now.tables b.node.initializer (shape.Call b.discarded) seen q d.act) b.body
+      (subst (λ (h : sites.Head). IsAct firsts m.image.code.now.tables b.node.initializer h seen d.place.kind d.act)
       (head_is t ∙ ap (λ (z : Node-F Node Typed). sites.head_of z) b.call) due.does) in
       let call = does.1 in
       let by = does.3 in

@@ -169,26 +169,26 @@ module _ (world : World) (meaning : Option ℕ → Meaning) (m : Machine) (st : 
   end_small =
       let within = o.lays.within in
       let end = end_is in
-      omega (arith, within, end, m.code.now.listing.ok.0)
+      omega (arith, within, end, m.image.code.now.listing.ok.0)
 
   pub values_are : StandsValues world m m.top.base laid.first laid.end f e
   values_are = subst (λ (z : Laid). StandsValues world m m.top.base z.first z.end f e) same_laid expression.values
 
   -- an event that is listed of it
-  pub listed_is : (d : Due) → IsListed (whole_part m s) d → IsListedAt m.code.now.listing.items laid d
+  pub listed_is : (d : Due) → IsListed (whole_part m s) d → IsListedAt m.image.code.now.listing.items laid d
   listed_is d is =
-      let part = part_same m.code.now.listing.items s.first laid.first s.end laid.end first_is end_is in
-      let there = listed_at m.code.now.listing.items laid.first laid.end is.0 d (ap (λ es. slice_get es is.0) (sym part) ∙ is.1) in
+      let part = part_same m.image.code.now.listing.items s.first laid.first s.end laid.end first_is end_is in
+      let there = listed_at m.image.code.now.listing.items laid.first laid.end is.0 d (ap (λ es. slice_get es is.0) (sym part) ∙ is.1) in
       record { at = laid.first + is.0; first = omega arith; end = there.0; entry = there.1 }
 
-  pub entry_is : (d : Due) → IsListed (whole_part m s) d → IsEntry firsts m.code.now.tables nodes (listed.Event d)
+  pub entry_is : (d : Due) → IsListed (whole_part m s) d → IsEntry firsts m.image.code.now.tables nodes (listed.Event d)
   entry_is d is = let there = listed_is d is in o.lays.each there.at (listed.Event d) there.first there.end there.entry
 
   pub due_is : (d : Due) (x : NodeInfo) → IsListed (whole_part m s) d → slice_get nodes d.place.node ≡ Some x
-      → IsDue firsts m.code.now.tables (length nodes) d x
+      → IsDue firsts m.image.code.now.tables (length nodes) d x
   due_is d x is at =
       let entry = entry_is d is in
-      subst (λ (z : NodeInfo). IsDue firsts m.code.now.tables (length nodes) d z) (same_Some entry.0 x (sym entry.1 ∙ at)) entry.2
+      subst (λ (z : NodeInfo). IsDue firsts m.image.code.now.tables (length nodes) d z) (same_Some entry.0 x (sym entry.1 ∙ at)) entry.2
 
   module _ (stage : Option Stage) (items : List Item) where
     abbrev n : Machine
@@ -226,7 +226,7 @@ module _ (world : World) (meaning : Option ℕ → Meaning) (m : Machine) (st : 
         → MayPick world st.top (Some e) (Ev d.place) → is_body d.place.kind ≡ false → slice_get nodes d.place.node ≡ Some x
         → TakesGiven world n f e firsts (length nodes) d.place x
     given_of permitted named near d x is may plain at =
-        let part = part_same m.code.now.listing.items s.first laid.first s.end laid.end first_is end_is in
+        let part = part_same m.image.code.now.listing.items s.first laid.first s.end laid.end first_is end_is in
         permitted world n f e firsts laid.root.now nodes d x laid.first laid.end is.0 objects
         (values_aside world m stage items laid.first laid.end f e values_are) root_is o.lays.numbered at (due_is d x is at)
         (ap (λ es. slice_get es is.0) (sym part) ∙ is.1) may plain (node_stands named d.place.node x at)
@@ -234,7 +234,7 @@ module _ (world : World) (meaning : Option ℕ → Meaning) (m : Machine) (st : 
         o.lays.numbered at o.ends o.small)
 
     -- ---- it can be taken
-    pub event_is : OpenIsKnown → EventsAreEvaluated → (d : Due) → IsListed (whole_part m s) d → IsEventOf world m.code.now f laid e d
+    pub event_is : OpenIsKnown → EventsAreEvaluated → (d : Due) → IsListed (whole_part m s) d → IsEventOf world m.image.code.now f laid e d
     event_is known evaluated d is =
         let there = listed_is d is in
         record {
@@ -246,7 +246,7 @@ module _ (world : World) (meaning : Option ℕ → Meaning) (m : Machine) (st : 
           first = there.first;
           end = there.end;
           entry = there.entry;
-          quiet = λ x at. evaluated m.code.now firsts nodes s.expression laid d x o.stood.stands.listed o.at o.lays there at;
+          quiet = λ x at. evaluated m.image.code.now firsts nodes s.expression laid d x o.stood.stands.listed o.at o.lays there at;
         }
 
 -- ---- its rooms
@@ -254,11 +254,11 @@ pub has_rooms : CodeHasRooms → (world : World) (meaning : Option ℕ → Meani
     (nodes : List NodeInfo) → IsOpen world meaning m st e s laid firsts nodes → HasRooms (whole_part m s) m.top.rooms e
 has_rooms rooms world meaning m st e s laid firsts nodes o =
     let part =
-    part_same m.code.now.listing.items s.first laid.first s.end laid.end (first_is world meaning m st e s laid firsts nodes o)
+    part_same m.image.code.now.listing.items s.first laid.first s.end laid.end (first_is world meaning m st e s laid firsts nodes o)
     (end_is world meaning m st e s laid firsts nodes o) in
     subst (λ es. HasRooms es m.top.rooms e) (sym part)
-    (subst (λ (n : ℕ). HasRooms (listing_in m.code.now.listing.items laid) n e) (sym (rooms_is world meaning m st e s laid firsts nodes o))
-    (rooms m.code.now firsts nodes s.expression laid e o.stood.stands.listed o.at o.lays
+    (subst (λ (n : ℕ). HasRooms (listing_in m.image.code.now.listing.items laid) n e) (sym (rooms_is world meaning m st e s laid firsts nodes o))
+    (rooms m.image.code.now firsts nodes s.expression laid e o.stood.stands.listed o.at o.lays
     (root_is world meaning m st e s laid firsts nodes o)))
 
 -- ---- the next event
@@ -274,7 +274,7 @@ next_listed world meaning m st e s laid firsts nodes o straight next comes =
     let x = expression world meaning m st e s laid firsts nodes o in
     let le = straight_order world m (length m.below.items) x.laid.first s.cursor x.laid.end st.top.scene e s.straight straight x.done in
     let first = x.first in
-    in_whole m.code.now.listing.items s.first s.cursor s.end next.0 next.1.now (omega (arith, le, first)) comes.2.0
+    in_whole m.image.code.now.listing.items s.first s.cursor s.end next.0 next.1.now (omega (arith, le, first)) comes.2.0
 
 -- the machine that has gone on to an event is the one with its cursor there
 pub gone_on : (m now : Machine) (s : Stage) (d : Due) (straight : Bool) → IsAt straight m s d now → (z : Option Stage) × (now ≡ aside m z m.items)
@@ -310,7 +310,7 @@ module _ (laws : Laws) where
       let there = listed_is world meaning m st e s laid firsts nodes o d is in
       laws.acts world (aside m stage items) st.top.scene e firsts laid.root.now nodes d x
       (root_is world meaning m st e s laid firsts nodes o) o.lays.numbered entry.1 entry.2 plain
-      (laws.evaluated m.code.now firsts nodes s.expression laid d x o.stood.stands.listed o.at o.lays there entry.1)
+      (laws.evaluated m.image.code.now firsts nodes s.expression laid d x o.stood.stands.listed o.at o.lays there entry.1)
       (takes_given world meaning m st e s laid firsts nodes stage items d x o is may plain entry.1)
 
   pub can_be_taken : OpenCanBeTaken

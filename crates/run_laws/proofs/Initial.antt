@@ -38,8 +38,8 @@ module _ (world : World) (meaning : Option ℕ → Meaning) (m : Machine) (st : 
   rooms_few : m.top.base + m.top.rooms < 2 ^ 64
   rooms_few = let rooms = o.stood.rooms in omega (arith, rooms, m.values.ok.0)
 
-  pub initializer_is : NumberInitializers m.code.now nodes → (d : Due) → IsListed (whole_part m s) d → IsIsolatedBody nodes d
-      → IsInitializer m.code.now e d
+  pub initializer_is : NumberInitializers m.image.code.now nodes → (d : Due) → IsListed (whole_part m s) d → IsIsolatedBody nodes d
+      → IsInitializer m.image.code.now e d
   initializer_is numbered d is b =
       let x = b.node in
       let t = x.tree.now in
@@ -48,8 +48,8 @@ module _ (world : World) (meaning : Option ℕ → Meaning) (m : Machine) (st : 
       let seen = sight_of firsts _ d.place.node x in
       record {
         number = x.initializer;
-        act = subst (λ (k : Kind). IsAct firsts m.code.now.tables x.initializer (shape.Isolated tt) seen k d.act) b.body
-            (subst (λ (h : sites.Head). IsAct firsts m.code.now.tables x.initializer h seen d.place.kind d.act)
+        act = subst (λ (k : Kind). IsAct firsts m.image.code.now.tables x.initializer (shape.Isolated tt) seen k d.act) b.body
+            (subst (λ (h : sites.Head). IsAct firsts m.image.code.now.tables x.initializer h seen d.place.kind d.act)
             (head_is t ∙ ap (λ (z : Node-F Node Typed). sites.head_of z) b.isolated) due.does);
         body = b.body;
         tree = expr_of b.tree;

@@ -81,8 +81,8 @@ kept_by old new w is keeps = is ∙ keeps ∙ ap (keep_of old) (sym is)
 moved_top : {old new : Machine} {s : Stage} (m : MovesOn old s new) → new.top ≡ record old.top { stage = Some (record s { cursor = m.cursor }) }
 moved_top m = ap (λ (k : Machine). k.top) m.rest
 
-moved_code : {old new : Machine} {s : Stage} → MovesOn old s new → new.code.now ≡ old.code.now
-moved_code m = ap (λ (k : Machine). k.code.now) m.rest
+moved_code : {old new : Machine} {s : Stage} → MovesOn old s new → new.image.code.now ≡ old.image.code.now
+moved_code m = ap (λ (k : Machine). k.image.code.now) m.rest
 
 moved_program : {old new : Machine} {s : Stage} → MovesOn old s new → new.program.now ≡ old.program.now
 moved_program m = ap (λ (k : Machine). k.program.now) m.rest
@@ -159,7 +159,7 @@ record TestGives (tables : Tables) (m : Machine) (number : ℕ) : Type 0 where
   value : Value
   gives : Gives m choice.test value
 
-decides_same : (o : Option ℕ) (old new : Machine) → ((number : ℕ) → o ≡ Some number → TestGives old.code.now.tables old number)
+decides_same : (o : Option ℕ) (old new : Machine) → ((number : ℕ) → o ≡ Some number → TestGives old.image.code.now.tables old number)
     → Decides o old new → Same old new
 decides_same None old new test d = same_by old new d
 decides_same (Some number) old new test d =
@@ -171,7 +171,7 @@ decides_same (Some number) old new test d =
       values = let same = ap (λ (k : Machine). length k.values.items) has.rest in omega (arith, same);
     }
 
-decides_store : (o : Option ℕ) (old new : Machine) → ((number : ℕ) → o ≡ Some number → TestGives old.code.now.tables old number) → Decides o old new
+decides_store : (o : Option ℕ) (old new : Machine) → ((number : ℕ) → o ≡ Some number → TestGives old.image.code.now.tables old number) → Decides o old new
     → StoreOf new ≡ StoreOf old
 decides_store None old new test d = ap StoreOf d
 decides_store (Some number) old new test d = let t = test number refl in ap StoreOf (d t.choice t.gives.0 t.there t.gives.1).rest
@@ -213,27 +213,28 @@ value_gives (shape.Isolated tree) s a h = ap gives_value h
 value_gives _ s a h = ap gives_value h
 
 -- ---- the names that are open
-module _ (old new : Machine) (code : new.code.now ≡ old.code.now) (blocks : new.top.blocks ≡ old.top.blocks) (firsts : List ℕ) (bs : List (ℕ × ℕ)) where
-  slot_moved : (s : Slot) → SlotIsOpen old firsts bs s → SlotIsOpen new firsts bs s
-  slot_moved (slot.Auto block decl) h = (
-    h.0,
-    ap (λ (k : Code). slice_get k.tables.blocks.items (new.top.blocks + block)) code
-        ∙ (ap (λ (n : ℕ). slice_get old.code.now.tables.blocks.items (n + block)) blocks ∙ h.1),
-    h.2,
-    h.3,
-    h.4,
-    h.5,
-  )
-  slot_moved (slot.Static number) h = tt
+module _ (old new : Machine) (code : new.image.code.now ≡ old.image.code.now) (blocks : new.top.blocks ≡ old.top.blocks) (firsts : List ℕ) (bs : List (ℕ × ℕ))
+  where
+    slot_moved : (s : Slot) → SlotIsOpen old firsts bs s → SlotIsOpen new firsts bs s
+    slot_moved (slot.Auto block decl) h = (
+      h.0,
+      ap (λ (k : Code). slice_get k.tables.blocks.items (new.top.blocks + block)) code
+          ∙ (ap (λ (n : ℕ). slice_get old.image.code.now.tables.blocks.items (n + block)) blocks ∙ h.1),
+      h.2,
+      h.3,
+      h.4,
+      h.5,
+    )
+    slot_moved (slot.Static number) h = tt
 
-  name_moved : (h : Head) → NamedIsOpen old firsts bs h → NamedIsOpen new firsts bs h
-  name_moved (shape.Obj named) is = slot_moved named is
-  name_moved (shape.List named bytes) is = slot_moved named is
-  name_moved _ is = tt
+    name_moved : (h : Head) → NamedIsOpen old firsts bs h → NamedIsOpen new firsts bs h
+    name_moved (shape.Obj named) is = slot_moved named is
+    name_moved (shape.List named bytes) is = slot_moved named is
+    name_moved _ is = tt
 
-  names_moved : (t : Typed) → NamesAreOpen old firsts bs t → NamesAreOpen new firsts bs t
-  names_moved t all =
-      All-weaker (λ s. NamedIsOpen old firsts bs s.head) (λ s. NamedIsOpen new firsts bs s.head) (λ s h. name_moved s.head h) (sites t) all
+    names_moved : (t : Typed) → NamesAreOpen old firsts bs t → NamesAreOpen new firsts bs t
+    names_moved t all =
+        All-weaker (λ s. NamedIsOpen old firsts bs s.head) (λ s. NamedIsOpen new firsts bs s.head) (λ s h. name_moved s.head h) (sites t) all
 
 -- ---- what is small stays so
 small_with : (e : Begun) (u : Place) (v : Value) → AreSmall e.given → IsSmall v → AreSmall (with_given e u v).given
@@ -264,7 +265,7 @@ module _ (gives : RoomGives) (evaluated : EventsAreEvaluated) (world : World) (m
     (s : Stage) (laid : Laid) (firsts : List ℕ) (nodes : List NodeInfo) (d : Due) (v : Value) (o : IsOpen world meaning old st e s laid firsts nodes)
     (t : TakesEvent world meaning old st e s laid d v new) where
   abbrev listing : List Listed
-  listing = old.code.now.listing.items
+  listing = old.image.code.now.listing.items
 
   is_listed : IsListedAt listing laid d
   is_listed = record { at = t.event.at; first = t.event.first; end = t.event.end; entry = t.event.entry }
@@ -277,7 +278,7 @@ module _ (gives : RoomGives) (evaluated : EventsAreEvaluated) (world : World) (m
       (end_is world meaning old st e s laid firsts nodes o) in
       subst (λ es. IsListed es d) (sym part) (in_listing listing laid d is_listed)
 
-  entry : (x : NodeInfo) × (slice_get nodes d.place.node ≡ Some x) × ChoosesAt firsts old.code.now.tables nodes d.place.node x d.place.kind d.choice
+  entry : (x : NodeInfo) × (slice_get nodes d.place.node ≡ Some x) × ChoosesAt firsts old.image.code.now.tables nodes d.place.node x d.place.kind d.choice
   entry = let it = o.lays.each is_listed.at (listed.Event d) is_listed.first is_listed.end is_listed.entry in (it.0, it.1, it.3)
 
   gives_own : d.place.kind ≡ Val → gives_value d.act ≡ true
@@ -286,7 +287,7 @@ module _ (gives : RoomGives) (evaluated : EventsAreEvaluated) (world : World) (m
       let x = it.0 in
       let h = head_at (out-Typed x.tree.now).node in
       let seen = sight_of firsts (length nodes) d.place.node x in
-      value_gives h seen d.act (subst (λ (k : Kind). IsAct firsts old.code.now.tables x.initializer h seen k d.act) is it.2.does)
+      value_gives h seen d.act (subst (λ (k : Kind). IsAct firsts old.image.code.now.tables x.initializer h seen k d.act) is it.2.does)
 
   passes : MovesOn old s t.taken.past
   passes = past_moves s.straight old t.taken.past s d t.stage t.taken.passes
@@ -327,13 +328,13 @@ module _ (gives : RoomGives) (evaluated : EventsAreEvaluated) (world : World) (m
       subst (λ (n : ℕ). Holds t.taken.noted.memory t.taken.noted.values.items (n + d.place.node) v) base
       (noted_values s.straight t.taken.done t.taken.noted d.place (t.taken.past.top.base + d.place.node) v t.taken.notes held)
 
-  tested : (number : ℕ) → d.choice ≡ Some number → TestGives t.taken.noted.code.now.tables t.taken.noted number
+  tested : (number : ℕ) → d.choice ≡ Some number → TestGives t.taken.noted.image.code.now.tables t.taken.noted number
   tested number is =
       let x = entry.0 in
-      let chooses = subst (ChoosesAt firsts old.code.now.tables nodes d.place.node x d.place.kind) is entry.2 in
-      let test = test_at firsts old.code.now.tables nodes d.place.node x d.place.kind number chooses in
+      let chooses = subst (ChoosesAt firsts old.image.code.now.tables nodes d.place.node x d.place.kind) is entry.2 in
+      let test = test_at firsts old.image.code.now.tables nodes d.place.node x d.place.kind number chooses in
       let operand = test.test ∙ (o.lays.numbered.each d.place.node x entry.1).operand in
-      let quiet = evaluated old.code.now firsts nodes s.expression laid d x o.stood.stands.listed o.at o.lays is_listed entry.1 in
+      let quiet = evaluated old.image.code.now firsts nodes s.expression laid d x o.stood.stands.listed o.at o.lays is_listed entry.1 in
       record {
         choice = test.choice;
         there = ap (λ (k : Code). slice_get k.tables.choices.items number) (moved_code noted_moves) ∙ test.there;
@@ -437,7 +438,7 @@ module _ (gives : RoomGives) (evaluated : EventsAreEvaluated) (world : World) (m
   stays stands small = record {
     stood = stands world meaning old new st e s laid d v t;
     stage = ap (λ (z : Open). z.stage) (moved_top moves);
-    code = subst (λ (p : Program). IsLawfulCode p new.code.now) (sym (moved_program moves))
+    code = subst (λ (p : Program). IsLawfulCode p new.image.code.now) (sym (moved_program moves))
         (subst (λ (k : Code). IsLawfulCode old.program.now k) (sym (moved_code moves)) o.code);
     at = ap (λ (k : Code). slice_get k.expressions.items s.expression) (moved_code moves) ∙ o.at;
     lays = subst (λ (k : Code). LaidOutBy firsts nodes k.tables k.listing.items laid) (sym (moved_code moves)) o.lays;

@@ -25,9 +25,9 @@ use Rattle.value_facts.specs.Small.{EndInTime, HasSmallBytes, ListsAreSmall}
 -- the choices that are made at once, and there are rooms for its values.
 pub record HasBegun (m : Machine) (s : Stage) (laid : Laid) : Type 0 where
   pub stage : m.top.stage ≡ Some s
-  pub at : slice_get m.code.now.expressions.items s.expression ≡ Some laid
+  pub at : slice_get m.image.code.now.expressions.items s.expression ≡ Some laid
   pub chosen : (b : Shown) → top_of m ≡ Some b
-      → (k : ℕ) → taken_in b.taken k ≡ with_chosen (part_of m.code.now.tables.chosen.items laid.chosen) (taken_in []) k
+      → (k : ℕ) → taken_in b.taken k ≡ with_chosen (part_of m.image.code.now.tables.chosen.items laid.chosen) (taken_in []) k
   pub rooms : m.top.base + laid.rooms ≤ length m.values.items
 
 -- The machine stands for a state in which a full expression has begun, with nothing given: its frame has handed on its arguments and has no result yet, and
@@ -39,13 +39,13 @@ pub record HasJustBegun (world : World) (meaning : Option ℕ → Meaning) (m : 
   pub has : HasBegun m s laid
   pub arguments : st.top.arguments ≡ []
   pub result : m.left ≡ None
-  pub below : KeepToRooms m.code.now (reverse m.below.items) st.held
+  pub below : KeepToRooms m.image.code.now (reverse m.below.items) st.held
 
 -- Over the code of a lawful program, with the blocks open that are round what it names, it then stands as picks ask it.
 abbrev pub BeginsOpen : Type 0
 BeginsOpen =
     (world : World) (meaning : Option ℕ → Meaning) (m : Machine) (st : State) (e : Begun) (s : Stage) (laid : Laid) (firsts : List ℕ)
-    (nodes : List NodeInfo) → HasJustBegun world meaning m st e s laid → IsLawfulCode m.program.now m.code.now
-    → LaidOutBy firsts nodes m.code.now.tables m.code.now.listing.items laid
+    (nodes : List NodeInfo) → HasJustBegun world meaning m st e s laid → IsLawfulCode m.program.now m.image.code.now
+    → LaidOutBy firsts nodes m.image.code.now.tables m.image.code.now.listing.items laid
     → NamesAreOpen m firsts st.top.scene.blocks laid.root.now → EndInTime world.rows → HasSmallBytes st.store → ListsAreSmall e.root
     → IsOpen world meaning m st e s laid firsts nodes

@@ -44,7 +44,7 @@ pub record IsCallCode (world : World) (past : Machine) (f : Scene) (e : Begun) (
   pub act : d.act ≡ act.Call number
   pub body : d.place.kind ≡ Body
   pub code : CallCode
-  pub there : slice_get past.code.now.tables.calls.items number ≡ Some code
+  pub there : slice_get past.image.code.now.tables.calls.items number ≡ Some code
   pub discarded : Bool
   pub ty : CType
   pub line : ℕ

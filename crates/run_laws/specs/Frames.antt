@@ -34,7 +34,7 @@ IsOneOf range (Some s) = IsAmong range s.expression
 -- Its blocks are those of the function of this number, there is a place for each of its objects, and its full expression is one of that function.
 pub record SeesFunction (m : Machine) (o : Open) (n : ℕ) : Type 0 where
   pub code : FunctionCode
-  pub at : slice_get m.code.now.functions.items n ≡ Some (Some code)
+  pub at : slice_get m.image.code.now.functions.items n ≡ Some (Some code)
   pub blocks : o.blocks ≡ code.blocks
   pub expressions : o.expressions ≡ code.expressions
   pub above : o.above ≡ o.locals + code.objects

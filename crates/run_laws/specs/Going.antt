@@ -23,8 +23,8 @@ locals_of st = st.top ∷ map (λ h. h.0) st.held
 -- was reached, and what a machine keeps of its frames is there.
 pub record IsGoing (world : World) (p : Program) (numbers : Numbers) (m : Machine) (st : State) (n : ℕ) : Type 0 where
   pub program : m.program.now ≡ p
-  pub set_up : IsSetUp world p numbers m.code.now m.jumps
-  pub stands : Stands world (meaning_of p numbers m.code.now) m st
+  pub set_up : IsSetUp world p numbers m.image.code.now m.jumps
+  pub stands : Stands world (meaning_of p numbers m.image.code.now) m st
   pub within : IsWithin world st
   pub ordered : AreOrdered world st.top st.held
   pub reached : AreReached world st.top st.held

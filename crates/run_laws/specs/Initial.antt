@@ -32,15 +32,15 @@ pub record IsIsolatedBody (nodes : List NodeInfo) (d : Due) : Type 0 where
 abbrev pub OpenIsInitializer : Type 0
 OpenIsInitializer =
     (world : World) (meaning : Option ℕ → Meaning) (m : Machine) (st : State) (e : Begun) (s : Stage) (laid : Laid) (firsts : List ℕ)
-    (nodes : List NodeInfo) (d : Due) → IsOpen world meaning m st e s laid firsts nodes → NumberInitializers m.code.now nodes
-    → IsListed (whole_part m s) d → IsIsolatedBody nodes d → IsInitializer m.code.now e d
+    (nodes : List NodeInfo) (d : Due) → IsOpen world meaning m st e s laid firsts nodes → NumberInitializers m.image.code.now nodes
+    → IsListed (whole_part m s) d → IsIsolatedBody nodes d → IsInitializer m.image.code.now e d
 
 -- So it may start, where the machine has gone on to it, along the canonical way or off it.
 abbrev pub OpenMayStart : Type 0
 OpenMayStart =
     (world : World) (meaning : Option ℕ → Meaning) (m now : Machine) (st : State) (e : Begun) (s : Stage) (laid : Laid) (firsts : List ℕ)
     (nodes : List NodeInfo) (d : Due) → IsOpen world meaning m st e s laid firsts nodes → IsReady world m st → m.items ≡ []
-    → NumberInitializers m.code.now nodes → IsListed (whole_part m s) d → IsIsolatedBody nodes d → IsAt s.straight m s d now
+    → NumberInitializers m.image.code.now nodes → IsListed (whole_part m s) d → IsIsolatedBody nodes d → IsAt s.straight m s d now
     → MayStart world meaning m st e s d now
 
 -- And so it may where it comes next along the canonical way.
@@ -48,5 +48,5 @@ abbrev pub OpenMayStartNext : Type 0
 OpenMayStartNext =
     (world : World) (meaning : Option ℕ → Meaning) (m : Machine) (st : State) (e : Begun) (s : Stage) (laid : Laid) (firsts : List ℕ)
     (nodes : List NodeInfo) → IsOpen world meaning m st e s laid firsts nodes → IsReady world m st → s.straight ≡ true
-    → NumberInitializers m.code.now nodes → ((next : ℕ × Bor Due) → ComesNext m s (Some next) → IsIsolatedBody nodes next.1.now)
+    → NumberInitializers m.image.code.now nodes → ((next : ℕ × Bor Due) → ComesNext m s (Some next) → IsIsolatedBody nodes next.1.now)
     → MayStartNext world meaning m st e s

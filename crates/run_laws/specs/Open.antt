@@ -31,9 +31,9 @@ pub record IsOpen (world : World) (meaning : Option ℕ → Meaning) (m : Machin
     (nodes : List NodeInfo) : Type 0 where
   pub stood : StandsOpen world meaning m st e
   pub stage : m.top.stage ≡ Some s
-  pub code : IsLawfulCode m.program.now m.code.now
-  pub at : slice_get m.code.now.expressions.items s.expression ≡ Some laid
-  pub lays : LaidOutBy firsts nodes m.code.now.tables m.code.now.listing.items laid
+  pub code : IsLawfulCode m.program.now m.image.code.now
+  pub at : slice_get m.image.code.now.expressions.items s.expression ≡ Some laid
+  pub lays : LaidOutBy firsts nodes m.image.code.now.tables m.image.code.now.listing.items laid
   pub names : NamesAreOpen m firsts st.top.scene.blocks laid.root.now
   pub ends : EndInTime world.rows
   pub small : AreSmall e.given

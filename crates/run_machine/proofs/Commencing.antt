@@ -17,8 +17,8 @@ use Rattle.run_answers.proofs.Beginning.{begun_open, shown_in}
 
 -- by the calls that it consists of: room is made for its values, it is shown, and the first operands are chosen
 module _ (m g s n : Machine) (turn number size : ℕ) (how : Use) (laid : Expression) (cs : List (ℕ × ℕ)) (closed : m.top.stage ≡ None)
-    (at : slice_get m.code.now.expressions.items number ≡ Some laid) (own : IsAmong m.top.expressions number)
-    (chosen : cs ≡ part_of m.code.now.tables.chosen.items laid.chosen)
+    (at : slice_get m.image.code.now.expressions.items number ≡ Some laid) (own : IsAmong m.top.expressions number)
+    (chosen : cs ≡ part_of m.image.code.now.tables.chosen.items laid.chosen)
     (turned : turn ≡ min (m.top.turn + 1) (2 ^ 64 - 1)) (grown : g ≡ record m { top = begun_open m.top turn number how laid; values = g.values })
     (needs : size ≡ min (m.top.base + laid.rooms) (2 ^ 64 - 1)) (enough : size ≤ length g.values.items)
     (fewest : length m.values.items ≤ length g.values.items) (shown : HasShown g number laid.root s) (made : HasChosen s cs n) where
@@ -77,7 +77,7 @@ module _ (m g s n : Machine) (turn number size : ℕ) (how : Use) (laid : Expres
   abbrev IsShown : Type 0
   IsShown = (choices : List (Option ℕ))
       × (top_of n ≡ Some (record { frame = n.top.frame; turn = n.top.turn; tree = number; root = laid.root; taken = choices }))
-      × ((k : ℕ) → taken_in choices k ≡ with_chosen (part_of n.code.now.tables.chosen.items laid.chosen) (taken_in []) k)
+      × ((k : ℕ) → taken_in choices k ≡ with_chosen (part_of n.image.code.now.tables.chosen.items laid.chosen) (taken_in []) k)
 
   is_shown : length m.below.items ≤ length m.begun.items → IsShown
   is_shown le =
@@ -90,7 +90,7 @@ module _ (m g s n : Machine) (turn number size : ℕ) (how : Use) (laid : Expres
             (taken.1 ∙ ap (λ (o : Open). Some (shown_in number laid o taken.0)) top),
         λ k. taken.2 k
             ∙ ap (λ (xs : List (ℕ × ℕ)). with_chosen xs (taken_in []) k)
-            (chosen ∙ ap (λ (c : Code). part_of c.tables.chosen.items laid.chosen) (sym (ap (λ (x : Machine). x.code.now) whole))),
+            (chosen ∙ ap (λ (c : Code). part_of c.tables.chosen.items laid.chosen) (sym (ap (λ (x : Machine). x.image.code.now) whole))),
       )
 
   pub begins_so : KeepsControl m n (Ok None)

@@ -102,7 +102,7 @@ begun_inside world meaning m height o p stage f g (Some e) waiting none b = absu
 
 pub frame_inside : (world : World) (meaning : Meaning) (m : Machine) (height : ℕ) (o : Open) (ws vs : List Work) (left : Option Kept_value) (f : Local)
     (b t turn : ℕ) (rest : Todo) → t ≡ turn → f.begun ≡ None → StandsControl meaning vs (inside f b turn rest) →
-    ((code : BlockCode) × (slice_get m.code.now.tables.blocks.items (o.blocks + b) ≡ Some code)
+    ((code : BlockCode) × (slice_get m.image.code.now.tables.blocks.items (o.blocks + b) ≡ Some code)
     × ((k : ℕ) → k < code.objects.count → StandsLocal world m (o.locals + (code.first + k)) f.scene turn k)) →
     StandsFrame world meaning m height o ws left f None → StandsFrame world meaning m height (at_turn o t) vs left (inside f b turn rest) None
 frame_inside world meaning m height o ws vs left f b t turn rest is closed control new s = record {
@@ -292,7 +292,7 @@ inside_machine m new number turn = record m {
 
 pub entered_stands : (world : World) (meaning : Option ℕ → Meaning) (m new : Machine) (before : List Work) (st : State) (b number t turn : ℕ) (rest : Todo)
     (trace : List Entry) (c : BlockCode) (ds : List Decl) → Stands world meaning (as_before m before) st → CanEnter world m st b ds →
-    slice_get m.code.now.tables.blocks.items (m.top.blocks + b) ≡ Some c → HasBirths m.code.now m.top st.top.scene.blocks c ds st.top.arguments →
+    slice_get m.image.code.now.tables.blocks.items (m.top.blocks + b) ≡ Some c → HasBirths m.image.code.now m.top st.top.scene.blocks c ds st.top.arguments →
     Keeps m.memory new.memory → new.memory.types ≡ m.memory.types → RowsStay new.memory.rows world.rows → t ≡ turn → st.top.begun ≡ None →
     StandsControl (meaning m.top.function) m.work.now (inside st.top b turn rest) →
     ((j : ℕ) → ((k : ℕ) → k < length ds → j ≢ m.top.locals + (c.first + k)) → slice_get new.locals.items j ≡ slice_get m.locals.items j) →
@@ -346,18 +346,18 @@ next_turn o f e lt = omega (arith, e, lt)
 
 pub record IsKnown (world : World) (meaning : Option ℕ → Meaning) (m : Machine) (number n : ℕ) (ds : List Decl) (st : State) (c : BlockCode) : Type 0 where
   pub can : CanEnter world m st n ds
-  pub at : slice_get m.code.now.tables.blocks.items (m.top.blocks + n) ≡ Some c
-  pub has : HasBirths m.code.now m.top st.top.scene.blocks c ds st.top.arguments
+  pub at : slice_get m.image.code.now.tables.blocks.items (m.top.blocks + n) ≡ Some c
+  pub has : HasBirths m.image.code.now m.top st.top.scene.blocks c ds st.top.arguments
   pub turn : min (m.top.turn + 1) (2 ^ 64 - 1) ≡ suc st.top.scene.turn
   pub names : new_name (turned m number) ≡ auto_name world st.top.scene (suc st.top.scene.turn)
-  pub count : length (part_of m.code.now.tables.objects.items c.objects) ≡ length ds
-  pub bears : CanBear (turned m number) c.first (length (part_of m.code.now.tables.objects.items c.objects))
+  pub count : length (part_of m.image.code.now.tables.objects.items c.objects) ≡ length ds
+  pub bears : CanBear (turned m number) c.first (length (part_of m.image.code.now.tables.objects.items c.objects))
   pub reached : created_after st.store.created ds ≡ reached_with (turned m number) c
   pub low : st.store.created ≤ 2 ^ 26
 
 pub known : (world : World) (meaning : Option ℕ → Meaning) (m : Machine) (b : Bor Block) (st : State) (c : BlockCode) →
     HasTaken world meaning (taking.Enter b) m st →
-    slice_get m.code.now.tables.blocks.items (min (m.top.blocks + b.now.number) (2 ^ 32 - 1)) ≡ Some c →
+    slice_get m.image.code.now.tables.blocks.items (min (m.top.blocks + b.now.number) (2 ^ 32 - 1)) ≡ Some c →
     IsKnown world meaning m b.now.number (block_of (meaning m.top.function) b.now).number
     ((meaning m.top.function).decls (block_of (meaning m.top.function) b.now).number) st c
 known world meaning m b st c h block =
@@ -366,13 +366,13 @@ known world meaning m b st c h block =
     let ds = mg.decls n in
     let can : CanEnter world m st n ds = h.enters in
     let frame = h.stands.frames.0 in
-    let at = ap (slice_get m.code.now.tables.blocks.items) (sym (capped m.top.blocks n (m.top.blocks + b.now.number) can.number
+    let at = ap (slice_get m.image.code.now.tables.blocks.items) (sym (capped m.top.blocks n (m.top.blocks + b.now.number) can.number
     (ap (λ (j : ℕ). m.top.blocks + j) (sym (block_number mg b.now))))) ∙ block in
     let has = can.block c at in
     let turn = next_turn m.top.turn st.top.scene.turn frame.turn can.turn in
     let home = own_home m.top st.top (reverse m.below.items) (map (λ (h : Local × Place). (h.0, Some h.1)) st.held) can.function h.stands.frames.1 in
     let number : m.top.frame.0 ≡ world.number st.top.scene.home = frame.number ∙ ap world.number (sym home) in
-    let objects = part_of m.code.now.tables.objects.items c.objects in
+    let objects = part_of m.image.code.now.tables.objects.items c.objects in
     let count : length objects ≡ length ds = sym (length-map objects birth_of) ∙ ap length has.objects ∙ length-map ds birth_in in
     let created : st.store.created ≡ m.memory.created = ap (λ (s : Store). s.created) h.stands.memory.store in
     let low : st.store.created ≤ 2 ^ 26 = subst (λ (l : ℕ). st.store.created ≤ l) can.limit

@@ -151,8 +151,8 @@ entry_act world f ds = bear_all world f.scene (suc f.scene.turn) 0 ds (pass_all 
 abbrev pub Enters_by : (old new : Machine) → BlockCode → Type 0
 Enters_by old new c =
     (middle : Machine)
-    × AreNew old (part_of old.code.now.tables.objects.items c.objects) c.first (length (part_of old.code.now.tables.objects.items c.objects)) middle
-    × PassesAll middle (with_arguments (part_of old.code.now.tables.objects.items c.objects) c.arguments) c.first new
+    × AreNew old (part_of old.image.code.now.tables.objects.items c.objects) c.first (length (part_of old.image.code.now.tables.objects.items c.objects)) middle
+    × PassesAll middle (with_arguments (part_of old.image.code.now.tables.objects.items c.objects) c.arguments) c.first new
 
 module _ (world : World) (meaning : Option ℕ → Meaning) (m new : Machine) (b : Bor Block) (st : State) (c : BlockCode)
     (h : HasTaken world meaning (taking.Enter b) m st)
@@ -181,7 +181,7 @@ module _ (world : World) (meaning : Option ℕ → Meaning) (m new : Machine) (b
   old = turned m b.now.number
 
   abbrev objects : List ObjectCode
-  objects = part_of m.code.now.tables.objects.items c.objects
+  objects = part_of m.image.code.now.tables.objects.items c.objects
 
   abbrev mid : Machine
   mid = e.0
@@ -233,7 +233,7 @@ module _ (world : World) (meaning : Option ℕ → Meaning) (m new : Machine) (b
   can_pass = record {
     sound = d.kept.sound h.stands.memory.sound;
     tables = tables_mid;
-    lawful = subst (λ (q : Machine). All (λ cs. All (λ x. ContentIsLawful q.program.now x.content) cs.now) q.code.now.tables.constants.items) (sym d.rest)
+    lawful = subst (λ (q : Machine). All (λ cs. All (λ x. ContentIsLawful q.program.now x.content) cs.now) q.image.code.now.tables.constants.items) (sym d.rest)
         h.stands.code.constants;
     numbers = omega (arith, many_params, k.has.enough, k.has.numbers);
     places = λ j lt.
@@ -289,7 +289,7 @@ module _ (world : World) (meaning : Option ℕ → Meaning) (m new : Machine) (b
         (ap (λ (q : Machine). slice_get mid.locals.items (q.top.locals + (c.first + j))) d.rest
         ∙ (stands_new world f.scene turn old mid objects c.first ds m.streams k.names k.has.objects rows_mid m.top j refl i).0)
         held.1 held.3
-        (subst (λ (q : Machine). TakesAs q.code.now i.object x) (sym d.rest) (k.has.stores j i.object x lt i.at at))
+        (subst (λ (q : Machine). TakesAs q.image.code.now i.object x) (sym d.rest) (k.has.stores j i.object x lt i.at at))
 
     same_script : run world.rows passing (store_in mid) ≡ run world.rows (first_of script (length params) >> Give Nothing) (store_in mid)
     same_script =
@@ -363,7 +363,7 @@ module _ (world : World) (meaning : Option ℕ → Meaning) (m new : Machine) (b
     new_stands =
         passed_stands world meaning mid new
         (record { top = inside f n turn rest; held = st.held; store = store_of mid.memory m.streams; trace = trace }) trace mid_stands refl h.closed
-        (subst (λ (q : Machine). KeepToRooms q.code.now (reverse q.below.items) st.held) (sym d.rest) k.can.rooms) passed.rest passed.kept rows
+        (subst (λ (q : Machine). KeepToRooms q.image.code.now (reverse q.below.items) st.held) (sym d.rest) k.can.rooms) passed.rest passed.kept rows
         (λ j lt. passed.others j (λ i below is. omega (arith, lt, is)))
 
     entered : (after : State) × (step world st Control ≡ Running after) × (newest_items after.trace ≡ new.items) × Stands world meaning new after
@@ -459,7 +459,7 @@ unplaced_so : (world : World) (meaning : Option ℕ → Meaning) (m new : Machin
     HasTaken world meaning (taking.Enter b) m st →
     (k : IsKnown world meaning m b.now.number (block_of (meaning m.top.function) b.now).number
     ((meaning m.top.function).decls (block_of (meaning m.top.function) b.now).number) st c) → reached_with (turned m b.now.number) c ≤ 2 ^ 26 →
-    HasNoPlace (turned m b.now.number) (part_of m.code.now.tables.objects.items c.objects) c.first new →
+    HasNoPlace (turned m b.now.number) (part_of m.image.code.now.tables.objects.items c.objects) c.first new →
     Answers world meaning (Err halt.Unplaced) new (step world st Control)
 unplaced_so world meaning m new b st c h k small d = λ all.
     let mg = meaning m.top.function in
@@ -469,7 +469,7 @@ unplaced_so world meaning m new b st c h k small d = λ all.
     let f = st.top in
     let turn = suc f.scene.turn in
     let old = turned m b.now.number in
-    let objects = part_of m.code.now.tables.objects.items c.objects in
+    let objects = part_of m.image.code.now.tables.objects.items c.objects in
     let bs = map birth_in ds in
     let io = m.streams in
     let s = store_of m.memory io in
@@ -503,8 +503,8 @@ within_so world meaning m new b st c (Err halt.NoMemory) h k e = tt
 within_so world meaning m new b st c (Err (halt.Raised event line clause)) h k e = absurd e
 
 enters_so : (m new : Machine) (b : Bor Block) (r : Result (Option ℕ) Halt) (c : BlockCode) →
-    slice_get m.code.now.tables.blocks.items (min (m.top.blocks + b.now.number) (2 ^ 32 - 1)) ≡ Some c →
-    (CanBear (turned m b.now.number) c.first (length (part_of m.code.now.tables.objects.items c.objects)) →
+    slice_get m.image.code.now.tables.blocks.items (min (m.top.blocks + b.now.number) (2 ^ 32 - 1)) ≡ Some c →
+    (CanBear (turned m b.now.number) c.first (length (part_of m.image.code.now.tables.objects.items c.objects)) →
     EntersWithin (turned m b.now.number) new c r) → AnswersStep (taking.Enter b) m new r
 enters_so m new b r c at e = λ world meaning st h.
     let k = known world meaning m b st c h at in
@@ -537,8 +537,8 @@ bears_there m mid number t u first os ps r is same d =
     (subst (λ (k : ℕ). Bears (turned_to m number k) os first mid r) is d)
 
 module _ (m mid : Machine) (number t reached : ℕ) (c : BlockCode) (os : List ObjectCode) (is : t ≡ min (m.top.turn + 1) (2 ^ 64 - 1))
-    (at : slice_get m.code.now.tables.blocks.items (min (m.top.blocks + number) (2 ^ 32 - 1)) ≡ Some c)
-    (there : os ≡ part_of m.code.now.tables.objects.items c.objects) (sum : reached ≡ min (m.memory.created + c.created) (2 ^ 62)) where
+    (at : slice_get m.image.code.now.tables.blocks.items (min (m.top.blocks + number) (2 ^ 32 - 1)) ≡ Some c)
+    (there : os ≡ part_of m.image.code.now.tables.objects.items c.objects) (sum : reached ≡ min (m.memory.created + c.created) (2 ^ 62)) where
   pub enters_over : 2 ^ 26 < reached → mid.memory ≡ m.memory → Enters m number mid (Err (halt.Over Created reached))
   enters_over over same = (c, at, λ can. (refl, sum, over, same))
 
@@ -548,7 +548,7 @@ module _ (m mid : Machine) (number t reached : ℕ) (c : BlockCode) (os : List O
     c,
     at,
     λ can.
-        let objects = part_of m.code.now.tables.objects.items c.objects in (
+        let objects = part_of m.image.code.now.tables.objects.items c.objects in (
           refl,
           subst (λ (k : ℕ). k ≤ 2 ^ 26) sum small,
           mid,
@@ -564,7 +564,7 @@ module _ (m mid : Machine) (number t reached : ℕ) (c : BlockCode) (os : List O
     at,
     λ can. (
       subst (λ (k : ℕ). k ≤ 2 ^ 26) sum small,
-      bears_there m mid number t (min (m.top.turn + 1) (2 ^ 64 - 1)) c.first os (part_of m.code.now.tables.objects.items c.objects)
+      bears_there m mid number t (min (m.top.turn + 1) (2 ^ 64 - 1)) c.first os (part_of m.image.code.now.tables.objects.items c.objects)
           (Err halt.Unplaced) is there d
           can,
     ),
@@ -572,13 +572,13 @@ module _ (m mid : Machine) (number t reached : ℕ) (c : BlockCode) (os : List O
   by_fault (halt.Over cause count) small d = (
     c,
     at,
-    λ can. absurd (bears_there m mid number t (min (m.top.turn + 1) (2 ^ 64 - 1)) c.first os (part_of m.code.now.tables.objects.items c.objects)
+    λ can. absurd (bears_there m mid number t (min (m.top.turn + 1) (2 ^ 64 - 1)) c.first os (part_of m.image.code.now.tables.objects.items c.objects)
         (Err (halt.Over cause count)) is there d can),
   )
   by_fault (halt.Raised event line clause) small d = (
     c,
     at,
-    λ can. absurd (bears_there m mid number t (min (m.top.turn + 1) (2 ^ 64 - 1)) c.first os (part_of m.code.now.tables.objects.items c.objects)
+    λ can. absurd (bears_there m mid number t (min (m.top.turn + 1) (2 ^ 64 - 1)) c.first os (part_of m.image.code.now.tables.objects.items c.objects)
         (Err (halt.Raised event line clause)) is there d can),
   )
 

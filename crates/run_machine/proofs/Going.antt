@@ -55,7 +55,8 @@ label_answers m n label target ws is found now = λ world meaning st h.
     let mg = meaning m.top.function in
     let rest = todo_of mg m.work.now in
     left_answers (taking.GoTo label) world meaning m ws st (gone_to rest (found_label world label (body_of world st.top.function))) h
-    (now mg ∙ ap (gone_to rest) (found_for world meaning m.program.now m.code.now m.jumps n label m.jumps.links.items target m.top.function st.top.function is
+    (now mg ∙ ap (gone_to rest) (found_for world meaning m.program.now m.image.code.now m.jumps n label m.jumps.links.items target m.top.function
+    st.top.function is
     h.stands.frames.0.function h.stands.code h.can found))
     refl refl refl refl
 

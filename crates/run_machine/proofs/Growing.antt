@@ -205,12 +205,13 @@ low_place locals first k count limit lt le = omega (arith, lt, le)
 
 module _ (world : World) (m n : Machine) (limit : ℕ) (keeps : Keeps m.memory n.memory) (types : n.memory.types ≡ m.memory.types)
     (low : (j : ℕ) → j < limit → slice_get n.locals.items j ≡ slice_get m.locals.items j) where
-  pub tables_grown : All (λ cs. All (λ c. ContentIsLawful m.program.now c.content) cs.now) m.code.now.tables.constants.items → StandsTables m →
+  pub tables_grown : All (λ cs. All (λ c. ContentIsLawful m.program.now c.content) cs.now) m.image.code.now.tables.constants.items → StandsTables m →
       StandsTables (with_objects_of m n)
   tables_grown law t = record {
     places = placed_still m.memory n.memory m.program.now m.places keeps t.places;
-    vias = vias_grown m.memory n.memory m.code.now.tables.stores.items m.vias.items types t.vias;
-    fillings = bytes_grown m.memory n.memory m.program.now m.places keeps types t.places m.code.now.tables.constants.items m.fillings.items law t.fillings;
+    vias = vias_grown m.memory n.memory m.image.code.now.tables.stores.items m.image.vias.items types t.vias;
+    fillings = bytes_grown m.memory n.memory m.program.now m.places keeps types t.places m.image.code.now.tables.constants.items m.image.fillings.items law
+        t.fillings;
   }
 
   holds_grown : (rooms : List Kept_value) (room : ℕ) (v : Value) → Holds m.memory rooms room v → Holds n.memory rooms room v
@@ -270,7 +271,7 @@ module _ (world : World) (m n : Machine) (limit : ℕ) (keeps : Keeps m.memory n
   begun_grown meaning height o (Some stage) f None waiting b = absurd b
   begun_grown meaning height o (Some stage) f (Some e) waiting b = expression_grown meaning height o stage f e waiting b
 
-  locals_grown : (o : Open) (f : Scene) (bs : List (ℕ × ℕ)) → AreBelow m.code.now o limit bs → StandLocals world m o f bs →
+  locals_grown : (o : Open) (f : Scene) (bs : List (ℕ × ℕ)) → AreBelow m.image.code.now o limit bs → StandLocals world m o f bs →
       StandLocals world (with_objects_of m n) o f bs
   locals_grown o f [] below l = l
   locals_grown o f (b ∷ bs) below l = (
@@ -286,7 +287,7 @@ module _ (world : World) (m n : Machine) (limit : ℕ) (keeps : Keeps m.memory n
   )
 
   pub frame_grown : (meaning : Meaning) (height : ℕ) (o : Open) (ws : List Work) (left : Option Kept_value) (f : Local) (waiting : Option Place) →
-      IsResultOf m.memory left → AreBelow m.code.now o limit f.scene.blocks → StandsFrame world meaning m height o ws left f waiting →
+      IsResultOf m.memory left → AreBelow m.image.code.now o limit f.scene.blocks → StandsFrame world meaning m height o ws left f waiting →
       StandsFrame world meaning (with_objects_of m n) height o ws left f waiting
   frame_grown meaning height o ws left f waiting is below s = record {
     number = s.number;
@@ -300,7 +301,7 @@ module _ (world : World) (m n : Machine) (limit : ℕ) (keeps : Keeps m.memory n
   }
 
   pub frames_grown : (meaning : Option ℕ → Meaning) (opens : List Open) (wss : List (List Work)) (hs : List (Local × Place)) →
-      KeepPlaces m.code.now limit opens hs → StandFrames world meaning m None opens wss (map (λ h. (h.0, Some h.1)) hs) →
+      KeepPlaces m.image.code.now limit opens hs → StandFrames world meaning m None opens wss (map (λ h. (h.0, Some h.1)) hs) →
       StandFrames world meaning (with_objects_of m n) None opens wss (map (λ h. (h.0, Some h.1)) hs)
   frames_grown meaning [] wss [] keep s = s
   frames_grown meaning [] wss (h ∷ hs) keep s = absurd s

@@ -125,7 +125,7 @@ buried_same x y (suc n) s same =
 
 -- ---- the machine's names are those of the innermost block
 names_left : (world : World) (m : Machine) (f : Scene) (n turn : ℕ) (os : List (ℕ × ℕ)) (c : BlockCode) (ds : List Decl) →
-    slice_get m.code.now.tables.blocks.items (m.top.blocks + n) ≡ Some c → HasObjects m.top n c ds → StandLocals world m m.top f ((n, turn) ∷ os) →
+    slice_get m.image.code.now.tables.blocks.items (m.top.blocks + n) ≡ Some c → HasObjects m.top n c ds → StandLocals world m m.top f ((n, turn) ∷ os) →
     (k : ℕ) → k < c.objects.count → name_at m c.first k ≡ auto_name world f turn k
 names_left world m f n turn os c ds block has locals k lt =
     let same : locals.0.0 ≡ c = some_same locals.0.0 c (sym locals.0.1 ∙ block) in
@@ -258,7 +258,7 @@ record BlockIsLeft (world : World) (meaning : Option ℕ → Meaning) (m : Machi
       (state_left world st js (store_of (with_objects m.memory os) m.streams) bs rest)
 
 left_block : (m : Machine) (os : List Held) (is spare : List Item) (b : Bor Block) (c : BlockCode) →
-    slice_get m.code.now.tables.blocks.items (min (m.top.blocks + b.now.number) (2 ^ 32 - 1)) ≡ Some c →
+    slice_get m.image.code.now.tables.blocks.items (min (m.top.blocks + b.now.number) (2 ^ 32 - 1)) ≡ Some c →
     HaveDied m c.first c.objects.count (record m { memory = with_objects m.memory os; items = is; spare = spare }) →
     (world : World) (meaning : Option ℕ → Meaning) (st : State) → HasTaken world meaning (taking.Leave b) m st →
     BlockIsLeft world meaning m os is spare (block_of (meaning m.top.function) b.now).number
@@ -281,7 +281,7 @@ left_block m os is spare b c block died world meaning st h =
     let own_code = locals.0.0 in
     let has = h.can.objects own_code locals.0.1 in
     let same : c ≡ own_code = some_same c own_code (sym block
-    ∙ ap (slice_get m.code.now.tables.blocks.items)
+    ∙ ap (slice_get m.image.code.now.tables.blocks.items)
     (capped m.top.blocks n (m.top.blocks + b.now.number) has.block (ap (λ (j : ℕ). m.top.blocks + j) (sym (block_number mg b.now)))) ∙ locals.0.1) in
     let d = subst (λ (k : BlockCode). HaveDied m k.first k.objects.count
     (record m { memory = with_objects m.memory os; items = is; spare = spare })) same died in
@@ -310,7 +310,7 @@ left_block m os is spare b c block died world meaning st h =
     }
 
 left_so : (m : Machine) (os : List Held) (is spare : List Item) (b : Bor Block) (c : BlockCode) (ws : List Work) →
-    slice_get m.code.now.tables.blocks.items (min (m.top.blocks + b.now.number) (2 ^ 32 - 1)) ≡ Some c →
+    slice_get m.image.code.now.tables.blocks.items (min (m.top.blocks + b.now.number) (2 ^ 32 - 1)) ≡ Some c →
     HaveDied m c.first c.objects.count (record m { memory = with_objects m.memory os; items = is; spare = spare }) →
     ((k : Meaning) → is_nothing (ready_work (todo_of k m.work.now)) ≡ false → ready_work (todo_of k ws) ≡ ready_work (todo_of k m.work.now)) →
     (world : World) (meaning : Option ℕ → Meaning) (st : State) → is_nothing (ready_work (todo_of (meaning m.top.function) m.work.now)) ≡ false →
@@ -344,7 +344,7 @@ ends_so world [] e = refl
 ends_so world (w ∷ ws) e = absurd (cc)
 
 over_so : (m : Machine) (os : List Held) (is spare : List Item) (b : Bor Block) (c : BlockCode) (n : Machine) (r : Result (Option ℕ) Halt) →
-    slice_get m.code.now.tables.blocks.items (min (m.top.blocks + b.now.number) (2 ^ 32 - 1)) ≡ Some c →
+    slice_get m.image.code.now.tables.blocks.items (min (m.top.blocks + b.now.number) (2 ^ 32 - 1)) ≡ Some c →
     HaveDied m c.first c.objects.count (record m { memory = with_objects m.memory os; items = is; spare = spare }) →
     AnswersEnd (record m { memory = with_objects m.memory os; items = is; spare = spare }) n r → (world : World) (meaning : Option ℕ → Meaning) (st : State) →
     is_nothing (ready_work (todo_of (meaning m.top.function) m.work.now)) ≡ true → HasTaken world meaning (taking.Leave b) m st →

@@ -353,7 +353,7 @@ module _ (stands : LibraryStands) (steps : LibrarySteps) (more : CallsMoreRows) 
           (passed_stage at.0) past_is kept.rows extends made_in_m has c.is_call args.same t.within a did placed
 
       -- ---- it is done, and noted
-      module _ (new : Machine) (f : IsFinished now.code.now d done new) where
+      module _ (new : Machine) (f : IsFinished now.image.code.now d done new) where
         stage_done : (k : ℕ) × (done.top.stage ≡ Some (record s { cursor = k }))
         stage_done =
             let h = stage_past m past s d s.straight t.stage passes in
@@ -365,14 +365,15 @@ module _ (stands : LibraryStands) (steps : LibrarySteps) (more : CallsMoreRows) 
         way : NotesWay s.straight done d.place f.noted
         way = subst (λ (z : Option Stage). NotesIn z done d.place f.noted) stage_done.1 f.notes
 
-        same_code : f.noted.code.now ≡ now.code.now
-        same_code = noted_code s.straight done f.noted d.place way ∙ ap (λ (k : Machine). k.code.now) c.does.changes.rest
+        same_code : f.noted.image.code.now ≡ now.image.code.now
+        same_code = noted_code s.straight done f.noted d.place way ∙ ap (λ (k : Machine). k.image.code.now) c.does.changes.rest
 
         decides : Decides d.choice f.noted new
-        decides = decides_so d.choice now.code.now f.noted new same_code f.decides
+        decides = decides_so d.choice now.image.code.now f.noted new same_code f.decides
 
         behind : SameBehind done new
-        behind = same_behind s.straight done f.noted new d.place d.choice (choice_none world m.code.now st.top.scene laid e d t.event call.body) way decides
+        behind = same_behind s.straight done f.noted new d.place d.choice (choice_none world m.image.code.now st.top.scene laid e d t.event call.body) way
+            decides
 
         extends_done : Extends new.memory.rows world.rows → Extends done.memory.rows world.rows
         extends_done x = subst (λ (k : Kept). Extends k.rows world.rows) behind.memory x
@@ -435,7 +436,7 @@ module _ (stands : LibraryStands) (steps : LibrarySteps) (more : CallsMoreRows) 
     abbrev EitherOf : (q : Result Done_as Fault) → p ≡ q → Type 0
     EitherOf q same = Raising q same world meaning m st e s laid t ⊎ Calling q same world meaning m st e s laid t
 
-    done_so : (same : p ≡ Ok outcome.Done) (new : Machine) (r : Result Pick Halt) → FollowsEvent now.code.now (event_at now d.place) None d done new r
+    done_so : (same : p ≡ Ok outcome.Done) (new : Machine) (r : Result Pick Halt) → FollowsEvent now.image.code.now (event_at now d.place) None d done new r
         → EitherOf (Ok outcome.Done) same → Answered r new
     done_so same new r f (inl raised) = absurd raised.only
     done_so same new (Ok (pick.Event event completed ended)) f (inr c) =
@@ -448,7 +449,7 @@ module _ (stands : LibraryStands) (steps : LibrarySteps) (more : CallsMoreRows) 
     done_so same new (Err x) f (inr c) = subst (λ (h : Halt). Answered (Err h) new) (sym f) tt
 
     ended_by : (n : ℕ) (same : p ≡ Ok (outcome.End n)) (new : Machine) (r : Result Pick Halt)
-        → FollowsEvent now.code.now (event_at now d.place) (Some n) d done new r → EitherOf (Ok (outcome.End n)) same → Answered r new
+        → FollowsEvent now.image.code.now (event_at now d.place) (Some n) d done new r → EitherOf (Ok (outcome.End n)) same → Answered r new
     ended_by n same new r f (inl raised) = absurd raised.only
     ended_by n same new (Ok (pick.Event event completed ended)) f (inr c) =
         let did = c.does.does (hs (Ok (outcome.End n)) same world meaning m st e s laid t) (args (Ok (outcome.End n)) same world meaning m st e s laid t).given
@@ -497,13 +498,13 @@ module _ (stands : LibraryStands) (steps : LibrarySteps) (more : CallsMoreRows) 
           (λ none. subst (λ (w : Event). row_of world.rows (heap_name w) ≡ row_of done.memory.rows (heap_name w))
           (sym (ap (λ (k : Machine). event_at k d.place) (past_is (Err fault.Unplaced) same world meaning m st e s laid t))) placed)
 
-  pub called_done : p ≡ Ok outcome.Done → (new : Machine) (r : Result Pick Halt) → FollowsEvent now.code.now (event_at now d.place) None d done new r
+  pub called_done : p ≡ Ok outcome.Done → (new : Machine) (r : Result Pick Halt) → FollowsEvent now.image.code.now (event_at now d.place) None d done new r
       → AnswersLibrary d now new r
   called_done same new r f = λ world meaning m st e s laid t.
       done_so world meaning m st e s laid t same new r f (led (Ok outcome.Done) same world meaning m st e s laid t)
 
   pub called_ended : (n : ℕ) → p ≡ Ok (outcome.End n) → (new : Machine) (r : Result Pick Halt)
-      → FollowsEvent now.code.now (event_at now d.place) (Some n) d done new r → AnswersLibrary d now new r
+      → FollowsEvent now.image.code.now (event_at now d.place) (Some n) d done new r → AnswersLibrary d now new r
   called_ended n same new r f = λ world meaning m st e s laid t.
       ended_by world meaning m st e s laid t n same new r f (led (Ok (outcome.End n)) same world meaning m st e s laid t)
 

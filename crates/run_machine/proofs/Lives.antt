@@ -111,8 +111,8 @@ module _ (world : World) (m : Machine) (os : List Held) (keeps : Keeps m.memory 
   pub tables_live : StandsTables m → StandsTables (with_lives m os)
   tables_live t = record {
     places = placed_still m.memory (with_objects m.memory os) m.program.now m.places keeps t.places;
-    vias = vias_alike m.memory os m.code.now.tables.stores.items m.vias.items t.vias;
-    fillings = bytes_alike m.memory os keeps m.code.now.tables.constants.items m.fillings.items t.fillings;
+    vias = vias_alike m.memory os m.image.code.now.tables.stores.items m.image.vias.items t.vias;
+    fillings = bytes_alike m.memory os keeps m.image.code.now.tables.constants.items m.image.fillings.items t.fillings;
   }
 
   holds_live : (rooms : List Kept_value) (room : ℕ) (v : Value) → Holds m.memory rooms room v → Holds (with_objects m.memory os) rooms room v

@@ -86,7 +86,7 @@ pub own_script : (world : World) (f : Scene) (turn : ℕ) (m : Machine) (objects
     (h : Kept_value) → AreAddresses world.rows → slice_get objects k ≡ Some o →
     slice_get m.locals.items (m.top.locals + (first + k))
     ≡ Some (record { addr = base_in (row_of world.rows (auto_name world f turn k)); name = auto_name world f turn k }) →
-    slice_get m.values.items (m.top.base + k) ≡ Some h → value_in m.memory h ≡ v → TakesAs m.code.now o d →
+    slice_get m.values.items (m.top.base + k) ≡ Some h → value_in m.memory h ≡ v → TakesAs m.image.code.now o d →
     argument_script world.rows m objects first k ≡ put world.rows true d.access d.ty (object_at world f turn k) v
 own_script world f turn m objects first k o d v h low at placed given is takes =
     let x = auto_name world f turn k in
@@ -96,7 +96,7 @@ own_script world f turn m objects first k o d v h low at placed given is takes =
     script_of world.rows m z (slice_get m.locals.items (m.top.locals + (first + k))) (slice_get m.values.items (m.top.base + k))) at
     ∙ ap (λ (z : Option Local). script_of world.rows m (Some o) z (slice_get m.values.items (m.top.base + k))) placed
     ∙ ap (λ (z : Option Kept_value). script_of world.rows m (Some o) (Some l) z) given
-    ∙ ap (λ (z : Value). stored_by world.rows (slice_get m.code.now.tables.stores.items o.store) (place_of l) z) is
+    ∙ ap (λ (z : Value). stored_by world.rows (slice_get m.image.code.now.tables.stores.items o.store) (place_of l) z) is
     ∙ ap (λ (z : Option StoreCode). stored_by world.rows z (place_of l) v) takes.at
     ∙ ap (λ (b : Bool). put world.rows b s.access (type_of s.ty.now) (place_of l) v) takes.first
     ∙ ap (λ a. put world.rows true a (type_of s.ty.now) (place_of l) v) takes.access
@@ -188,7 +188,7 @@ result_on old new None None keeps is = refl
 
 -- its top frame has no full expression open, and has handed on its arguments
 pub passed_stands : (world : World) (meaning : Option ℕ → Meaning) (m n : Machine) (st : State) (trace : List Entry) → Stands world meaning m st →
-    st.top.arguments ≡ [] → st.top.begun ≡ None → KeepToRooms m.code.now (reverse m.below.items) st.held →
+    st.top.arguments ≡ [] → st.top.begun ≡ None → KeepToRooms m.image.code.now (reverse m.below.items) st.held →
     n ≡ record m { memory = n.memory; values = n.values; items = n.items; spare = n.spare } → Keeps m.memory n.memory →
     RowsStay n.memory.rows world.rows → ((j : ℕ) → j < m.top.base → slice_get n.values.items j ≡ slice_get m.values.items j) →
     Stands world meaning n (record { top = st.top; held = st.held; store = store_in n; trace = trace })

@@ -196,7 +196,7 @@ pub one_passed : (m p q : Machine) (o : ObjectCode) (first k at : ℕ) (place : 
     ((h : Kept_value) → slice_get m.values.items (m.top.base + k) ≡ Some h → value ≡ h) →
     ((j : ℕ) → j ≢ m.top.base + k → slice_get p.values.items j ≡ slice_get m.values.items j) →
     ((rows : List Row) → CanPut rows p place value →
-    Puts rows p q (stored_by rows (slice_get p.code.now.tables.stores.items o.store) (pointer_at place) (value_in p.memory value)) (Ok r)) →
+    Puts rows p q (stored_by rows (slice_get p.image.code.now.tables.stores.items o.store) (pointer_at place) (value_in p.memory value)) (Ok r)) →
     (IsSound p.memory → StandsTables p → IsOf p.memory value → Keeps p.memory q.memory) →
     q ≡ record p { memory = q.memory; spare = q.spare } → items ≡ q.items ++ q.spare →
     IsOnePassed m o first k (record q { items = items })
@@ -231,14 +231,15 @@ one_passed m p q o first k at place value r items is local taken room others exa
                 let rows_same : row_of rows l.name ≡ row_of m.memory.rows l.name =
                 row_stays m.memory.rows rows l.name (row_of m.memory.rows l.name) stay refl (can.sound.rowed l.name can.place) in
                 let script : List Row → Script Value =
-                λ few. stored_by few (slice_get m.code.now.tables.stores.items o.store) (place_of l) (value_in m.memory h) in
+                λ few. stored_by few (slice_get m.image.code.now.tables.stores.items o.store) (place_of l) (value_in m.memory h) in
                 let as_done : Puts own p q (script own) (Ok r) =
                 subst (λ (z : Script Value). Puts own p q z (Ok r))
-                (ap (λ (x : Machine). stored_by own (slice_get x.code.now.tables.stores.items o.store) (pointer_at place) (value_in x.memory value)) taken
-                ∙ ap (λ (z : Pointer). stored_by own (slice_get m.code.now.tables.stores.items o.store) z (value_in m.memory value)) placed
-                ∙ ap (λ (z : Kept_value). stored_by own (slice_get m.code.now.tables.stores.items o.store) (place_of l) (value_in m.memory z)) same) did in
+                (ap (λ (x : Machine). stored_by own (slice_get x.image.code.now.tables.stores.items o.store) (pointer_at place) (value_in x.memory value)) taken
+                ∙ ap (λ (z : Pointer). stored_by own (slice_get m.image.code.now.tables.stores.items o.store) z (value_in m.memory value)) placed
+                ∙ ap (λ (z : Kept_value). stored_by own (slice_get m.image.code.now.tables.stores.items o.store) (place_of l) (value_in m.memory z)) same) did
+                in
                 puts_as rows own m p q script items r (sym stores) all
-                (code_alike rows own (slice_get m.code.now.tables.stores.items o.store) l (value_in m.memory h) (store_in p)
+                (code_alike rows own (slice_get m.image.code.now.tables.stores.items o.store) l (value_in m.memory h) (store_in p)
                 (rows_same ∙ ap (λ (z : Kept). row_of z.rows l.name) (sym memories))) as_done;
           };
     }
@@ -308,10 +309,10 @@ one_more_passed old mid new objects o first n count at can lt d one =
       outcome = outcomes d.outcome passed.outcome;
       puts = λ rows stay.
           let stays : RowsStay mid.memory.rows rows = λ x r e. stay x r (passed.kept.rows x r e) in
-          let same : stored_by rows (slice_get mid.code.now.tables.stores.items o.store) (place_of l) (value_in mid.memory h)
+          let same : stored_by rows (slice_get mid.image.code.now.tables.stores.items o.store) (place_of l) (value_in mid.memory h)
           ≡ argument_script rows old objects first n =
-          ap (λ (x : Machine). stored_by rows (slice_get x.code.now.tables.stores.items o.store) (place_of l) (value_in mid.memory h)) d.rest
-          ∙ ap (stored_by rows (slice_get old.code.now.tables.stores.items o.store) (place_of l)) (value_stays old.memory mid.memory h d.kept argument.2)
+          ap (λ (x : Machine). stored_by rows (slice_get x.image.code.now.tables.stores.items o.store) (place_of l) (value_in mid.memory h)) d.rest
+          ∙ ap (stored_by rows (slice_get old.image.code.now.tables.stores.items o.store) (place_of l)) (value_stays old.memory mid.memory h d.kept argument.2)
           ∙ ap (script_of rows old (Some o) (Some l)) (sym argument.1)
           ∙ ap (λ (z : Option Local). script_of rows old (Some o) z (slice_get old.values.items (old.top.base + n))) (sym place.1)
           ∙ ap (λ (z : Option ObjectCode). script_of rows old z (slice_get old.locals.items (old.top.locals + (first + n)))

@@ -58,10 +58,11 @@ decided_passed m s u done permitted is straight same passed by =
           (all ∙ ap (λ (z : Begun). has (events_of (taken_in z.taken) (passed_part m s))) one ∙ sym (ap (λ w. by_way w m s x) straight)),
     )
 
-pub strays_code : (straight : Bool) (old : Machine) (s : Stage) (new : Machine) (permitted : Bool) → StraysIn straight old s new permitted → new.code ≡ old.code
-strays_code true old s new true h = ap (λ (m : Machine). m.code) h.rest
-strays_code true old s new false h = ap (λ (m : Machine). m.code) h
-strays_code false old s new permitted h = ap (λ (m : Machine). m.code) h
+pub strays_code : (straight : Bool) (old : Machine) (s : Stage) (new : Machine) (permitted : Bool) → StraysIn straight old s new permitted →
+    new.image.code ≡ old.image.code
+strays_code true old s new true h = ap (λ (m : Machine). m.image.code) h.rest
+strays_code true old s new false h = ap (λ (m : Machine). m.image.code) h
+strays_code false old s new permitted h = ap (λ (m : Machine). m.image.code) h
 
 -- the canonical way is left with what was passed
 pub leaves_way : (m new : Machine) (s : Stage) (done : List Marks) (permitted : Bool) → s.straight ≡ true → permitted ≡ true

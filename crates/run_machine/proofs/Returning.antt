@@ -129,7 +129,7 @@ module _ (law : StandsAtEnd) (world : World) (m n z : Machine) (onto : Open) (no
       not_so : (a b : ℕ) → (a == b) ≡ false → a ≡ b → ⊥
       not_so a b differs same = grind (arith, differs, same)
 
-  values_ended : (first end : ℕ) (f : Scene) (e : Begun) (count at : ℕ) → IsRoomFree (part_of m.code.now.listing.items first end) count at e node →
+  values_ended : (first end : ℕ) (f : Scene) (e : Begun) (count at : ℕ) → IsRoomFree (part_of m.image.code.now.listing.items first end) count at e node →
       StandsValues world m onto.base first end f e → StandsValues world (with_rooms m n z) onto.base first end f (with_given e (place node Body) v)
   values_ended first end f e count at free s = record {
     val = λ k w given.
@@ -158,7 +158,7 @@ module _ (law : StandsAtEnd) (world : World) (m n z : Machine) (onto : Open) (no
       NotedAt straight m.strayed.items z.strayed.items height (place node Body) →
       StandsDone straight world m height first cursor end f e (Some (place node Body)) →
       StandsDone straight world (with_rooms m n z) height first cursor end f (with_given e (place node Body) v) None
-  done_ended true height first cursor end f e noted d = law world f m.code.now.listing.items first cursor end e (place node Body) v refl d
+  done_ended true height first cursor end f e noted d = law world f m.image.code.now.listing.items first cursor end e (place node Body) v refl d
   done_ended false height first cursor end f e noted d =
       let same : noted.0 ≡ d.0 = some_same noted.0 d.0 (sym noted.2 ∙ d.1) in (
         noted.1,
@@ -168,7 +168,7 @@ module _ (law : StandsAtEnd) (world : World) (m n z : Machine) (onto : Open) (no
       )
 
   expression_ended : (meaning : Meaning) (height : ℕ) (stage : Stage) (f : Scene) (e : Begun) (count at : ℕ) →
-      IsRoomFree (stage_part m.code.now stage) count at e node → NotedAt stage.straight m.strayed.items z.strayed.items height (place node Body) →
+      IsRoomFree (stage_part m.image.code.now stage) count at e node → NotedAt stage.straight m.strayed.items z.strayed.items height (place node Body) →
       StandsExpression world meaning m height onto stage f e (Some (place node Body)) →
       StandsExpression world meaning (with_rooms m n z) height onto stage f (with_given e (place node Body) v) None
   expression_ended meaning height stage f e count at free noted x = record {
@@ -192,12 +192,12 @@ module _ (law : StandsAtEnd) (world : World) (m n z : Machine) (onto : Open) (no
     done = done_ended stage.straight height x.laid.first stage.cursor x.laid.end f e noted x.done;
     values = values_ended x.laid.first x.laid.end f e count at
         (subst (λ (es : List Listed). IsRoomFree es count at e node)
-        (part_same m.code.now.listing.items stage.first x.laid.first stage.end x.laid.end x.first x.end) free) x.values;
+        (part_same m.image.code.now.listing.items stage.first x.laid.first stage.end x.laid.end x.first x.end) free) x.values;
   }
 
   -- the frame, by its full expression
   frame_ended : (meaning : Meaning) (height : ℕ) (ws : List Work) (f : Local) (stage : Option Stage) (e : Option Begun) → onto.stage ≡ stage →
-      f.begun ≡ e → KeepsTo m.code.now onto.rooms stage f e → HasRoomIn m.code.now (length m.values.items) (onto.base + node) node stage e →
+      f.begun ≡ e → KeepsTo m.image.code.now onto.rooms stage f e → HasRoomIn m.image.code.now (length m.values.items) (onto.base + node) node stage e →
       ((s : Stage) → stage ≡ Some s → NotedAt s.straight m.strayed.items z.strayed.items height (place node Body)) →
       StandsBegun world meaning m height onto stage f.scene e (Some (place node Body)) →
       StandsFrame world meaning m height onto ws None f (Some (place node Body)) →
@@ -278,8 +278,8 @@ module _ (law : StandsAtEnd) (world : World) (meaning : Option ℕ → Meaning) 
   -- by the body that waits
   back_so : (f : Local) (hs : List (Local × Place)) → Stands world meaning m st →
       StandFrames world meaning m None (onto ∷ reverse n.below.items) (ws ∷ wss) ((f, Some (place m.top.node Body)) ∷ map (λ h. (h.0, Some h.1)) hs) →
-      KeepToRooms m.code.now (onto ∷ reverse n.below.items) ((f, place m.top.node Body) ∷ hs) →
-      HasRoomIn m.code.now (length m.values.items) (onto.base + m.top.node) m.top.node onto.stage f.begun → m.top.function ≡ st.top.function →
+      KeepToRooms m.image.code.now (onto ∷ reverse n.below.items) ((f, place m.top.node Body) ∷ hs) →
+      HasRoomIn m.image.code.now (length m.values.items) (onto.base + m.top.node) m.top.node onto.stage f.begun → m.top.function ≡ st.top.function →
       m.depth ≡ depth_of st.top ((f, place m.top.node Body) ∷ hs) →
       limit_passed world.limits (depth_of st.top ((f, place m.top.node Body) ∷ hs)) st.store ≡ None → newest_items trace ≡ m.items →
       ComesTo world meaning None there (limited world.limits (back world ((f, place m.top.node Body) ∷ hs) v st.store trace))
@@ -289,7 +289,7 @@ module _ (law : StandsAtEnd) (world : World) (meaning : Option ℕ → Meaning) 
       let g = next world f f.begun (Ev u) v in
       let as_deep : depth_of g hs ≡ depth_of f hs = depth_same f g hs (next_function world f f.begun u v) in
       let scene = next_scene world f f.begun u v in
-      let holds = room (room_there world (meaning onto.function) m (length rs) onto onto.stage f.scene f.begun u m.code.now (length m.values.items)
+      let holds = room (room_there world (meaning onto.function) m (length rs) onto onto.stage f.scene f.begun u m.image.code.now (length m.values.items)
       (onto.base + m.top.node) m.top.node frames.0.begun has) in
       let after : State = record { top = g; held = hs; store = st.store; trace = trace } in
       λ rows. (
@@ -324,8 +324,8 @@ module _ (law : StandsAtEnd) (world : World) (meaning : Option ℕ → Meaning) 
   back_comes : (held : List (Local × Place)) → Stands world meaning m st →
       StandFrames world meaning m None (onto ∷ reverse n.below.items) (ws ∷ wss) (map (λ h. (h.0, Some h.1)) held) →
       IsAbove m.top st.top (onto ∷ reverse n.below.items) (map (λ h. (h.0, Some h.1)) held) →
-      KeepToRooms m.code.now (onto ∷ reverse n.below.items) held →
-      HasRoomBelow m.code.now (length m.values.items) m.top.node (onto ∷ reverse n.below.items) held → m.top.function ≡ st.top.function →
+      KeepToRooms m.image.code.now (onto ∷ reverse n.below.items) held →
+      HasRoomBelow m.image.code.now (length m.values.items) m.top.node (onto ∷ reverse n.below.items) held → m.top.function ≡ st.top.function →
       m.depth ≡ depth_of st.top held → limit_passed world.limits (depth_of st.top held) st.store ≡ None → newest_items trace ≡ m.items →
       ComesTo world meaning None there (limited world.limits (back world held v st.store trace))
   back_comes [] s frames above keeps has function depth within_so items = absurd frames
@@ -394,8 +394,8 @@ goes_back law m new g closes = λ world meaning st trace s within_so closed can 
     (subst (λ (ks : List (List Work)). StandFrames world meaning m None (onto ∷ rs) ks (map (λ h. (h.0, Some h.1)) st.held)) closed_so.2
     (subst (λ (os : List Open). StandFrames world meaning m None os m.work.below (map (λ h. (h.0, Some h.1)) st.held)) turned s.frames.2))
     (subst (λ (os : List Open). IsAbove m.top st.top os (map (λ h. (h.0, Some h.1)) st.held)) turned s.frames.1)
-    (subst (λ (os : List Open). KeepToRooms m.code.now os st.held) turned can.rooms)
-    (subst (λ (os : List Open). HasRoomBelow m.code.now (length m.values.items) m.top.node os st.held) turned can.room)
+    (subst (λ (os : List Open). KeepToRooms m.image.code.now os st.held) turned can.rooms)
+    (subst (λ (os : List Open). HasRoomBelow m.image.code.now (length m.values.items) m.top.node os st.held) turned can.room)
     frame.function s.depth within_so items)
 
 run_ends : (world : World) (meaning : Option ℕ → Meaning) (m new : Machine) (status : ℕ) (wss : List (List Work)) (held : List (Local × Place)) (v : Value)

@@ -73,7 +73,7 @@ no_arguments world meaning m height o (Some stage) f (Some e) u g code rooms b k
 
 module _ (world : World) (m n z : Machine) (at top : ℕ) (others : (j : ℕ) → j ≢ at → slice_get n.values.items j ≡ slice_get m.values.items j)
     (strays : (j : ℕ) → j ≢ top → slice_get z.strayed.items j ≡ slice_get m.strayed.items j) where
-  values_below : (base first end : ℕ) (f : Scene) (e : Begun) (rooms : ℕ) → IsInRooms (part_of m.code.now.listing.items first end) rooms e →
+  values_below : (base first end : ℕ) (f : Scene) (e : Begun) (rooms : ℕ) → IsInRooms (part_of m.image.code.now.listing.items first end) rooms e →
       base + rooms ≤ at → StandsValues world m base first end f e → StandsValues world (with_rooms m n z) base first end f e
   values_below base first end f e rooms keeps le s = record {
     val = λ k w given. holds_apart m.memory m.values.items n.values.items at (base + k) w others
@@ -103,7 +103,7 @@ module _ (world : World) (m n z : Machine) (at top : ℕ) (others : (j : ℕ) �
   done_below false height first cursor end f e waiting ne d = (d.0, strays height ne ∙ d.1, d.2)
 
   expression_below : (meaning : Meaning) (height : ℕ) (o : Open) (stage : Stage) (f : Scene) (e : Begun) (waiting : Option Place) → height ≢ top →
-      o.base + o.rooms ≤ at → IsInRooms (stage_part m.code.now stage) o.rooms e →
+      o.base + o.rooms ≤ at → IsInRooms (stage_part m.image.code.now stage) o.rooms e →
       StandsExpression world meaning m height o stage f e waiting → StandsExpression world meaning (with_rooms m n z) height o stage f e waiting
   expression_below meaning height o stage f e waiting ne le keeps x = record {
     laid = x.laid;
@@ -124,11 +124,11 @@ module _ (world : World) (m n z : Machine) (at top : ℕ) (others : (j : ℕ) �
     done = done_below stage.straight height x.laid.first stage.cursor x.laid.end f e waiting ne x.done;
     values = values_below o.base x.laid.first x.laid.end f e o.rooms
         (subst (λ (es : List Listed). IsInRooms es o.rooms e)
-        (part_same m.code.now.listing.items stage.first x.laid.first stage.end x.laid.end x.first x.end) keeps) le x.values;
+        (part_same m.image.code.now.listing.items stage.first x.laid.first stage.end x.laid.end x.first x.end) keeps) le x.values;
   }
 
   begun_below : (meaning : Meaning) (height : ℕ) (o : Open) (stage : Option Stage) (f : Scene) (e : Option Begun) (waiting : Option Place) (g : Local) →
-      height ≢ top → o.base + o.rooms ≤ at → KeepsTo m.code.now o.rooms stage g e →
+      height ≢ top → o.base + o.rooms ≤ at → KeepsTo m.image.code.now o.rooms stage g e →
       StandsBegun world meaning m height o stage f e waiting → StandsBegun world meaning (with_rooms m n z) height o stage f e waiting
   begun_below meaning height o None f None waiting g ne le keeps b = b
   begun_below meaning height o None f (Some e) waiting g ne le keeps b = absurd b
@@ -140,10 +140,10 @@ module _ (world : World) (m n z : Machine) (at top : ℕ) (others : (j : ℕ) �
   locals_below o f (b ∷ bs) l = (l.0, locals_below o f bs l.1)
 
   frame_below : (meaning : Meaning) (height : ℕ) (o : Open) (ws : List Work) (f : Local) (u : Place) → height ≢ top → o.base + o.rooms ≤ at →
-      KeepsTo m.code.now o.rooms o.stage f f.begun → StandsFrame world meaning m height o ws None f (Some u) →
+      KeepsTo m.image.code.now o.rooms o.stage f f.begun → StandsFrame world meaning m height o ws None f (Some u) →
       StandsFrame world meaning (with_rooms m n z) height o ws None f (Some u)
   frame_below meaning height o ws f u ne le keeps s =
-      let none = no_arguments world meaning m height o o.stage f.scene f.begun u f m.code.now o.rooms s.begun keeps in
+      let none = no_arguments world meaning m height o o.stage f.scene f.begun u f m.image.code.now o.rooms s.begun keeps in
       record {
         number = s.number;
         turn = s.turn;
@@ -157,7 +157,7 @@ module _ (world : World) (m n z : Machine) (at top : ℕ) (others : (j : ℕ) �
 
   -- the frames below one whose rooms begin there or before
   pub frames_below : (meaning : Option ℕ → Meaning) (o : Open) (f : Local) (os : List Open) (wss : List (List Work)) (hs : List (Local × Place)) →
-      length os ≤ top → o.base ≤ at → IsAbove o f os (map (λ h. (h.0, Some h.1)) hs) → KeepToRooms m.code.now os hs →
+      length os ≤ top → o.base ≤ at → IsAbove o f os (map (λ h. (h.0, Some h.1)) hs) → KeepToRooms m.image.code.now os hs →
       StandFrames world meaning m None os wss (map (λ h. (h.0, Some h.1)) hs) →
       StandFrames world meaning (with_rooms m n z) None os wss (map (λ h. (h.0, Some h.1)) hs)
   frames_below meaning o f [] wss [] high le a keeps s = s

@@ -101,8 +101,8 @@ within_rows world meaning m new b st c (Err (halt.Raised event line clause)) h k
 
 -- where the code has the block
 there_rows : (m new : Machine) (b : Bor Block) (r : Result (Option ℕ) Halt) (c : BlockCode) →
-    slice_get m.code.now.tables.blocks.items (min (m.top.blocks + b.now.number) (2 ^ 32 - 1)) ≡ Some c →
-    (CanBear (turned m b.now.number) c.first (length (part_of m.code.now.tables.objects.items c.objects)) →
+    slice_get m.image.code.now.tables.blocks.items (min (m.top.blocks + b.now.number) (2 ^ 32 - 1)) ≡ Some c →
+    (CanBear (turned m b.now.number) c.first (length (part_of m.image.code.now.tables.objects.items c.objects)) →
     EntersWithin (turned m b.now.number) new c r) → GrowsByStep (taking.Enter b) m new r
 there_rows m new b r c at e = λ world meaning st h.
     let k = known world meaning m b st c h at in

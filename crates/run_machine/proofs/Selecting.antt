@@ -78,7 +78,8 @@ number_seen : (mg : Meaning) (b : Switch) → (switch_of mg b).number ≡ b.numb
 number_seen mg b = search (rules, the_lemmas)
 
 pub selected_todo : (world : World) (meaning : Option ℕ → Meaning) (p : Program) (m m2 : Machine) (n : ℕ) (b : Bor Switch) (o : Operand) (h : Kept_value)
-    (k : Kept) → StandsCode world p m.code.now meaning → HasLabelsOf m.code.now m.jumps n → m.top.function ≡ Some n → HasSelected m b.now.number o m2 →
+    (k : Kept) → StandsCode world p m.image.code.now meaning → HasLabelsOf m.image.code.now m.jumps n → m.top.function ≡ Some n →
+    HasSelected m b.now.number o m2 →
     operand_in m o ≡ Some h →
     todo_of (meaning (Some n)) m2.work.now ≡ work_after (truth (value_in k h)) (integer_of (value_in k h)) (use_of (meaning (Some n)) (for_use.Select b))
     (todo_of (meaning (Some n)) m.work.now)

@@ -426,7 +426,7 @@ settle_answers quiet room m m2 m3 stage r other used goes still ends is = λ wor
 -- .. or a case of a `switch` comes next
 case_todo : (world : World) (meaning : Option ℕ → Meaning) (m m2 : Machine) (stage : Stage) (st : State) (b : Bor Switch) (what : todo.Use) (behind : Todo)
     (h : Kept_value) (n : Option ℕ) → m.top.function ≡ n → GoesBehind n m st what behind → use_of (meaning n) (for_use.Select b) ≡ what →
-    HasCases m.code.now m.jumps n (for_use.Select b) → Stands world meaning m st → HasSelected (closed_in m) b.now.number stage.value m2 →
+    HasCases m.image.code.now m.jumps n (for_use.Select b) → Stands world meaning m st → HasSelected (closed_in m) b.now.number stage.value m2 →
     operand_in (closed_in m) stage.value ≡ Some h →
     todo_of (meaning n) m2.work.now ≡ work_after (truth (value_in m.memory h)) (integer_of (value_in m.memory h))
     (use_of (meaning n) (for_use.Select b)) (todo_of (meaning n) m.work.now)
@@ -442,7 +442,7 @@ case_after : (world : World) (meaning : Option ℕ → Meaning) (m m2 : Machine)
 case_after world meaning m m2 stage st b how selects s x gives =
     let k = meaning m.top.function in
     case_todo world meaning m m2 stage st b x.e.what (settled world st.top (root_value world st.top x.e) x.e.what).todo x.value m.top.function refl x.can.behind
-    (ap (use_of k) (sym how) ∙ x.how) (subst (λ (u : Use). HasCases m.code.now m.jumps m.top.function u) how x.can.chooses) s selects gives
+    (ap (use_of k) (sym how) ∙ x.how) (subst (λ (u : Use). HasCases m.image.code.now m.jumps m.top.function u) how x.can.chooses) s selects gives
     ∙ ap (λ (u : Use). work_after (truth (value_in m.memory x.value)) (integer_of (value_in m.memory x.value)) (use_of k u) (todo_of k m.work.now)) (sym how)
 
 pub select_answers : QuietGives → RoomGives → (m m2 m3 : Machine) (stage : Stage) (b : Bor Switch) (r : Result (Option ℕ) Halt) →

@@ -159,9 +159,9 @@ capped_wide a b lt = omega (arith, lt)
 
 -- what the machine names is the object of the innermost block
 pub names_own : (world : World) (m : Machine) (f : Scene) (bs : List (ℕ × ℕ)) (n turn d : ℕ) (rest : List (ℕ × ℕ)) (c : BlockCode) (l : Kept_local) →
-    bs ≡ (n, turn) ∷ rest → slice_get m.code.now.tables.blocks.items (min (m.top.blocks + n) (2 ^ 32 - 1)) ≡ Some c →
+    bs ≡ (n, turn) ∷ rest → slice_get m.image.code.now.tables.blocks.items (min (m.top.blocks + n) (2 ^ 32 - 1)) ≡ Some c →
     slice_get m.locals.items (min (m.top.locals + min (c.first + d) (2 ^ 32 - 1)) (2 ^ 64 - 1)) ≡ Some l →
-    ((code : BlockCode) → slice_get m.code.now.tables.blocks.items (m.top.blocks + n) ≡ Some code →
+    ((code : BlockCode) → slice_get m.image.code.now.tables.blocks.items (m.top.blocks + n) ≡ Some code →
     (m.top.blocks + n < 2 ^ 32) × (d < code.objects.count) × (code.first + d < 2 ^ 32) × (m.top.locals + (code.first + d) < 2 ^ 64)) →
     StandLocals world m m.top f bs → l.name ≡ auto_name world f turn d
 names_own world m f bs n turn d rest c l first block there declared locals =
@@ -169,7 +169,7 @@ names_own world m f bs n turn d rest c l first block there declared locals =
     let code = own.0.0 in
     let bounds = declared code own.0.1 in
     let same = some_same c code (sym block
-    ∙ ap (slice_get m.code.now.tables.blocks.items) (capped m.top.blocks n (m.top.blocks + n) bounds.0 refl) ∙ own.0.1) in
+    ∙ ap (slice_get m.image.code.now.tables.blocks.items) (capped m.top.blocks n (m.top.blocks + n) bounds.0 refl) ∙ own.0.1) in
     let at = capped code.first d (c.first + d) bounds.2 (ap (λ (k : BlockCode). k.first + d) same) in
     let there_too = ap (λ (i : ℕ). slice_get m.locals.items (min (m.top.locals + i) (2 ^ 64 - 1))) at
     ∙ ap (slice_get m.locals.items) (capped_wide m.top.locals (code.first + d) bounds.3) in
@@ -187,7 +187,7 @@ lives_stand world meaning m os is before st after trace keeps control s =
     control (stands_live world there os keeps meaning st s)
 
 answers_so : (m : Machine) (d : ℕ) (os : List Held) (is : List Item) (b : Bor Block) (c : BlockCode) (l : Kept_local) → innermost m.work.now ≡ Some b →
-    slice_get m.code.now.tables.blocks.items (min (m.top.blocks + b.now.number) (2 ^ 32 - 1)) ≡ Some c →
+    slice_get m.image.code.now.tables.blocks.items (min (m.top.blocks + b.now.number) (2 ^ 32 - 1)) ≡ Some c →
     slice_get m.locals.items (min (m.top.locals + min (c.first + d) (2 ^ 32 - 1)) (2 ^ 64 - 1)) ≡ Some l → Keeps m.memory (with_objects m.memory os) →
     run m.memory.rows (unwrite m.memory.rows l.name) (store_of m.memory m.streams) ≡ Done tt is (store_of (with_objects m.memory os) m.streams) →
     AnswersStep (taking.Unwrite d) m (record m { memory = with_objects m.memory os; items = is }) (Ok None)
@@ -204,7 +204,7 @@ answers_so m d os is b c l inner block there keeps exact = λ world meaning st h
     (subst (λ (t : Todo). Closes t (map (λ (k : ℕ × ℕ). k.0) bs)) ready around.closes) inner in
     let first = begins_with bs b.now.number found.0 found.1 in
     let turn = first.0 in
-    let declared = subst (λ (ds : List (ℕ × ℕ)). IsDeclared m.code.now m.top d ds) first.2 h.can.1 in
+    let declared = subst (λ (ds : List (ℕ × ℕ)). IsDeclared m.image.code.now m.top d ds) first.2 h.can.1 in
     let name = names_own world (as_before m h.before) st.top.scene bs b.now.number turn d first.1 c l first.2 block there declared frame.locals in
     let x = auto_name world st.top.scene turn d in
     let same = same_row m.memory world.rows x h.stands.memory.sound.rowed h.stands.memory.rows in
@@ -224,7 +224,7 @@ answers_so m d os is b c l inner block there keeps exact = λ world meaning st h
     )
 
 unwrite_answers : (m : Machine) (d : ℕ) (k : Kept) (is : List Item) (b : Bor Block) (c : BlockCode) (l : Kept_local) → innermost m.work.now ≡ Some b →
-    slice_get m.code.now.tables.blocks.items (min (m.top.blocks + b.now.number) (2 ^ 32 - 1)) ≡ Some c →
+    slice_get m.image.code.now.tables.blocks.items (min (m.top.blocks + b.now.number) (2 ^ 32 - 1)) ≡ Some c →
     slice_get m.locals.items (min (m.top.locals + min (c.first + d) (2 ^ 32 - 1)) (2 ^ 64 - 1)) ≡ Some l → Keeps m.memory k →
     record k { objects = [] } ≡ record m.memory { objects = [] } →
     ((io : Io) → run k.rows (unwrite k.rows l.name) (store_of m.memory io) ≡ Done tt is (store_of k io)) →
@@ -237,7 +237,7 @@ unwrite_answers m d k is b c l inner block there keeps rest exact =
 
 -- .. by the name that was read
 pub unwrite_named : (m : Machine) (d at : ℕ) (k : Kept) (is : List Item) (b : Bor Block) (c : BlockCode) (x : ObjName) → innermost m.work.now ≡ Some b →
-    slice_get m.code.now.tables.blocks.items (min (m.top.blocks + b.now.number) (2 ^ 32 - 1)) ≡ Some c → at ≡ min (c.first + d) (2 ^ 32 - 1) →
+    slice_get m.image.code.now.tables.blocks.items (min (m.top.blocks + b.now.number) (2 ^ 32 - 1)) ≡ Some c → at ≡ min (c.first + d) (2 ^ 32 - 1) →
     (l : Kept_local) × (slice_get m.locals.items (min (m.top.locals + at) (2 ^ 64 - 1)) ≡ Some l) × (l.name ≡ x) →
     Keeps m.memory k → record k { objects = [] } ≡ record m.memory { objects = [] } →
     ((io : Io) → run k.rows (unwrite k.rows x) (store_of m.memory io) ≡ Done tt is (store_of k io)) →

@@ -129,10 +129,10 @@ fn block_of<'c>(
     machine: &Machine<'_, 'c>,
     number: u32,
 ) -> Result<(BlockCode, &'c [ObjectCode]), NoMemory>
-    ensures at { IfOk result (λ b. slice_get machine.now.code.now.tables.blocks.items (min (machine.now.top.blocks + number) (2 ^ 32 - 1)) ≡ Some b.0) }
-    ensures objects { IfOk result (λ b. b.1.now ≡ part_of machine.now.code.now.tables.objects.items b.0.objects) }
+    ensures at { IfOk result (λ b. slice_get machine.now.image.code.now.tables.blocks.items (min (machine.now.top.blocks + number) (2 ^ 32 - 1)) ≡ Some b.0) }
+    ensures objects { IfOk result (λ b. b.1.now ≡ part_of machine.now.image.code.now.tables.objects.items b.0.objects) }
 {
-    let code = machine.code;
+    let code = machine.image.code;
     let at = machine.top.blocks.saturating_add(number);
     match code.block(at) {
         Some(block) => Ok(block),
@@ -342,14 +342,14 @@ fn own_expression<'p, 'c>(
     machine: &Machine<'p, 'c>,
     number: u32,
 ) -> Option<(&'c Expression<'p>, &'c [(u32, u32)])>
-    ensures found { IfSome result (λ e. (slice_get machine.now.code.now.expressions.items number ≡ Some e.0.now)
-        × (e.1.now ≡ part_of machine.now.code.now.tables.chosen.items e.0.now.chosen)) }
+    ensures found { IfSome result (λ e. (slice_get machine.now.image.code.now.expressions.items number ≡ Some e.0.now)
+        × (e.1.now ≡ part_of machine.now.image.code.now.tables.chosen.items e.0.now.chosen)) }
     ensures own { IfSome result (λ e. IsAmong machine.now.top.expressions number) }
 {
     if !is_among(machine.top.expressions, number) {
         return None;
     }
-    let code = machine.code;
+    let code = machine.image.code;
     code.expression(number)
 }
 

@@ -38,7 +38,7 @@ fn pass_event(machine: &mut Machine)
 // on a result copies it.
 #[inline(always)]
 pub fn take_event(machine: &mut Machine, due: &Due) -> Result<Pick, Halt>
-    requires named { IsDueOf machine.old.code.now.tables due.now }
+    requires named { IsDueOf machine.old.image.code.now.tables due.now }
     ensures event { IfOk result (IsOfEvent (event_at machine.old due.now.place)) }
     ensures answers { AnswersEvent due.now machine.old machine.new result }
     ensures bodies { AnswersBody due.now machine.old machine.new result }
@@ -55,7 +55,7 @@ pub fn take_event(machine: &mut Machine, due: &Due) -> Result<Pick, Halt>
     law_library();
     law_view();
     law_cursor();
-    let code = machine.code;
+    let code = machine.image.code;
     let event = Event {
         frame: machine.top.frame,
         turn: machine.top.turn,

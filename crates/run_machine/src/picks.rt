@@ -110,7 +110,7 @@ fn permitted<'p, 'c>(
 ) -> Result<Option<&'c Due<'p>>, NoMemory>
     ensures permits { IfOk result (λ due. Permits machine.old place (is_some due)) }
     ensures place { IfOk result (λ due. IfSome due (λ d. d.now.place ≡ place)) }
-    ensures named { IfOk result (λ due. IfSome due (λ d. IsDueOf machine.new.code.now.tables d.now)) }
+    ensures named { IfOk result (λ due. IfSome due (λ d. IsDueOf machine.new.image.code.now.tables d.now)) }
     ensures frame { IfOk result (λ due. (machine.new.top.frame ≡ machine.old.top.frame) × (machine.new.top.turn ≡ machine.old.top.turn)) }
     ensures unchanged { IfOk result (λ due. IfNone due (machine.new ≡ machine.old)) }
     ensures reaches { IfOk result (λ due. IfSome due (λ d. Reaches machine.old d.now machine.new)) }
@@ -127,7 +127,7 @@ fn permitted<'p, 'c>(
             }
         }
     }
-    let code = machine.code;
+    let code = machine.image.code;
     let Some(due) = due_of(part(&code.listing, stage.first, stage.end), place) else {
         return Ok(None);
     };
@@ -199,7 +199,7 @@ fn passed_events(machine: &Machine, stage: Stage) -> Result<Done, NoMemory>
     ensures { IfOk result (λ done. (b : BegunOf) × (top_of machine.now ≡ Some b)
         × ((p : PlaceOf) → done_in done p ≡ has (events_of (taken_in b.taken) (passed_part machine.now stage)) p)) }
 {
-    let code = machine.code;
+    let code = machine.image.code;
     let begun = opened(machine)?;
     passed(
         machine.alloc,
@@ -213,7 +213,7 @@ fn passed_events(machine: &Machine, stage: Stage) -> Result<Done, NoMemory>
 fn follow<'p, 'c>(machine: &mut Machine<'p, 'c>) -> Result<Option<&'c Due<'p>>, NoMemory>
     ensures follows { IfOk result (Follows machine.old machine.new) }
     ensures streams { machine.new.streams ≡ machine.old.streams }
-    ensures named { IfOk result (λ due. IfSome due (λ d. IsDueOf machine.new.code.now.tables d.now)) }
+    ensures named { IfOk result (λ due. IfSome due (λ d. IsDueOf machine.new.image.code.now.tables d.now)) }
     ensures frame { IfOk result (λ due. (machine.new.top.frame ≡ machine.old.top.frame) × (machine.new.top.turn ≡ machine.old.top.turn)) }
 {
     let Some(stage) = &machine.top.stage else {
@@ -237,9 +237,9 @@ fn strayed_next<'p, 'c>(
     stage: Stage,
 ) -> Result<Option<&'c Due<'p>>, NoMemory>
     ensures next { IfOk result (λ due. (b : BegunOf) × (top_of machine.now ≡ Some b) × ByOrder machine.now stage b due) }
-    ensures named { IfOk result (λ due. IfSome due (λ d. IsDueOf machine.now.code.now.tables d.now)) }
+    ensures named { IfOk result (λ due. IfSome due (λ d. IsDueOf machine.now.image.code.now.tables d.now)) }
 {
-    let code = machine.code;
+    let code = machine.image.code;
     let begun = opened(machine)?;
     let done = strayed(machine)?;
     Ok(next_left(
@@ -257,9 +257,9 @@ fn listed_next<'p, 'c>(
     stage: Stage,
 ) -> Result<Option<(usize, &'c Due<'p>)>, NoMemory>
     ensures next { IfOk result (ComesNext machine.now stage) }
-    ensures named { IfOk result (λ found. IfSome found (λ f. IsDueOf machine.now.code.now.tables f.1.now)) }
+    ensures named { IfOk result (λ found. IfSome found (λ f. IsDueOf machine.now.image.code.now.tables f.1.now)) }
 {
-    let code = machine.code;
+    let code = machine.image.code;
     let begun = opened(machine)?;
     Ok(next(part(&code.listing, stage.cursor, stage.end), &begun.taken))
 }
@@ -302,7 +302,7 @@ fn event_ahead(machine: &Machine, stage: Stage) -> Option<Place>
     if stage.cursor >= stage.end {
         return None;
     }
-    match machine.code.listing.get(stage.cursor) {
+    match machine.image.code.listing.get(stage.cursor) {
         Some(Listed::Event(due)) => Some(due.place),
         _ => None,
     }

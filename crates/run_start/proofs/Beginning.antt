@@ -59,19 +59,19 @@ pub record Parts (old first : Kept) (p : Program) (args : List (List ℕ)) (inpu
   pub before : Keeps old first
   pub since : Keeps first m.memory
   pub store : (io : Io) → store_of m.memory io ≡ store_of first io
-  pub vias : AreEach (IsNamedVia m.memory) m.code.now.tables.stores.items m.vias.items
-  pub fillings : AreEach (AreBytesWhere m.memory m.places) m.code.now.tables.constants.items m.fillings.items
+  pub vias : AreEach (IsNamedVia m.memory) m.image.code.now.tables.stores.items m.image.vias.items
+  pub fillings : AreEach (AreBytesWhere m.memory m.places) m.image.code.now.tables.constants.items m.image.fillings.items
   pub streams : m.streams ≡ record { input = input; position = 0; output = silent }
   pub below : m.below.items ≡ []
   pub top : IsFirst p m.top
-  pub work : StartsMain m.code.now p m.work
+  pub work : StartsMain m.image.code.now p m.work
   pub depth : m.depth ≡ 1
   pub left : m.left ≡ None
 
 -- from those of which it was made
 pub assembled_parts : (old first : Kept) (p : Program) (args : List (List ℕ)) (input : List ℕ) (m : Machine) (places : Places) (memory : Kept) (code : Code)
     (vias : List Via) (fillings : List (List Filling)) (top : Open) (does : Stacked) → m.program.now ≡ p → m.places ≡ places → m.memory ≡ memory →
-    m.code.now ≡ code → m.vias.items ≡ vias → m.fillings.items ≡ fillings → m.top ≡ top → m.work ≡ does →
+    m.image.code.now ≡ code → m.image.vias.items ≡ vias → m.image.fillings.items ≡ fillings → m.top ≡ top → m.work ≡ does →
     m.streams ≡ record { input = input; position = 0; output = silent } → m.below.items ≡ [] → m.depth ≡ 1 → m.left ≡ None →
     StartStands old first p (program_name ∷ args) → ArePlaced first p places → Keeps old first → Keeps first memory →
     ((io : Io) → store_of memory io ≡ store_of first io) → AreEach (IsNamedVia memory) code.tables.stores.items vias →
@@ -85,17 +85,17 @@ assembled_parts old first p args input m places memory code vias fillings top do
       before = before;
       since = subst (λ (k : Kept). Keeps first k) (sym is_memory) since;
       store = λ io. ap (λ (k : Kept). store_of k io) is_memory ∙ stored io;
-      vias = subst (λ (vs : List Via). AreEach (IsNamedVia m.memory) m.code.now.tables.stores.items vs) (sym is_vias)
+      vias = subst (λ (vs : List Via). AreEach (IsNamedVia m.memory) m.image.code.now.tables.stores.items vs) (sym is_vias)
           (subst (λ (k : Code). AreEach (IsNamedVia m.memory) k.tables.stores.items vias) (sym is_code)
           (subst (λ (k : Kept). AreEach (IsNamedVia k) code.tables.stores.items vias) (sym is_memory) are_vias));
-      fillings = subst (λ (fs : List (List Filling)). AreEach (AreBytesWhere m.memory m.places) m.code.now.tables.constants.items fs) (sym is_fillings)
+      fillings = subst (λ (fs : List (List Filling)). AreEach (AreBytesWhere m.memory m.places) m.image.code.now.tables.constants.items fs) (sym is_fillings)
           (subst (λ (k : Code). AreEach (AreBytesWhere m.memory m.places) k.tables.constants.items fillings) (sym is_code)
           (subst (λ (k : Kept). AreEach (AreBytesWhere k m.places) code.tables.constants.items fillings) (sym is_memory)
           (subst (λ (q : Places). AreEach (AreBytesWhere memory q) code.tables.constants.items fillings) (sym is_places) are_fillings)));
       streams = is_streams;
       below = is_below;
       top = subst (λ (o : Open). IsFirst p o) (sym is_top) is_first;
-      work = subst (λ (w : Stacked). StartsMain m.code.now p w) (sym is_work) (subst (λ (k : Code). StartsMain k p does) (sym is_code) starts);
+      work = subst (λ (w : Stacked). StartsMain m.image.code.now p w) (sym is_work) (subst (λ (k : Code). StartsMain k p does) (sym is_code) starts);
       depth = is_depth;
       left = is_left;
     }
@@ -164,18 +164,20 @@ first_stands world meaning p m vs c b main zero first held is body = record {
 
 -- ---- all together
 tables_stand : (first : Kept) (p : Program) (m : Machine) → ArePlaced first p m.places → Keeps first m.memory → m.program.now ≡ p →
-    AreEach (IsNamedVia m.memory) m.code.now.tables.stores.items m.vias.items →
-    AreEach (AreBytesWhere m.memory m.places) m.code.now.tables.constants.items m.fillings.items →
-    All (λ s. AccessSuits s.access (type_of s.ty.now)) m.code.now.tables.stores.items →
-    All (λ cs. All (λ c. ContentIsLawful p c.content) cs.now) m.code.now.tables.constants.items → StandsTables m
+    AreEach (IsNamedVia m.memory) m.image.code.now.tables.stores.items m.image.vias.items →
+    AreEach (AreBytesWhere m.memory m.places) m.image.code.now.tables.constants.items m.image.fillings.items →
+    All (λ s. AccessSuits s.access (type_of s.ty.now)) m.image.code.now.tables.stores.items →
+    All (λ cs. All (λ c. ContentIsLawful p c.content) cs.now) m.image.code.now.tables.constants.items → StandsTables m
 tables_stand first p m placed since is vias fillings suits lawful =
     let there = placed_still first m.memory p m.places since placed in
     record {
       places = subst (λ (q : Program). ArePlaced m.memory q m.places) (sym is) there;
-      vias = each_where (λ s. AccessSuits s.access (type_of s.ty.now)) (IsNamedVia m.memory) (IsVia m.memory) m.code.now.tables.stores.items m.vias.items
+      vias = each_where (λ s. AccessSuits s.access (type_of s.ty.now)) (IsNamedVia m.memory) (IsVia m.memory) m.image.code.now.tables.stores.items
+          m.image.vias.items
           (λ s via suit named. named_seen m.memory s.access (type_of s.ty.now) via suit named) suits vias;
       fillings = each_where (λ cs. All (λ c. ContentIsLawful p c.content) cs.now) (AreBytesWhere m.memory m.places) (AreBytes m.memory)
-          m.code.now.tables.constants.items m.fillings.items (λ cs fs law can. can (can_hold_all m.memory p m.places cs.now there law)) lawful fillings;
+          m.image.code.now.tables.constants.items m.image.fillings.items (λ cs fs law can. can (can_hold_all m.memory p m.places cs.now there law)) lawful
+          fillings;
     }
 
 frames_stand : (world : World) (meaning : Option ℕ → Meaning) (m : Machine) (st : State) (b : Bor Statement) → m.left ≡ None → m.below.items ≡ [] →
@@ -210,7 +212,7 @@ begins old first p args input m nothing high parts =
             record {
               program = subst (λ (q : Program). StandsProgram world q) (sym parts.program)
                   (record { functions = refl; main = refl; agree = refl; library = refl });
-              code = subst (λ (q : Program). StandsCode world q m.code.now meaning) (sym parts.program) code;
+              code = subst (λ (q : Program). StandsCode world q m.image.code.now meaning) (sym parts.program) code;
               listed = listed;
               memory = record {
                 store = refl;

@@ -48,3 +48,10 @@ each_where R P Q [] [] f all are = tt
 each_where R P Q [] (y ∷ ys) f all are = absurd are
 each_where R P Q (x ∷ xs) [] f all are = absurd are
 each_where R P Q (x ∷ xs) (y ∷ ys) f all are = (f x y (All-head R x xs all) are.0, each_where R P Q xs ys f (All-tail R x xs all) are.1)
+
+-- there are as many of the one as of the other
+pub each_count : {A B : Type 0} (P : A → B → Type 0) (xs : List A) (ys : List B) → AreEach P xs ys → length ys ≡ length xs
+each_count P [] [] are = refl
+each_count P [] (y ∷ ys) are = absurd are
+each_count P (x ∷ xs) [] are = absurd are
+each_count P (x ∷ xs) (y ∷ ys) are = omega (arith, each_count P xs ys are.1)

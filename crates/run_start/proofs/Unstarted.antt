@@ -15,13 +15,13 @@ use Rattle.run_start.proofs.Beginning.{Parts}
 
 -- ---- the machine
 pub unstarted : (p : Program) (code : Code) (top : Open) (m n : Machine) → n ≡ record m { locals = n.locals } → m.top.above ≤ length n.locals.items →
-    m.program.now ≡ p → m.code.now ≡ code → m.top ≡ top → IsFirst p top → SeesMain p code top → m.below.items ≡ [] → m.entered ≡ 0 → m.depth ≡ 1 →
+    m.program.now ≡ p → m.image.code.now ≡ code → m.top ≡ top → IsFirst p top → SeesMain p code top → m.below.items ≡ [] → m.entered ≡ 0 → m.depth ≡ 1 →
     m.begun.items ≡ [] → m.strayed.items ≡ [] → m.left ≡ None → m.items ≡ [] → m.spare ≡ [] → IsUnstarted p n
 unstarted p code top m n same places is_p is_code is_top first sees below entered depth begun strayed left items spare =
     subst (λ (k : Machine). IsUnstarted p k) (sym same) (record {
       program = is_p;
       top = subst (λ (o : Open). IsFirst p o) (sym is_top) first;
-      sees = subst (λ (o : Open). SeesMain p m.code.now o) (sym is_top) (subst (λ (k : Code). SeesMain p k top) (sym is_code) sees);
+      sees = subst (λ (o : Open). SeesMain p m.image.code.now o) (sym is_top) (subst (λ (k : Code). SeesMain p k top) (sym is_code) sees);
       places = places;
       below = below;
       entered = entered;

@@ -61,8 +61,8 @@ abbrev pub BeginsAsDefined : Program → List (List ℕ) → List ℕ → Machin
 BeginsAsDefined p arguments input m =
     (os : List Standing) × Stand p (program_name ∷ arguments) os
     × ((rows : List Row) (number : Path → ℕ) (limits : Limits) (meaning : Option ℕ → Meaning) (vs : List Value) → RowsStay m.memory.rows rows
-    → number [] ≡ 0 → StartIsWithin limits os m → StandsCode (world_with p arguments os rows number limits) p m.code.now meaning
-    → ListsTrees m.code.now → HoldsAll m.memory m.values.items 0 vs → StartsAs (world_with p arguments os rows number limits) meaning input vs m)
+    → number [] ≡ 0 → StartIsWithin limits os m → StandsCode (world_with p arguments os rows number limits) p m.image.code.now meaning
+    → ListsTrees m.image.code.now → HoldsAll m.memory m.values.items 0 vs → StartsAs (world_with p arguments os rows number limits) meaning input vs m)
 
 -- The first rooms hold what `main` is given, in each world of the program whose rows have those of the machine's memory: how many strings there are and a
 -- pointer to the array of pointers to them where it takes arguments, and else nothing (5.1.2.2.1p2).
@@ -114,7 +114,7 @@ pub record SeesMain (p : Program) (code : Code) (o : Open) : Type 0 where
 pub record IsUnstarted (p : Program) (m : Machine) : Type 0 where
   pub program : m.program.now ≡ p
   pub top : IsFirst p m.top
-  pub sees : SeesMain p m.code.now m.top
+  pub sees : SeesMain p m.image.code.now m.top
   pub places : m.top.above ≤ length m.locals.items
   pub below : m.below.items ≡ []
   pub entered : m.entered ≡ 0

@@ -20,7 +20,7 @@ use prov_memory::{Memory, Streams, Touched, TypeId, Value, Via};
 use run_control::{Control, Statement, Use};
 use run_layout::{Code, FunctionCode, StoreCode};
 use run_standing::{Started, fillings, start};
-use run_state::{Halt, Machine, Open};
+use run_state::{Halt, Image, Machine, Open};
 use run_statements::Jumps;
 use run_values::{Filling, Places};
 use std::alloc::Global;
@@ -31,6 +31,7 @@ fn vias_of(alloc: Global, code: &Code, memory: &mut Memory) -> Result<Vec<Via>, 
     ensures kept { Keeps memory.old memory.new }
     ensures store { AreTagged memory.old → (io : Io) → store_of memory.new io ≡ store_of memory.old io }
     ensures vias { IfOk result (λ vias. AreEach (IsNamedVia memory.new) code.now.tables.stores.items vias.items) }
+    ensures count { IfOk result (λ vias. length vias.items ≡ length code.now.tables.stores.items) }
 {
     let mut vias = Vec::new(alloc);
     for store in &code.tables.stores {
@@ -58,7 +59,8 @@ fn fillings_of(
     memory: &Memory,
     places: &Places,
 ) -> Result<Vec<Items<Filling>>, NoMemory>
-    ensures { AreNamed memory.now → IfOk result (λ all. AreEach (AreBytesWhere memory.now places.now) code.now.tables.constants.items all.items) }
+    ensures bytes { AreNamed memory.now → IfOk result (λ all. AreEach (AreBytesWhere memory.now places.now) code.now.tables.constants.items all.items) }
+    ensures count { IfOk result (λ all. length all.items ≡ length code.now.tables.constants.items) }
 {
     let mut all = Vec::new(alloc);
     for constants in &code.tables.constants {
@@ -217,8 +219,8 @@ pub fn prepare<'p, 'c>(
     ensures given { IfOk result (λ machine. IsLawful program.now → memory ≡ empty memory.rows memory.mode
         → HoldsGiven program.now (map string_bytes args.now) machine) }
     // Of each function that has code the labels of its body are kept (6.8.6.1).
-    ensures labels { IfOk result (λ machine. KeepsLabels machine.code.now machine.jumps) }
-    ensures code { IfOk result (λ machine. machine.code ≡ code.entry) }
+    ensures labels { IfOk result (λ machine. KeepsLabels machine.image.code.now machine.jumps) }
+    ensures code { IfOk result (λ machine. machine.image.code ≡ code.entry) }
     // Just the frame of `main` is open, with places for its objects, and sees the blocks and the full expressions of its code.
     ensures first { IfOk result (λ machine. IsUnstarted program.now machine) }
 {
@@ -229,9 +231,12 @@ pub fn prepare<'p, 'c>(
     let streams = Streams::new(alloc, input);
     let frame = first_frame(alloc, program, code)?;
     let above = frame.top.above;
-    let mut machine = assembled(
-        alloc, program, code, streams, first, vias, fillings, items, frame,
-    );
+    let image = Image {
+        code,
+        vias,
+        fillings,
+    };
+    let mut machine = assembled(alloc, program, image, streams, first, items, frame);
     machine.grow_locals(above)?;
     Ok(machine)
 }
@@ -239,18 +244,14 @@ pub fn prepare<'p, 'c>(
 fn assembled<'p, 'c>(
     alloc: Global,
     program: &'p Program,
-    code: &'c Code<'p>,
+    image: Image<'p, 'c>,
     streams: Streams,
     first: Placed,
-    vias: Vec<Via>,
-    fillings: Vec<Items<Filling>>,
     items: TouchedItems,
     frame: First<'c>,
 ) -> Machine<'p, 'c>
     ensures program { result.program ≡ program.entry }
-    ensures code { result.code ≡ code.entry }
-    ensures vias { result.vias ≡ vias }
-    ensures fillings { result.fillings ≡ fillings }
+    ensures image { result.image ≡ image.entry }
     ensures places { result.places ≡ first.places }
     ensures memory { result.memory ≡ first.memory }
     ensures streams { result.streams ≡ streams }
@@ -277,9 +278,7 @@ fn assembled<'p, 'c>(
     Machine {
         alloc,
         program,
-        code,
-        vias,
-        fillings,
+        image,
         places,
         memory,
         streams,

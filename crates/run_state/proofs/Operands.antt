@@ -82,7 +82,7 @@ pointer_of m x offset a made = record { made = made; known = tt; tagged = tt }
 
 -- ---- the objects of open blocks
 module _ (world : World) (m : Machine) (f : Scene) (block k : ℕ) (code : BlockCode)
-    (at : slice_get m.code.now.tables.blocks.items (m.top.blocks + block) ≡ Some code) (less : k < code.objects.count) where
+    (at : slice_get m.image.code.now.tables.blocks.items (m.top.blocks + block) ≡ Some code) (less : k < code.objects.count) where
   abbrev Here : ℕ → Type 0
   Here turn = StandsLocal world m (m.top.locals + (code.first + k)) f turn k
 
@@ -90,9 +90,9 @@ module _ (world : World) (m : Machine) (f : Scene) (block k : ℕ) (code : Block
   local_there [] all h = absurd (cc)
   local_there (b ∷ bs) all h = go (b.0 == block) refl h (λ g. local_there bs all.1 g)
     where
-      own : (c : BlockCode) → slice_get m.code.now.tables.blocks.items (m.top.blocks + b.0) ≡ Some c → b.0 ≡ block → code ≡ c
+      own : (c : BlockCode) → slice_get m.image.code.now.tables.blocks.items (m.top.blocks + b.0) ≡ Some c → b.0 ≡ block → code ≡ c
       own c there e =
-          let both : Some code ≡ Some c = sym at ∙ (ap (λ (j : ℕ). slice_get m.code.now.tables.blocks.items (m.top.blocks + j)) (sym e) ∙ there) in
+          let both : Some code ≡ Some c = sym at ∙ (ap (λ (j : ℕ). slice_get m.image.code.now.tables.blocks.items (m.top.blocks + j)) (sym e) ∙ there) in
           cc
 
       first : b.0 ≡ block → Here b.1

@@ -69,7 +69,7 @@ is_open (b ∷ bs) block = (b.0 == block) || is_open bs block
 -- the object is one of a block that is open, whose first object has this number in the function, or one with static storage
 abbrev pub IsThere : Machine → (firsts : List ℕ) → List (ℕ × ℕ) → Slot → Type 0
 IsThere m firsts blocks (slot.Auto block decl) =
-    (code : BlockCode) × (slice_get m.code.now.tables.blocks.items (m.top.blocks + block) ≡ Some code) × (slice_get firsts block ≡ Some code.first)
+    (code : BlockCode) × (slice_get m.image.code.now.tables.blocks.items (m.top.blocks + block) ≡ Some code) × (slice_get firsts block ≡ Some code.first)
     × (decl < code.objects.count) × (code.first + decl < 2 ^ 32) × (is_open blocks block ≡ true)
 IsThere m firsts blocks (slot.Static number) = number < length m.program.now.statics
 

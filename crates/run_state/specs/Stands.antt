@@ -114,8 +114,8 @@ AreBytes m cs fs = AreFillings m fs (map filled_by cs.now) × AreOf m fs
 -- what the code names by numbers: where objects with static storage and literals stand, how each store accesses memory, the bytes of initializer lists
 pub record StandsTables (m : Machine) : Type 0 where
   pub places : ArePlaced m.memory m.program.now m.places
-  pub vias : AreEach (IsVia m.memory) m.code.now.tables.stores.items m.vias.items
-  pub fillings : AreEach (AreBytes m.memory) m.code.now.tables.constants.items m.fillings.items
+  pub vias : AreEach (IsVia m.memory) m.image.code.now.tables.stores.items m.image.vias.items
+  pub fillings : AreEach (AreBytes m.memory) m.image.code.now.tables.constants.items m.image.fillings.items
 
 -- 2. Control.
 
@@ -134,7 +134,7 @@ StandsStrayed strayed height e =
 
 -- on the straight way the cursor says what is done
 abbrev pub StandsDone : Bool → World → Machine → ℕ → (first cursor end : ℕ) → Scene → Begun → Option Place → Type 0
-StandsDone true world m height first cursor end f e waiting = StandsStraight world f m.code.now.listing.items first cursor end e waiting
+StandsDone true world m height first cursor end f e waiting = StandsStraight world f m.image.code.now.listing.items first cursor end e waiting
 StandsDone false world m height first cursor end f e waiting = StandsStrayed m.strayed.items height e
 
 -- the node is an update, with these operands
@@ -148,7 +148,7 @@ pub record StandsValues (world : World) (m : Machine) (base first end : ℕ) (f 
   pub val : (n : ℕ) (v : Value) → e.given (place n Val) ≡ Some v → Holds m.memory m.values.items (base + n) v
   pub body : (n : ℕ) (v : Value) → e.given (place n Val) ≡ None → e.given (place n Body) ≡ Some v → Holds m.memory m.values.items (base + n) v
   pub update : (i : ℕ) (due : Due) (store room : ℕ) (target : Operand) (c : Change) (old : Bool) (es : Exprs) (v : Value)
-      → slice_get (part_of m.code.now.listing.items first end) i ≡ Some (listed.Event due) → due.act ≡ act.Store store target (Done room)
+      → slice_get (part_of m.image.code.now.listing.items first end) i ≡ Some (listed.Event due) → due.act ≡ act.Store store target (Done room)
       → due.place.kind ≡ Eff → IsUpdate (at_node 0 e.root due.place.node) c old es → e.given (place due.place.node Val) ≡ Some v
       → Holds m.memory m.values.items (base + room) (new_value c old v (amount old (values_of world f e.given (suc due.place.node) es)))
 
@@ -156,7 +156,7 @@ pub record StandsValues (world : World) (m : Machine) (base first end : ℕ) (f 
 pub record StandsExpression (world : World) (meaning : Meaning) (m : Machine) (height : ℕ) (o : Open) (stage : Stage) (f : Scene) (e : Begun)
     (waiting : Option Place) : Type 0 where
   pub laid : Expression
-  pub at : slice_get m.code.now.expressions.items stage.expression ≡ Some laid
+  pub at : slice_get m.image.code.now.expressions.items stage.expression ≡ Some laid
   pub root : e.root ≡ expr_of laid.root.now
   pub first : stage.first ≡ laid.first
   pub end : stage.end ≡ laid.end
@@ -192,7 +192,7 @@ StandsLocal world m at f turn k =
 abbrev pub StandLocals : World → Machine → Open → Scene → List (ℕ × ℕ) → Type 0
 StandLocals world m o f [] = Unit {0}
 StandLocals world m o f (b ∷ bs) =
-    ((code : BlockCode) × (slice_get m.code.now.tables.blocks.items (o.blocks + b.0) ≡ Some code)
+    ((code : BlockCode) × (slice_get m.image.code.now.tables.blocks.items (o.blocks + b.0) ≡ Some code)
     × ((k : ℕ) → k < code.objects.count → StandsLocal world m (o.locals + (code.first + k)) f b.1 k))
     × StandLocals world m o f bs
 
@@ -253,8 +253,8 @@ frames_of st = (st.top, None) ∷ map (λ h. (h.0, Some h.1)) st.held
 
 pub record Stands (world : World) (meaning : Option ℕ → Meaning) (m : Machine) (st : State) : Type 0 where
   pub program : StandsProgram world m.program.now
-  pub code : StandsCode world m.program.now m.code.now meaning
-  pub listed : ListsTrees m.code.now
+  pub code : StandsCode world m.program.now m.image.code.now meaning
+  pub listed : ListsTrees m.image.code.now
   pub memory : StandsMemory world m.memory m.streams st.store
   pub tables : StandsTables m
   pub frames : StandFrames world meaning m m.left (m.top ∷ reverse m.below.items) (m.work.now ∷ m.work.below) (frames_of st)

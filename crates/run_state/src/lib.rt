@@ -2,11 +2,13 @@
 #![tactic(auto)]
 
 mod halt;
+mod image;
 mod laws;
 mod machine;
 mod watch;
 
 pub use halt::Halt;
+pub use image::Image;
 pub use laws::law_operands;
 pub use machine::{Local, Machine, Open, Stage};
 pub use watch::{Begun, View};

@@ -9,17 +9,18 @@ ghost use Rattle.run_layout.specs.declared.steps.Operand.TheVariants as operands
 ghost use Rattle.run_state.specs.Operands.{operand_in};
 ghost use Rattle.run_state.specs.declared.machine.Local.{Local as LocalOf};
 
+use crate::image::Image;
 use crate::watch::{Begun, View};
 use addr_map::AddrMap;
 use c_typed::Program;
-use prov_memory::{Memory, Outputs, Streams, Touched, Value, Via};
+use prov_memory::{Memory, Outputs, Streams, Touched, Value};
 use run_control::{Control, Use};
-use run_layout::{Code, Operand, Range};
+use run_layout::{Operand, Range};
 use run_statements::Jumps;
-use run_values::{Filling, Places, Pointer, as_integer, as_pointer, pointer_to, truth};
+use run_values::{Places, Pointer, as_integer, as_pointer, pointer_to, truth};
 use seq_order::Done;
 use std::alloc::Global;
-use ub_base::{Frame, Frames, Items, NoMemory, ObjName};
+use ub_base::{Frame, Frames, NoMemory, ObjName};
 
 // A full expression that has begun and isn't settled.
 #[derive(Clone, Copy, Debug)]
@@ -71,10 +72,7 @@ pub struct Local {
 pub struct Machine<'p, 'c> {
     pub alloc: Global,
     pub program: &'p Program,
-    pub code: &'c Code<'p>,
-    // How each store of the code accesses memory.
-    pub vias: Vec<Via>,
-    pub fillings: Vec<Items<Filling>>,
+    pub image: Image<'p, 'c>,
     pub places: Places,
     pub memory: Memory,
     pub streams: Streams,

@@ -81,11 +81,11 @@ start_within p arguments input m limits count is ready same few =
 -- in the worlds of what stands before the first pick
 abbrev StartsIn : Program → List (List ℕ) → List Row → (Path → ℕ) → Limits → Numbers → List ℕ → Machine → List Standing → Type 0
 StartsIn p arguments rows number limits numbers input m os =
-    StartIsWithin limits os m → StartsAs (world_with p arguments os rows number limits) (meaning_of p numbers m.code.now) input
+    StartIsWithin limits os m → StartsAs (world_with p arguments os rows number limits) (meaning_of p numbers m.image.code.now) input
     (main_values p (world_with p arguments os rows number limits) arguments) m
 
 starts_in : LawfulCodeStands → (p : Program) (numbers : Numbers) (arguments : List (List ℕ)) (input : List ℕ) (m : Machine) (rows : List Row)
-    (number : Path → ℕ) (limits : Limits) → IsSetUp (world_of p arguments rows number limits) p numbers m.code.now m.jumps
+    (number : Path → ℕ) (limits : Limits) → IsSetUp (world_of p arguments rows number limits) p numbers m.image.code.now m.jumps
     → (ready : IsMadeReady p arguments input m) → RowsStay m.memory.rows rows → number [] ≡ 0
     → StartsIn p arguments rows number limits numbers input m ready.prepared.begins.0
 starts_in code p numbers arguments input m rows number limits held ready stay zero bounded =
@@ -93,13 +93,13 @@ starts_in code p numbers arguments input m rows number limits held ready stay ze
     let os = made.begins.0 in
     let world = world_with p arguments os rows number limits in
     let program : StandsProgram world p = record { functions = refl; main = refl; agree = refl; library = refl } in
-    made.begins.2 rows number limits (meaning_of p numbers m.code.now) (main_values p world arguments) stay zero bounded
-    (code p numbers m.code.now world held.whole.lawful held.code.code_of program) held.code.listed (made.given os rows number limits stay)
+    made.begins.2 rows number limits (meaning_of p numbers m.image.code.now) (main_values p world arguments) stay zero bounded
+    (code p numbers m.image.code.now world held.whole.lawful held.code.code_of program) held.code.listed (made.given os rows number limits stay)
 
 starts_as : StandsAsViewed → LawfulCodeStands → (p : Program) (numbers : Numbers) (arguments : List (List ℕ)) (input : List ℕ) (m : Machine) (rows : List Row)
-    (number : Path → ℕ) (limits : Limits) → IsSetUp (world_of p arguments rows number limits) p numbers m.code.now m.jumps
+    (number : Path → ℕ) (limits : Limits) → IsSetUp (world_of p arguments rows number limits) p numbers m.image.code.now m.jumps
     → IsMadeReady p arguments input m → RowsStay m.memory.rows rows → number [] ≡ 0 → StartIsWithin limits (standing_of p arguments) m
-    → StartsAs (world_of p arguments rows number limits) (meaning_of p numbers m.code.now) input
+    → StartsAs (world_of p arguments rows number limits) (meaning_of p numbers m.image.code.now) input
     (main_values p (world_of p arguments rows number limits) arguments) m
 starts_as viewed code p numbers arguments input m rows number limits held ready stay zero =
     let os = ready.prepared.begins.0 in

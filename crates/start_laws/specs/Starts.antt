@@ -37,7 +37,7 @@ GoesFrom world p numbers input vs m = (st : State) × (start world input vs ≡ 
 -- more than the limit on created bytes.
 abbrev pub StartsGoing : Type 0
 StartsGoing = (p : Program) (numbers : Numbers) (arguments : List (List ℕ)) (input : List ℕ) (m : Machine) (rows : List Row) (number : Path → ℕ)
-    (limits : Limits) (count : ℕ) → IsSetUp (world_of p arguments rows number limits) p numbers m.code.now m.jumps → IsMadeReady p arguments input m
+    (limits : Limits) (count : ℕ) → IsSetUp (world_of p arguments rows number limits) p numbers m.image.code.now m.jumps → IsMadeReady p arguments input m
     → RowsStay m.memory.rows rows → number [] ≡ 0 → IsStartCount p arguments count → count ≤ 2 ^ 26
     → GoesFrom (world_of p arguments rows number limits) p numbers input (main_values p (world_of p arguments rows number limits) arguments) m
 

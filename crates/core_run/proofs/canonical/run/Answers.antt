@@ -66,7 +66,7 @@ returns-clause-canonical g c = λ can.
     } in
     let lawful = can.whole.lawful in
     let nothing = empty_of c.new-memory.result _ c.new-memory.ensures.empty in
-    let ready : IsGivenMachine p words c.in_ok-input.input c.in-Ok.machine.code c.in-Ok.machine = record {
+    let ready : IsGivenMachine p words c.in_ok-input.input c.in-Ok.machine.image.code c.in-Ok.machine = record {
       begins = c.in-Ok.ensures.stands lawful few nothing (none_above c.new-memory.result _ c.new-memory.ensures.empty);
       counts = c.in-Ok.ensures.counts lawful few nothing;
       given = c.in-Ok.ensures.given lawful nothing;
@@ -76,9 +76,9 @@ returns-clause-canonical g c = λ can.
     } in
     let its = its_code c.law_code_formed.ensures p terms c.in_ok-code.code given can.whole
     (subst (AreTermsOf p) (sym c.as_slice.ensures) (are_terms c.args.p.now can.terms)) in
-    let held = is_made p words input given.bodies.0 c.in-Ok.machine.code c.in-Ok.machine c.start_bytes-reached.result can.whole
+    let held = is_made p words input given.bodies.0 c.in-Ok.machine.image.code c.in-Ok.machine c.start_bytes-reached.result can.whole
     (subst (λ (b : Bor Code). IsItsCode p given.bodies.0 b.now) (sym c.in-Ok.ensures.code) its)
-    (subst (λ (i : List ℕ). IsGivenMachine p words i c.in-Ok.machine.code c.in-Ok.machine) c.in_ok-input.ensures ready)
+    (subst (λ (i : List ℕ). IsGivenMachine p words i c.in-Ok.machine.image.code c.in-Ok.machine) c.in_ok-input.ensures ready)
     (c.start_bytes-reached.ensures.exact few) (omega (arith, c.if-reached-gt-MOST_CREATED.false)) c.are_words.ensures c.are_bytes.ensures can.few in
     let now = g.W.Watch.heard c.follow.new.watch in
     let m = c.follow.new.machine in

@@ -1,4 +1,4 @@
-use Rattle.std.proofs.Common.{◌≡◌, ◌∙◌, ℕ, ◌<◌, ◌≤◌, sym, ap, arith, length, [], Option, get_or, rules}
+use Rattle.std.proofs.Common.{◌≡◌, ◌∙◌, ℕ, ◌<◌, ◌≤◌, sym, ap, arith, length, [], Option, Some, slice_get, get_or, rules}
 use Rattle.std.specs.Prelude.{Result}
 use Rattle.std.proofs.lemmas.Result.{err_from_is_err_and}
 use Rattle.ub_base.specs.declared.clause.Clause.{Clause}
@@ -7,23 +7,23 @@ use Rattle.mem_spec.specs.Script.{run}
 use Rattle.prov_memory.specs.Memory.{act_of}
 use Rattle.c_model.specs.Program.{Function as Called}
 use Rattle.run_acts.specs.Calls.{checked_call, type_by}
-use Rattle.run_acts.proofs.CallLemmas.{none_found, none_behind, same_length, call_of, numbered}
+use Rattle.run_acts.proofs.CallLemmas.{none_found, none_behind, same_length, call_of, numbered, checks_pass}
 use Rattle.run_acts.proofs.calls.callee.Goals as goal
 
-pub returns-in_default : goal.returns-in_default
-returns-in_default c = λ few fs are agree agrees rows s.
+pub returns-in_default-clause-exact : goal.returns-in_default-clause-exact
+returns-in_default-clause-exact c = λ few fs are agree agrees rows s.
     let none = none_found fs 0 c.args.addr (λ n lt at.
     c.in_default.ensures.none n (omega (arith, lt, few, same_length c.args.p.now.functions fs are)) at) in
     ap (λ (o : Option (ℕ × Called)). run rows (checked_call agree (type_by (signature_of c.args.ty.now)) o) s) none
 
-pub returns-in_default-get : goal.returns-in_default-get
-returns-in_default-get c = λ few fs are agree agrees rows s.
+pub returns-in_default-get-clause-exact : goal.returns-in_default-get-clause-exact
+returns-in_default-get-clause-exact c = λ few fs are agree agrees rows s.
     let end : length c.args.p.now.functions ≤ c.in-Some.number = search rules in
     let none = none_behind c.args.p.now.functions fs c.in-Some.number c.args.addr are end c.in-Some.ensures.some in
     ap (λ (o : Option (ℕ × Called)). run rows (checked_call agree (type_by (signature_of c.args.ty.now)) o) s) none
 
-pub returns-in_err-check_call : goal.returns-in_err-check_call
-returns-in_err-check_call c = λ few fs are agree agrees rows s.
+pub returns-in_err-check_call-clause-exact : goal.returns-in_err-check_call-clause-exact
+returns-in_err-check_call-clause-exact c = λ few fs are agree agrees rows s.
     let e = err_from_is_err_and c.from_residual.result c.from_residual.ensures.1 in
     let n = c.in-Some.number in
     let lt : c.in-Some.number < length c.args.p.now.functions = search rules in
@@ -32,10 +32,15 @@ returns-in_err-check_call c = λ few fs are agree agrees rows s.
     agree rows s are agrees lt is c.in-Some.ensures.some
     ∙ ap (λ (r : Result (Unit {0}) Clause). act_of (numbered n r) [] s) (sym c.in_err-check_call.ensures))
 
-pub returns : goal.returns
-returns c = λ few fs are agree agrees rows s.
+pub returns-clause-exact : goal.returns-clause-exact
+returns-clause-exact c = λ few fs are agree agrees rows s.
     let n = c.in-Some.number in
     let lt : c.in-Some.number < length c.args.p.now.functions = search rules in
     let is : c.in-Some-get.function.now ≡ get_or c.args.p.now.functions c.in-Some.number c.in-Some-get.function.now = search rules in
     call_of c.args.p.now.functions fs c.in-Some-get.function.now n c.args.addr (signature_of c.args.ty.now) agree rows s are agrees lt is c.in-Some.ensures.some
     ∙ ap (λ (r : Result (Unit {0}) Clause). act_of (numbered n r) [] s) (sym c.in_ok-check_call.ensures)
+
+pub returns-clause-callable : goal.returns-clause-callable
+returns-clause-callable c =
+    let there : slice_get c.args.p.now.functions c.in-Some.number ≡ Some c.in-Some-get.function.now = search rules in
+    (c.in-Some-get.function.now, there, checks_pass _ _ c.in_ok-check_call.ensures)

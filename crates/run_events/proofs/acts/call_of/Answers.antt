@@ -11,7 +11,7 @@ returns c = record {
       let m = c.args.machine.now in
       subst (λ (k : CallCode). Calls m k c.args.event c.call.new.machine c.call.result)
       (same_call c.index.result.now call (ap (λ (k : CallCode). Some k) c.index.ensures
-      ∙ sym (slice_get-get_or m.code.now.tables.calls.items c.args.number c.index.result.now c.requires.there) ∙ there))
+      ∙ sym (slice_get-get_or m.image.code.now.tables.calls.items c.args.number c.index.result.now c.requires.there) ∙ there))
       c.call.ensures.calls;
   streams = c.call.ensures.streams;
 }

@@ -15,6 +15,6 @@ returns-clause-next c =
 
 pub returns-clause-named : goal.returns-clause-named
 returns-clause-named c =
-    let code = c.args.machine.now.code.now in
+    let code = c.args.machine.now.image.code.now in
     named_next code.tables code.listing.items c.part.result.now c.args.stage.cursor c.args.stage.end (taken_in c.in_ok-begun.begun.now.taken) c.next.result
     (c.part.ensures ∙ ap (λ es. part_of es c.args.stage.cursor c.args.stage.end) c.deref.ensures.value) code.named c.next.ensures

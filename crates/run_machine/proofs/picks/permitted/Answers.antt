@@ -21,8 +21,8 @@ returns-then-eq-clause-permits c =
 
 pub returns-then-eq-clause-named : goal.returns-then-eq-clause-named
 returns-then-eq-clause-named c =
-    subst (λ (m : Machine). IsDueOf m.code.now.tables c.in-Some-2.due.now) (sym c.move_on.ensures)
-    (subst (λ n. IfSome n (λ f. IsDueOf c.args.machine.now.code.now.tables f.1.now)) c.in-Some-2.is c.in_ok-count.ensures.named)
+    subst (λ (m : Machine). IsDueOf m.image.code.now.tables c.in-Some-2.due.now) (sym c.move_on.ensures)
+    (subst (λ n. IfSome n (λ f. IsDueOf c.args.machine.now.image.code.now.tables f.1.now)) c.in-Some-2.is c.in_ok-count.ensures.named)
 
 pub returns-in_default-due_of-clause-permits : goal.returns-in_default-due_of-clause-permits
 returns-in_default-due_of-clause-permits c =
@@ -42,7 +42,7 @@ returns-then-branch-clause-named c =
     let m = c.args.machine.now in
     let s = c.in-Some.stage in
     let part = c.part.ensures ∙ ap (λ es. part_of es s.first s.end) c.deref.ensures.value in
-    let code = m.code.now in
+    let code = m.image.code.now in
     subst (λ (k : Bor Code). IsDueOf k.now.tables c.in-Some-due_of.due.now)
     (sym (strays_code s.straight m s c.strays.new.machine c.in_ok-strays.field-0 c.in_ok-strays.ensures.state))
     (named_listed code.tables code.listing.items c.part.result.now s.first s.end c.in-Some-due_of.due.now part code.named c.in-Some-due_of.ensures.listed)

@@ -21,6 +21,6 @@ returns-clause-next c =
 
 pub returns-clause-named : goal.returns-clause-named
 returns-clause-named c =
-    let code = c.args.machine.now.code.now in
+    let code = c.args.machine.now.image.code.now in
     named_found code.tables code.listing.items c.part.result.now c.args.stage.first c.args.stage.end c.next_left.result
     (c.part.ensures ∙ ap (λ es. part_of es c.args.stage.first c.args.stage.end) c.deref.ensures.value) code.named c.next_left.ensures.listed

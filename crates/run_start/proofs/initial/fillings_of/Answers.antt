@@ -1,4 +1,4 @@
-use Rattle.std.proofs.Common.{◌+◌, arith}
+use Rattle.std.proofs.Common.{◌+◌, ◌∙◌, ◌∷◌, [], ap, arith, length, length-append}
 use Rattle.run_start.specs.Begins.{AreBytesWhere}
 use Rattle.run_start.proofs.Each.{each_none, each_more, each_all}
 use Rattle.run_start.proofs.initial.fillings_of.Goals as goal
@@ -6,6 +6,7 @@ use Rattle.run_start.proofs.initial.fillings_of.Goals as goal
 pub loop-constants-init : goal.loop-constants-init
 loop-constants-init c = record {
   each = λ named. each_none (AreBytesWhere c.args.memory.now c.args.places.now) c.new-all.result.items c.new-all.ensures.items;
+  count = ap length c.new-all.ensures.items;
 }
 
 pub loop-constants-preserved : goal.loop-constants-preserved
@@ -16,10 +17,18 @@ loop-constants-preserved c = record {
       c.in_ok-fillings.field-0 c.deref-constants-items.ensures.value c.loop-constants-test.true c.constants-item.is (omega arith)
       c.in_ok-push.ensures.items (c.loop-constants.invariant.each named)
       (λ can. (c.in_ok-fillings.ensures.exact named can, c.in_ok-fillings.ensures.made named can));
+  count =
+      ap length c.in_ok-push.ensures.items ∙ length-append c.loop-constants.all.items (c.in_ok-fillings.field-0 ∷ [])
+      ∙ ap (λ n. n + 1) c.loop-constants.invariant.count;
 }
 
-pub returns : goal.returns
-returns c = λ named.
+pub returns-clause-bytes : goal.returns-clause-bytes
+returns-clause-bytes c = λ named.
     each_all (AreBytesWhere c.args.memory.now c.args.places.now) c.args.code.now.tables.constants.items c.deref-constants-items.result.now
     c.loop-constants.all.items c.loop-constants.constants-index c.deref-constants-items.ensures.value c.loop-constants.auto.constants-index-end
     c.loop-constants-test.false (c.loop-constants.invariant.each named)
+
+pub returns-clause-count : goal.returns-clause-count
+returns-clause-count c =
+    c.loop-constants.invariant.count
+    ∙ omega (arith, c.loop-constants.auto.constants-index-end, c.loop-constants-test.false, ap length c.deref-constants-items.ensures.value)

@@ -2,7 +2,7 @@ use Rattle.std.proofs.Common.{◌+◌, ◌∙◌, refl, arith}
 use Rattle.c_types.specs.Types.{type_of}
 use Rattle.prov_memory.proofs.KeepLemmas.{keeps_none, keeps_then}
 use Rattle.run_start.specs.Begins.{IsNamedVia}
-use Rattle.run_start.proofs.Each.{each_none, each_more, each_then, each_all}
+use Rattle.run_start.proofs.Each.{each_none, each_more, each_then, each_all, each_count}
 use Rattle.run_start.proofs.Vias.{named_stays}
 use Rattle.run_start.proofs.initial.vias_of.Goals as goal
 
@@ -52,3 +52,9 @@ pub returns-clause-vias : goal.returns-clause-vias
 returns-clause-vias c =
     each_all (IsNamedVia c.loop-store.memory) c.args.code.now.tables.stores.items c.deref-store-items.result.now c.loop-store.vias.items
     c.loop-store.store-index c.deref-store-items.ensures.value c.loop-store.auto.store-index-end c.loop-store-test.false c.loop-store.invariant.each
+
+pub returns-clause-count : goal.returns-clause-count
+returns-clause-count c =
+    each_count (IsNamedVia c.loop-store.memory) c.args.code.now.tables.stores.items c.loop-store.vias.items
+    (each_all (IsNamedVia c.loop-store.memory) c.args.code.now.tables.stores.items c.deref-store-items.result.now c.loop-store.vias.items
+    c.loop-store.store-index c.deref-store-items.ensures.value c.loop-store.auto.store-index-end c.loop-store-test.false c.loop-store.invariant.each)
