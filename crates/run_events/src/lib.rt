@@ -5,9 +5,14 @@
 mod acts;
 mod choices;
 mod frames;
+mod loads;
+mod operators;
 mod places;
+mod pointers;
+mod stores;
 mod updates;
 
-pub use acts::{perform, put_at};
+pub use acts::perform;
 pub use choices::{choose, choose_at_once};
 pub use run_answers::{Fault, Outcome};
+pub use stores::put_at;

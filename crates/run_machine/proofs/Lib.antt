@@ -33,4 +33,5 @@ mod Unwriting
 mod LibraryTaken
 mod LibraryNext
 mod LibraryCompletes
+mod Strayed
 mod Written

@@ -1,1 +1,2 @@
+pub mod Strayed
 pub mod Written

@@ -13,7 +13,7 @@ ghost use Rattle.seq_order.specs.declared.done.Marks.{Marks};
 ghost use Rattle.seq_order.specs.Marked.{taken_in, done_in};
 ghost use Rattle.run_control.specs.View.{Meaning};
 ghost use Rattle.run_layout.specs.Named.{IsDueOf};
-ghost use Rattle.run_listing.specs.Along.{events_of};
+ghost use Rattle.run_listing.specs.Along.{events_of, IsListed};
 ghost use Rattle.run_state.specs.Stands.{Stands};
 ghost use Rattle.run_state.specs.declared.watch.Begun.{Begun as BegunOf};
 ghost use Rattle.run_answers.specs.Answering.{AnswersCanonical, TakesControl};
@@ -27,7 +27,8 @@ ghost use Rattle.run_answers.specs.Starting.{AnswersNextBody, AnswersNextCall};
 ghost use Rattle.run_answers.specs.Straying.{Reaches, TakesSo};
 ghost use Rattle.run_answers.specs.Taking.{AnswersNext};
 ghost use Rattle.run_answers.specs.Picks.{top_of, ahead_part, passed_part, kept_of, at_cursor, ByOrder, ComesNext, Decides, Follows, IsPick, IsStep, Permits};
-ghost use Rattle.run_answers.specs.Picks.{Refuses, Strays, Takes};
+ghost use Rattle.run_answers.specs.Picks.{whole_part, Refuses, Strays, Takes};
+ghost use Rattle.run_machine.specs.Strayed.{GoesOnStrayed, IsListedOff};
 ghost use Rattle.run_machine.specs.Written.{KeepsStreams};
 
 use crate::control::control_step;
@@ -56,6 +57,7 @@ pub fn canonical(machine: &mut Machine) -> Result<Pick, Halt>
     ensures completes_libraries { CompletesNextLibrary machine.old machine.new result }
     ensures raises { RaisesNext machine.old result }
     ensures rows { GrowsNext machine.old machine.new result }
+    ensures strayed { GoesOnStrayed machine.old machine.new result }
     // Where it raises a clause or passes a limit, nothing was written.
     ensures streams { KeepsStreams machine.old machine.new result }
 {
@@ -214,6 +216,7 @@ fn follow<'p, 'c>(machine: &mut Machine<'p, 'c>) -> Result<Option<&'c Due<'p>>, 
     ensures follows { IfOk result (Follows machine.old machine.new) }
     ensures streams { machine.new.streams ≡ machine.old.streams }
     ensures named { IfOk result (λ due. IfSome due (λ d. IsDueOf machine.new.image.code.now.tables d.now)) }
+    ensures listed { IfOk result (λ due. IfSome due (λ d. IsListedOff machine.old d.now)) }
     ensures frame { IfOk result (λ due. (machine.new.top.frame ≡ machine.old.top.frame) × (machine.new.top.turn ≡ machine.old.top.turn)) }
 {
     let Some(stage) = &machine.top.stage else {
@@ -238,6 +241,7 @@ fn strayed_next<'p, 'c>(
 ) -> Result<Option<&'c Due<'p>>, NoMemory>
     ensures next { IfOk result (λ due. (b : BegunOf) × (top_of machine.now ≡ Some b) × ByOrder machine.now stage b due) }
     ensures named { IfOk result (λ due. IfSome due (λ d. IsDueOf machine.now.image.code.now.tables d.now)) }
+    ensures listed { IfOk result (λ due. IfSome due (λ d. IsListed (whole_part machine.now stage) d.now)) }
 {
     let code = machine.image.code;
     let begun = opened(machine)?;

@@ -8,7 +8,9 @@ use Rattle.run_machine.proofs.Keeping.{event_kept, step_kept}
 use Rattle.run_machine.proofs.LibraryNext.{next_completed, next_library, none_completed, none_library}
 use Rattle.run_machine.proofs.Onward.{next_answers, next_completes, none_completes, none_next}
 use Rattle.run_machine.proofs.Raised.{next_raises, none_raises}
+use Rattle.run_machine.proofs.Named.{promised_of}
 use Rattle.run_machine.proofs.RowsNext.{next_grows, step_grows}
+use Rattle.run_machine.proofs.Strayed.{next_strayed, none_strayed}
 use Rattle.run_answers.proofs.Staying.{event_untold, followed, step_told, steps_taken}
 use Rattle.run_answers.proofs.Taken.{event_taken}
 use Rattle.run_machine.proofs.Written.{streams_then}
@@ -51,6 +53,12 @@ returns-in-Some c = record {
   rows = next_grows c.law_picks.ensures.next c.law_picks.ensures.follows c.args.machine.now c.follow.new.machine c.take_event.new.machine c.clear.new.self
       c.in_ok-next.next c.in-Some.due c.take_event.result c.in_ok-next.ensures.follows c.in-Some.is c.clear.ensures
       (c.law_picks.ensures.follows c.args.machine.now c.follow.new.machine c.in_ok-next.next c.in_ok-next.ensures.follows) c.take_event.ensures.rows;
+  strayed = next_strayed c.args.machine.now c.follow.new.machine c.take_event.new.machine c.clear.new.self c.in_ok-next.next c.in-Some.due _
+      c.take_event.result c.in_ok-next.ensures.follows c.in-Some.is c.clear.ensures
+      (c.law_picks.ensures.follows c.args.machine.now c.follow.new.machine c.in_ok-next.next c.in_ok-next.ensures.follows) c.in_ok-next.ensures.listed
+      (promised_of c.in-Some.due.now c.follow.new.machine c.take_event.new.machine c.clear.new.self c.take_event.result c.clear.ensures
+      c.take_event.ensures.answers c.take_event.ensures.bodies c.take_event.ensures.calls c.take_event.ensures.libraries c.take_event.ensures.raised)
+      c.take_event.ensures.rows c.take_event.ensures.event;
   streams = streams_then c.args.machine.now (record c.follow.new.machine { items = c.clear.new.self }) c.take_event.new.machine c.take_event.result
       c.follow.ensures.streams c.take_event.ensures.streams;
 }
@@ -84,6 +92,8 @@ returns-in-None c = record {
   rows = step_grows c.args.machine.now c.follow.new.machine c.take_control.new.machine c.in_ok-next.next c.clear.new.self c.take_control.result
       c.in_ok-next.ensures.follows c.in-None.is c.clear.ensures
       (c.law_picks.ensures.follows c.args.machine.now c.follow.new.machine c.in_ok-next.next c.in_ok-next.ensures.follows) c.take_control.ensures.rows;
+  strayed = none_strayed c.args.machine.now c.take_control.new.machine c.in_ok-next.next c.take_control.result c.in-None.is
+      (c.law_picks.ensures.follows c.args.machine.now c.follow.new.machine c.in_ok-next.next c.in_ok-next.ensures.follows) c.take_control.ensures.step;
   streams = streams_then c.args.machine.now (record c.follow.new.machine { items = c.clear.new.self }) c.take_control.new.machine c.take_control.result
       c.follow.ensures.streams c.take_control.ensures.streams;
 }

@@ -1,0 +1,6 @@
+use Rattle.c_typed.specs.declared.tree.Access.TheVariants as access
+use Rattle.run_layout.specs.declared.steps.Act.TheVariants as act
+use Rattle.run_events.proofs.loads.loaded_integer.Goals as goal
+
+pub returns-in-Some-clause-changes : goal.returns-in-Some-clause-changes
+returns-in-Some-clause-changes c = c.integer_at.ensures.changes (act.Load (access.Integer c.args.kind) c.args.ty c.args.place.now)
