@@ -1,5 +1,5 @@
 // The acts of events.
-ghost use Rattle.std.specs.Prelude.{◌≡◌, ◌<◌, ℕ, true, false, not, List, length, slice_get, None, Some, IfOk, OnErr};
+ghost use Rattle.std.specs.Prelude.{◌≡◌, ◌<◌, ℕ, true, false, not, List, length, OnErr};
 ghost use Rattle.addr_map.specs.declared.map.Row.{Row};
 ghost use Rattle.c_model.specs.Nodes.{bool_value};
 ghost use Rattle.c_model.specs.Values as model;
@@ -20,12 +20,12 @@ use crate::operators::{arithmetic, converted, equality, relation, unary_value};
 use crate::pointers::{distance_between, member_of, move_by, part_of};
 use crate::stores::{fill_list, store_value};
 use crate::updates::update;
-use prov_memory::{Value, Via};
+use prov_memory::Value;
 use run_acts::{answer, store};
 use run_answers::{Fault, Outcome};
-use run_layout::{Act, Operand, StoreCode};
+use run_layout::{Act, Operand};
 use run_state::Machine;
-use ub_base::{Event, NoMemory};
+use ub_base::Event;
 
 pub fn number(value: bool) -> Value
     ensures seen { (m : Kept) → value_in m result ≡ bool_value value }
@@ -215,19 +215,4 @@ fn answered(machine: &mut Machine, discarded: bool, event: Event) -> Result<Outc
     let value = answer(left, discarded)?;
     machine.keep(event.node, value);
     Ok(Outcome::Done)
-}
-
-// The same of a number that may be none of a store.
-pub fn target_at<'p>(
-    machine: &Machine<'p, '_>,
-    number: u32,
-) -> Result<(StoreCode<'p>, Via), NoMemory>
-    ensures store { IfOk result (λ t. slice_get machine.now.image.code.now.tables.stores.items number ≡ Some t.0) }
-    ensures via { IfOk result (λ t. slice_get machine.now.image.vias.items number ≡ Some t.1) }
-{
-    let at = number as usize;
-    match machine.image.code.tables.stores.get(at) {
-        Some(target) => Ok((*target, machine.image.vias[at])),
-        None => Err(NoMemory),
-    }
 }

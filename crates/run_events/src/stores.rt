@@ -7,14 +7,12 @@ ghost use Rattle.prov_memory.specs.Keeps.{Keeps, RowsStay};
 ghost use Rattle.prov_memory.specs.Sound.{IsSound};
 ghost use Rattle.run_values.specs.Kept.{IsOf};
 ghost use Rattle.run_values.specs.Views.{value_in, pointer_at};
-ghost use Rattle.c_typed.specs.declared.tree.Access.TheVariants as accesses;
 ghost use Rattle.run_layout.specs.declared.steps.Operand.TheVariants as operands;
 ghost use Rattle.run_state.specs.Stands.{StandsTables};
 ghost use Rattle.run_answers.specs.Acts.{filled_from, given_by, stored_by, IsGiven};
 ghost use Rattle.run_answers.specs.Performs.{CanAct, CanPut, Effects, Puts};
 ghost use Rattle.run_answers.specs.Performs.{TouchesMemory, TouchesSpare};
 
-use crate::acts::target_at;
 use prov_memory::{Value, Via};
 use run_acts::{fill, store};
 use run_answers::{Fault, Outcome};
@@ -31,6 +29,18 @@ fn target_of<'p>(machine: &Machine<'p, '_>, number: u32) -> (StoreCode<'p>, Via)
 {
     let at = number as usize;
     (machine.image.code.tables.stores[at], machine.image.vias[at])
+}
+
+// The same of a number that may be none of a store.
+fn target_at<'p>(machine: &Machine<'p, '_>, number: u32) -> Result<(StoreCode<'p>, Via), NoMemory>
+    ensures store { IfOk result (λ t. slice_get machine.now.image.code.now.tables.stores.items number ≡ Some t.0) }
+    ensures via { IfOk result (λ t. slice_get machine.now.image.vias.items number ≡ Some t.1) }
+{
+    let at = number as usize;
+    match machine.image.code.tables.stores.get(at) {
+        Some(target) => Ok((*target, machine.image.vias[at])),
+        None => Err(NoMemory),
+    }
 }
 
 // The value in the room of this number, from the first one of a full expression on.
