@@ -21,7 +21,7 @@ use crate::pointers::{distance_between, member_of, move_by, part_of};
 use crate::stores::{fill_list, store_value};
 use crate::updates::update;
 use prov_memory::Value;
-use run_acts::{answer, store};
+use run_acts::answer;
 use run_answers::{Fault, Outcome};
 use run_layout::{Act, Operand};
 use run_state::Machine;
