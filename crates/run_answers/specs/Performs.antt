@@ -3,7 +3,6 @@ use Rattle.std.specs.Prelude.{◌≡◌, ◌≢◌, ◌+◌, ◌<◌, ◌≤◌,
 use Rattle.std.specs.List.{All}
 use Rattle.std.specs.Option.{ForSome}
 use Rattle.ub_base.specs.declared.clause.Clause.{Clause}
-use Rattle.ub_base.specs.declared.clause.NoMemory.{NoMemory}
 use Rattle.ub_base.specs.declared.names.Event.{Event}
 use Rattle.addr_map.specs.declared.map.Row.{Row}
 use Rattle.c_typed.specs.Lawful.{ContentIsLawful}
@@ -139,10 +138,9 @@ pub record CanPut (rows : List Row) (m : Machine) (p : Place) (v : Kept_value) :
   pub value : IsOf m.memory v
 
 -- The store is done as its script does it: without a value, with the items that `spare` has then, and its store; or it raises the script's clause.
-abbrev pub Puts : List Row → Machine → Machine → Script Value → Result (Result (Unit {0}) Clause) NoMemory → Type 0
-Puts rows old new script (Ok (Ok done)) = run rows script (store_in old) ≡ Done Nothing new.spare (store_in new)
-Puts rows old new script (Ok (Err c)) = run rows script (store_in old) ≡ Raised c
-Puts rows old new script (Err e) = Unit {0}
+abbrev pub Puts : List Row → Machine → Machine → Script Value → Result (Unit {0}) Clause → Type 0
+Puts rows old new script (Ok done) = run rows script (store_in old) ≡ Done Nothing new.spare (store_in new)
+Puts rows old new script (Err c) = run rows script (store_in old) ≡ Raised c
 
 -- nothing but memory and `spare` has changed
 abbrev pub TouchesSpare : Machine → Machine → Type 0

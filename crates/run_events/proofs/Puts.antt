@@ -55,6 +55,6 @@ module _ (m : Machine) (number : ℕ) (s : StoreCode) (via : Via) (p : Pointer) 
         → IfErr r (λ c. CanStore m.memory p v → (ty : CType) → SeesAs m.memory via s.access ty → (io : Io)
         → run m.memory.rows (put m.memory.rows s.initializing s.access ty (pointer_at p) (value_in m.memory v)) (store_of m.memory io) ≡ Raised c)
         → Puts rows m (record m { memory = new; spare = t })
-        (stored_by rows (slice_get m.image.code.now.tables.stores.items number) (pointer_at p) (value_in m.memory v)) (Ok r)
+        (stored_by rows (slice_get m.image.code.now.tables.stores.items number) (pointer_at p) (value_in m.memory v)) r
     put_does (Ok u) done raised = script_is ∙ done can_store (type_of s.ty.now) (is_via can.tables).0 m.streams
     put_does (Err c) done raised = script_is ∙ raised can_store (type_of s.ty.now) (is_via can.tables).0 m.streams

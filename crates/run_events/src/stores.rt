@@ -31,18 +31,6 @@ fn target_of<'p>(machine: &Machine<'p, '_>, number: u32) -> (StoreCode<'p>, Via)
     (machine.image.code.tables.stores[at], machine.image.vias[at])
 }
 
-// The same of a number that may be none of a store.
-fn target_at<'p>(machine: &Machine<'p, '_>, number: u32) -> Result<(StoreCode<'p>, Via), NoMemory>
-    ensures store { IfOk result (λ t. slice_get machine.now.image.code.now.tables.stores.items number ≡ Some t.0) }
-    ensures via { IfOk result (λ t. slice_get machine.now.image.vias.items number ≡ Some t.1) }
-{
-    let at = number as usize;
-    match machine.image.code.tables.stores.get(at) {
-        Some(target) => Ok((*target, machine.image.vias[at])),
-        None => Err(NoMemory),
-    }
-}
-
 // The value in the room of this number, from the first one of a full expression on.
 fn in_room(values: &Vec<Value>, first: usize, room: u32) -> Result<&Value, NoMemory>
     ensures { IfOk result (λ v. slice_get values.now.items (first + room) ≡ Some v.now) }
@@ -141,25 +129,25 @@ fn store_quiet(
     Ok(Outcome::Done)
 }
 
-/// A parameter's store: the value goes to the place, by the store of this number, and `spare` has its items. The inner result says which clause it
-/// raises.
+/// A parameter's store: the value goes to the place, by the store of this number, and `spare` has its items. The error is the clause that it raises.
 pub fn put_at(
     machine: &mut Machine,
     number: u32,
     place: Pointer,
     value: &Value,
-) -> Result<Result<(), Clause>, NoMemory>
+) -> Result<(), Clause>
+    requires there { number < length machine.old.image.code.now.tables.stores.items }
     ensures exact { (rows : List Row) → CanPut rows machine.old place value.now → Puts rows machine.old machine.new
         (stored_by rows (slice_get machine.old.image.code.now.tables.stores.items number) (pointer_at place) (value_in machine.old.memory value.now)) result }
     ensures kept { IsSound machine.old.memory → StandsTables machine.old → IsOf machine.old.memory value.now → Keeps machine.old.memory machine.new.memory }
     ensures rest { TouchesSpare machine.old machine.new }
     ensures work { machine.new.work ≡ machine.old.work }
 {
-    let found = target_at(machine, number)?;
+    let found = target_of(machine, number);
     let (target, via) = found;
     let (access, initializing) = (target.access, target.initializing);
     let t = &mut machine.spare;
-    Ok(store(
+    store(
         &mut machine.memory,
         access,
         via,
@@ -167,7 +155,7 @@ pub fn put_at(
         place,
         value,
         t,
-    ))
+    )
 }
 
 // The constant bytes of this number.

@@ -184,7 +184,7 @@ came_out is (Err c) = Err c
 
 puts_as : (rows more : List Row) (m p q : Machine) (script : List Row → Script Value) (items : List Item) (r : Result (Unit {0}) Clause) →
     store_in m ≡ store_in p → items ≡ m.items ++ q.spare → run rows (script rows) (store_in p) ≡ run more (script more) (store_in p) →
-    Puts more p q (script more) (Ok r) → PutsAs rows m (record q { items = items }) (script rows) (came_out q.spare r)
+    Puts more p q (script more) r → PutsAs rows m (record q { items = items }) (script rows) (came_out q.spare r)
 puts_as rows more m p q script items (Ok u) stores joined same did =
     (joined, ap (run rows (script rows)) stores ∙ same ∙ did)
 puts_as rows more m p q script items (Err c) stores joined same did = ap (run rows (script rows)) stores ∙ same ∙ did
@@ -196,7 +196,7 @@ pub one_passed : (m p q : Machine) (o : ObjectCode) (first k at : ℕ) (place : 
     ((h : Kept_value) → slice_get m.values.items (m.top.base + k) ≡ Some h → value ≡ h) →
     ((j : ℕ) → j ≢ m.top.base + k → slice_get p.values.items j ≡ slice_get m.values.items j) →
     ((rows : List Row) → CanPut rows p place value →
-    Puts rows p q (stored_by rows (slice_get p.image.code.now.tables.stores.items o.store) (pointer_at place) (value_in p.memory value)) (Ok r)) →
+    Puts rows p q (stored_by rows (slice_get p.image.code.now.tables.stores.items o.store) (pointer_at place) (value_in p.memory value)) r) →
     (IsSound p.memory → StandsTables p → IsOf p.memory value → Keeps p.memory q.memory) →
     q ≡ record p { memory = q.memory; spare = q.spare } → items ≡ q.items ++ q.spare →
     IsOnePassed m o first k (record q { items = items })
@@ -232,8 +232,8 @@ one_passed m p q o first k at place value r items is local taken room others exa
                 row_stays m.memory.rows rows l.name (row_of m.memory.rows l.name) stay refl (can.sound.rowed l.name can.place) in
                 let script : List Row → Script Value =
                 λ few. stored_by few (slice_get m.image.code.now.tables.stores.items o.store) (place_of l) (value_in m.memory h) in
-                let as_done : Puts own p q (script own) (Ok r) =
-                subst (λ (z : Script Value). Puts own p q z (Ok r))
+                let as_done : Puts own p q (script own) r =
+                subst (λ (z : Script Value). Puts own p q z r)
                 (ap (λ (x : Machine). stored_by own (slice_get x.image.code.now.tables.stores.items o.store) (pointer_at place) (value_in x.memory value)) taken
                 ∙ ap (λ (z : Pointer). stored_by own (slice_get m.image.code.now.tables.stores.items o.store) z (value_in m.memory value)) placed
                 ∙ ap (λ (z : Kept_value). stored_by own (slice_get m.image.code.now.tables.stores.items o.store) (place_of l) (value_in m.memory z)) same) did

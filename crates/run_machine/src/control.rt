@@ -1,6 +1,7 @@
 // The control steps (6.8).
 ghost use Rattle.std.specs.Prelude.{◌≡◌, ◌≢◌, ◌∷◌, ◌+◌, ◌-◌, ◌^◌, true, false, min, ℕ, ℤ, Bool, Option, None, Some, length, slice_get, IfOk, IfSome, OnOk};
-ghost use Rattle.std.specs.Prelude.{option_map};
+ghost use Rattle.std.specs.Prelude.{◌<◌, option_map};
+ghost use Rattle.std.specs.List.{All};
 ghost use Rattle.c_types.specs.Shapes.{form_of};
 ghost use Rattle.run_control.specs.Moves.{moved};
 ghost use Rattle.c_model.specs.Control.{Break_here, moved_in, ready_work};
@@ -9,7 +10,7 @@ ghost use Rattle.run_control.specs.declared.work.Step.TheVariants as steps;
 ghost use Rattle.run_control.specs.Links.{work_at};
 ghost use Rattle.run_control.specs.View.{Meaning, after, is_nothing, todo_of};
 ghost use Rattle.run_answers.specs.Answering.{AnswersControl, AnswersStep, step_of_move};
-ghost use Rattle.run_layout.specs.InRange.{part_of};
+ghost use Rattle.run_layout.specs.InRange.{IsObject, part_of};
 ghost use Rattle.run_answers.specs.Beginning.{HasShown, IsAmong};
 ghost use Rattle.run_answers.specs.Ended.{AnswersEnd};
 ghost use Rattle.run_answers.specs.Entering.{BearsAll, CanBear, CreatesOne, Enters};
@@ -131,6 +132,7 @@ fn block_of<'c>(
 ) -> Result<(BlockCode, &'c [ObjectCode]), NoMemory>
     ensures at { IfOk result (λ b. slice_get machine.now.image.code.now.tables.blocks.items (min (machine.now.top.blocks + number) (2 ^ 32 - 1)) ≡ Some b.0) }
     ensures objects { IfOk result (λ b. b.1.now ≡ part_of machine.now.image.code.now.tables.objects.items b.0.objects) }
+    ensures stores { IfOk result (λ b. All (IsObject (length machine.now.image.code.now.tables.stores.items)) b.1.now) }
 {
     let code = machine.image.code;
     let at = machine.top.blocks.saturating_add(number);
@@ -177,7 +179,8 @@ fn create_objects(machine: &mut Machine, objects: &[ObjectCode], first: u32) -> 
 // The first of a block's objects, which take the arguments.
 #[inline(always)]
 fn taking(objects: &[ObjectCode], arguments: u32) -> &[ObjectCode]
-    ensures { result.now ≡ with_arguments objects.now arguments }
+    ensures first { result.now ≡ with_arguments objects.now arguments }
+    ensures stores { (n : ℕ) → All (IsObject n) objects.now → All (IsObject n) result.now }
 {
     let count = objects.len().min(arguments as usize);
     let (taking, _) = objects.split_at(count);
@@ -190,6 +193,7 @@ fn store_arguments(
     objects: &[ObjectCode],
     first: u32,
 ) -> Result<(), NoMemory>
+    requires stores { All (IsObject (length machine.old.image.code.now.tables.stores.items)) objects.now }
     ensures work { machine.new.work ≡ machine.old.work }
     ensures passes { OnOk result (PassesAll machine.old objects.now first machine.new) }
     ensures fills { OnOk result (FillsObjects machine.old machine.new) }
@@ -265,13 +269,14 @@ fn store_argument(
     first: u32,
     number: u32,
 ) -> Result<(), NoMemory>
+    requires there { object.now.store < length machine.old.image.code.now.tables.stores.items }
     ensures work { machine.new.work ≡ machine.old.work }
     ensures passes { OnOk result (IsOnePassed machine.old object.now first number machine.new) }
     ensures fills { OnOk result (FillsObjects machine.old machine.new) }
 {
     let place = machine.local(first.saturating_add(number), 0);
     let value = machine.take(number);
-    let _ = put_at(machine, object.store, place, &value)?;
+    let _ = put_at(machine, object.store, place, &value);
     machine.items.join(&machine.spare)
 }
 

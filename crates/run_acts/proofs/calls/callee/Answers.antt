@@ -1,5 +1,6 @@
-use Rattle.std.proofs.Common.{◌≡◌, ◌∙◌, ℕ, ◌<◌, ◌≤◌, sym, ap, arith, length, [], Option, Some, slice_get, get_or, rules}
+use Rattle.std.proofs.Common.{◌≡◌, ◌∙◌, ℕ, ◌<◌, ◌≤◌, sym, ap, arith, length, [], Option, Some, get_or, rules}
 use Rattle.std.specs.Prelude.{Result}
+use Rattle.std.proofs.lemmas.Option.{slice_get-get_or}
 use Rattle.std.proofs.lemmas.Result.{err_from_is_err_and}
 use Rattle.ub_base.specs.declared.clause.Clause.{Clause}
 use Rattle.c_types.specs.Types.{signature_of}
@@ -42,5 +43,8 @@ returns-clause-exact c = λ few fs are agree agrees rows s.
 
 pub returns-clause-callable : goal.returns-clause-callable
 returns-clause-callable c =
-    let there : slice_get c.args.p.now.functions c.in-Some.number ≡ Some c.in-Some-get.function.now = search rules in
-    (c.in-Some-get.function.now, there, checks_pass _ _ c.in_ok-check_call.ensures)
+    let fs = c.args.p.now.functions in
+    let f = c.in-Some-get.function.now in
+    let lt : c.in-Some.number < length fs = search rules in
+    let is : f ≡ get_or fs c.in-Some.number f = search rules in
+    (f, slice_get-get_or fs c.in-Some.number f lt ∙ ap Some (sym is), checks_pass _ _ c.in_ok-check_call.ensures)

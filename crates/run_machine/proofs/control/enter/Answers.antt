@@ -25,7 +25,7 @@ returns-clause-enters c =
     c.saturating_add-machine.ensures
     c.in_ok-block.ensures.at c.in_ok-block.ensures.objects (reached_so _ _ _ _ c.total-reached.ensures c.created.ensures)
     c.store_arguments.new.machine c.taking.result.now (omega (arith, c.if-reached-gt-MOST_CREATED.false)) c.in_ok-create_objects.ensures.born
-    c.taking.ensures c.in_ok-store_arguments.ensures.passes
+    c.taking.ensures.first c.in_ok-store_arguments.ensures.passes
 
 pub returns-clause-stays : goal.returns-clause-stays
 returns-clause-stays c =

@@ -7,8 +7,8 @@ pub returns-clause-passes : goal.returns-clause-passes
 returns-clause-passes c =
     on_ok_weaker c.join.result
     (one_passed c.args.machine.now c.take-value.new.self c.put_at.new.machine c.args.object.now c.args.first c.args.number c.saturating_add.result
-    c.local-place.result c.take-value.result c.in_ok-put_at.field-0 c.join.new.self c.saturating_add.ensures c.local-place.ensures
-    c.take-value.ensures.rest c.take-value.ensures.room c.take-value.ensures.others c.in_ok-put_at.ensures.exact c.put_at.ensures.kept
+    c.local-place.result c.take-value.result c.put_at.result c.join.new.self c.saturating_add.ensures c.local-place.ensures
+    c.take-value.ensures.rest c.take-value.ensures.room c.take-value.ensures.others c.put_at.ensures.exact c.put_at.ensures.kept
     c.put_at.ensures.rest) c.join.ensures.ok
 
 pub returns-clause-fills : goal.returns-clause-fills
