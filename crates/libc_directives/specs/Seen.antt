@@ -66,6 +66,10 @@ abbrev pub is_upper : Base → Bool
 is_upper bases.Upper = true
 is_upper _ = false
 
+-- the digits of a number, under a name that a proof opens where it needs to
+unfoldable pub digits_of : (upper : Bool) (base : ℕ) → ℕ → List ℕ
+digits_of upper base n = print.digits upper base n
+
 -- the parts of an integer with these digits
 abbrev pub parts_with : directives.Flags → ℕ → Option ℕ → ℤ → List ℕ → print.Parts
 parts_with flags c precision n ds = record {

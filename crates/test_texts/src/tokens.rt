@@ -1,11 +1,16 @@
 // Texts with their tokens, each as its kind, its span and its line, or with the fault. The expected values
 // follow ISO/IEC 9899:2011, 6.4, by hand.
-use crate::rows::{MOST, Row};
 use c_lex::{Token, Tokens, lex};
 use std::alloc::{AllocError, Global};
 
+// A text, and what is to be said of it.
+type Row = (&'static str, &'static str);
+
+// The most bytes of a text.
+const MOST: usize = 1_048_576;
+
 // Identifiers, keywords and punctuators (6.4.1, 6.4.2, 6.4.6).
-pub const WORDS_AND_PUNCTUATORS: &[Row] = &[
+const WORDS_AND_PUNCTUATORS: &[Row] = &[
     ("", ""),
     (
         "x+++++y",
@@ -65,7 +70,7 @@ pub const WORDS_AND_PUNCTUATORS: &[Row] = &[
 ];
 
 // Numbers (6.4.8), of which only integer constants (6.4.4.1) are read.
-pub const NUMBERS: &[Row] = &[
+const NUMBERS: &[Row] = &[
     (
         "0 00 07 0x1F 123u 5UL 6llu 7LLU 8lu 9Ull",
         "Number 0 1 1;Number 2 4 1;Number 5 7 1;Number 8 12 1;Number 13 17 1;Number 18 21 1;Number 22 26 1;Number 27 31 1;Number 32 35 1;Number 36 40 1;",
@@ -103,7 +108,7 @@ pub const NUMBERS: &[Row] = &[
 ];
 
 // Character constants and string literals (6.4.4.4, 6.4.5).
-pub const LITERALS: &[Row] = &[
+const LITERALS: &[Row] = &[
     (
         "'a' '\\'' '\\x41' ''",
         "CharLit 0 3 1;CharLit 4 8 1;CharLit 9 15 1;CharLit 16 18 1;",
@@ -124,7 +129,7 @@ pub const LITERALS: &[Row] = &[
 ];
 
 // Comments (6.4.9), line markers, pragmas and definitions of macros (6.10.4, 6.10.6, 6.10.3).
-pub const LINES: &[Row] = &[
+const LINES: &[Row] = &[
     (" \t\x0b\x0c\r\n", ""),
     ("a/*\n*/b//c\nd", "Name 0 1 1;Name 6 7 2;Name 11 12 3;"),
     ("a//", "Name 0 1 1;"),
@@ -172,7 +177,7 @@ fn tokens_told(alloc: Global, tokens: &Tokens<'_>) -> Result<String, AllocError>
     Ok(told)
 }
 
-pub fn told(alloc: Global, text: &str) -> Result<String, AllocError> {
+fn told(alloc: Global, text: &str) -> Result<String, AllocError> {
     let source = text.as_bytes();
     if source.len() > MOST {
         return Err(AllocError);
@@ -181,4 +186,25 @@ pub fn told(alloc: Global, text: &str) -> Result<String, AllocError> {
         Ok(tokens) => tokens_told(alloc, &tokens),
         Err(fault) => format!(in alloc; "{fault:?}"),
     }
+}
+
+// The first row of whose text something else is said: its text, and what is said.
+fn first_wrong(alloc: Global, rows: &[Row]) -> Result<String, AllocError> {
+    for row in rows {
+        let (text, want) = *row;
+        let given = told(alloc, text)?;
+        if given.as_str() != want {
+            return format!(in alloc; "{text}: {given}");
+        }
+    }
+    Ok(String::new(alloc))
+}
+
+#[test]
+fn texts_have_their_tokens(rt: HostRuntime) -> Result<(), AllocError> {
+    for rows in [WORDS_AND_PUNCTUATORS, NUMBERS, LITERALS, LINES] {
+        let other = first_wrong(rt.alloc(), rows)?;
+        assert_eq!(rt; other.as_str(), "");
+    }
+    Ok(())
 }
