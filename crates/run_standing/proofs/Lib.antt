@@ -1,4 +1,4 @@
-pub mod Contents
+pub mod Content
 pub mod Starting
 pub mod Clears
 pub mod Starts

@@ -29,7 +29,7 @@ use Rattle.run_standing.proofs.Clears.{Stored, stored, does_store, stored_still,
 use Rattle.c_model.specs.Nodes.{plain_byte}
 use Rattle.c_model.specs.Values.{address_after}
 use Rattle.std.proofs.lemmas.Nat.{div-add-mod'}
-use Rattle.run_standing.proofs.Contents.{plain_seen, zeros_seen}
+use Rattle.run_standing.proofs.Content.{plain_seen, zeros_seen}
 use Rattle.run_values.proofs.Fills.{Alike}
 
 -- ---- initializations

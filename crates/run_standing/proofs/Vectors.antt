@@ -23,7 +23,7 @@ use Rattle.run_standing.specs.Standing.{AreArguments, StandsThere, AllFilled, po
 use Rattle.run_standing.specs.Starting.{AreMadeAll, Puts}
 use Rattle.run_values.specs.Views.{value_in, pointer_at}
 use Rattle.run_standing.proofs.Arguments.{at_argument, argument_count}
-use Rattle.run_standing.proofs.Contents.{seen_bytes}
+use Rattle.run_standing.proofs.Content.{seen_bytes}
 use Rattle.run_values.proofs.Fills.{Alike}
 use Rattle.run_values.proofs.Keeping.{seen_pointer}
 use Rattle.run_standing.proofs.Starting.{made_at}

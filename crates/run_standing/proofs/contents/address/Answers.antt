@@ -4,7 +4,7 @@ use Rattle.std.proofs.lemmas.Int.{to_z-of_z}
 use Rattle.ub_base.specs.declared.names.ObjName.TheVariants.{Static, Lit}
 use Rattle.mem_spec.specs.Bytes.{number_bytes}
 use Rattle.run_values.specs.Views.{pointer_at}
-use Rattle.run_standing.proofs.Contents.{placed_bytes, placed_made}
+use Rattle.run_standing.proofs.Content.{placed_bytes, placed_made}
 use Rattle.run_values.proofs.Keeping.{int_of}
 use Rattle.run_values.proofs.Results.{low_address}
 use Rattle.run_standing.proofs.contents.address.Goals as goal

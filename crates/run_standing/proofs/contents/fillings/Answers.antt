@@ -1,5 +1,5 @@
 use Rattle.std.proofs.Common.{arith}
-use Rattle.run_standing.proofs.Contents.{held_next, held_all}
+use Rattle.run_standing.proofs.Content.{held_next, held_all}
 use Rattle.run_standing.proofs.contents.fillings.Goals as goal
 
 pub loop-constant-preserved : goal.loop-constant-preserved

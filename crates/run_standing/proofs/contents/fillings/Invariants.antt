@@ -1,5 +1,5 @@
 -- The fillings of the constants so far.
-use Rattle.run_standing.proofs.Contents.{HoldsSo}
+use Rattle.run_standing.proofs.Content.{HoldsSo}
 use Rattle.run_standing.proofs.contents.fillings.Given as goal
 
 abbrev pub invariant-loop-constant : goal.invariant-loop-constant

@@ -2,7 +2,7 @@ use Rattle.std.proofs.Common.{◌∙◌, ap, ◌+◌, ◌*◌, ◌%◌, length, 
 use Rattle.prov_memory.specs.Memory.{Kept}
 use Rattle.prov_memory.proofs.KeepLemmas.{keeps_then}
 use Rattle.c_model.specs.Values.{address_after}
-use Rattle.run_standing.proofs.Contents.{cells_known, cells_tagged}
+use Rattle.run_standing.proofs.Content.{cells_known, cells_tagged}
 use Rattle.run_standing.proofs.Starts.{
   clears_first,
   clears_more,

@@ -1,6 +1,6 @@
 use Rattle.std.proofs.Common.{length}
 use Rattle.c_model.specs.Values.{address_after}
-use Rattle.run_standing.proofs.Contents.{cells_known, cells_tagged}
+use Rattle.run_standing.proofs.Content.{cells_known, cells_tagged}
 use Rattle.run_standing.proofs.Starts.{text_put}
 use Rattle.run_standing.proofs.Ready.{plain_fits}
 use Rattle.run_standing.proofs.initial.fill_text.Goals as goal
