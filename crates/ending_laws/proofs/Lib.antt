@@ -1,0 +1,11 @@
+pub mod Ahead
+pub mod Ending
+pub mod Entries
+pub mod First
+pub mod FirstOnes
+pub mod Going
+pub mod Main
+pub mod Nested
+pub mod Recorded
+pub mod Untouched
+pub mod Ways
