@@ -24,7 +24,7 @@ use Rattle.ending_laws.specs.Ends.{AllEndIn, BodiesEnd, EndsIn}
 use Rattle.ending_laws.specs.Untouched.{AllHeldUntouched, IsUntouched, NoneEnds, done_in, with_body}
 use Rattle.ending_laws.proofs.Entries.{none_by}
 
-place_in : Pick → Place → Place
+abbrev place_in : Pick → Place → Place
 place_in Control w = w
 place_in (Ev u) w = u
 

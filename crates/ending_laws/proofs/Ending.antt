@@ -61,8 +61,8 @@ use Rattle.detector_laws.specs.Looked.{looked_at, scope_of}
 use Rattle.detector_laws.specs.Records.{Records}
 use Rattle.detector_laws.proofs.Free.{done_as}
 use Rattle.detector_laws.proofs.Recorded.{has_place}
-use Rattle.ending_laws.specs.Ends.{EndIsAnswered, EndIsFound, EndsIn, ending_at}
-use Rattle.ending_laws.proofs.FirstOnes.{IsOfPlaces, IsSound, IsToldOf, first_is_first}
+use Rattle.ending_laws.specs.Ends.{EndIsFound, EndsIn, IsToldAtEnd, ending_at}
+use Rattle.ending_laws.proofs.FirstOnes.{Describes, IsOfPlaces, IsSound, IsToldOf, first_is_first}
 use Rattle.ending_laws.proofs.Ways.{body_due, two_rise, way_of}
 
 -- ---- lists
@@ -314,7 +314,7 @@ module _ (world : World) (trace later : List Entry) (frames : List FrameRow) (f 
                 (more_left (has_item last) (has_at_end t c.other) (x.items.0, x.items.1, d.least.0));
           }
 
-  sound : (x : Found) → Conflict x → IsSound world.rows t o x
+  pub sound : (x : Found) → Conflict x → IsSound world.rows t o x
   sound x (inl c) = beside_sound x c
   sound x (inr c) = way_sound x c
 
@@ -381,7 +381,7 @@ module _ (world : World) (trace later : List Entry) (frames : List FrameRow) (f 
       ∙ none_right world.rows (pick (it x))))))
 
   -- ---- races
-  races_told : (x y : Place) → IsDue o x → IsDue o y → precedes x y ≡ true → races world.rows o x y ≡ true → IsToldOf t Conflict true x y
+  pub races_told : (x y : Place) → IsDue o x → IsDue o y → precedes x y ≡ true → races world.rows o x y ≡ true → IsToldOf t Conflict true x y
   races_told x y dx dy order h =
       let bodies = and_l (not (is_body x.kind || is_body y.kind)) _ h in
       let rest = and_r (not (is_body x.kind || is_body y.kind)) _ h in
@@ -532,7 +532,7 @@ module _ (world : World) (trace later : List Entry) (frames : List FrameRow) (f 
       )
 
   -- ---- all quarrels
-  quarrels_told : (x y : Place) → IsDue o x → IsDue o y → precedes x y ≡ true → quarrels world.rows o x y ≡ true → IsToldOf t Conflict false x y
+  pub quarrels_told : (x y : Place) → IsDue o x → IsDue o y → precedes x y ≡ true → quarrels world.rows o x y ≡ true → IsToldOf t Conflict false x y
   quarrels_told x y dx dy order h =
       let apart = and_l (are_apart o x y) _ h in
       let met : some_conflict world.rows (with_any (it x)) (with_any (it y)) ≡ true = and_r (are_apart o x y) _ h in
@@ -555,20 +555,28 @@ module _ (world : World) (trace later : List Entry) (frames : List FrameRow) (f 
           (λ some. absurd (true≢false (sym some ∙ neither_of (has_ending (it v)) (has_ending (it w)) (endless_at v ov) (endless_at w ow))))
           (or_cases (some_conflict world.rows (it v) (it w)) (has_ending (it v) || has_ending (it w)) g)
 
-  -- ---- so the first one is found
-  pub end_found : (x : Option Found) → IsFirstOf frames Conflict x → IsFoundIn world.rows o x
-  end_found x first = first_is_first frames world.rows t o Conflict sound races_told quarrels_told x first
-
+  -- ---- each is of this frame
   pub of_frame : (x : Found) → Conflict x → x.event.frame.0 ≡ world.number f.path
   of_frame x c = let z = sound x c in ap (λ (v : Event). v.frame.0) z.of.event ∙ r.frame
 
+-- its conflicts are those of just the pairs that race or quarrel
+pub describes : (world : World) (trace later : List Entry) (frames : List FrameRow) (f : Scene) (e : Begun) (t : Opened)
+    (told : IsToldAtEnd world trace later f e t) →
+    Describes world.rows t (ending_at world later f e) (IsConflictAtEnd frames world.rows t told.last)
+describes world trace later frames f e t a = record {
+  sound = sound world trace later frames f e a.body t a.last a.ends a.records a.stands;
+  raced = races_told world trace later frames f e a.body t a.last a.ends a.records a.stands;
+  quarrelled = quarrels_told world trace later frames f e a.body t a.last a.ends a.records a.stands;
+}
+
 pub end_is_found : EndIsFound
-end_is_found world trace later frames f e u x a = (
-  end_found world trace later frames f e u a.told a.last a.ends a.records a.stands x a.first,
-  λ y is. of_frame world trace later frames f e u a.told a.last a.ends a.records a.stands y (held x y is a.first),
+end_is_found world trace later frames f e t r a first = (
+  first_is_first frames world.rows t (ending_at world later f e) (IsConflictAtEnd frames world.rows t a.last) (describes world trace later frames f e t a) r
+      first,
+  λ y is. of_frame world trace later frames f e a.body t a.last a.ends a.records a.stands y (held r y is first),
 )
   where
-    held : (z : Option Found) (y : Found) → z ≡ Some y → IsFirstOf frames (IsConflictAtEnd frames world.rows a.told a.last) z →
-        IsConflictAtEnd frames world.rows a.told a.last y
-    held None y is first = absurd (cc)
-    held (Some w) y is first = subst (IsConflictAtEnd frames world.rows a.told a.last) (same_Some w y is) first.0
+    held : (z : Option Found) (y : Found) → z ≡ Some y → IsFirstOf frames (IsConflictAtEnd frames world.rows t a.last) z →
+        IsConflictAtEnd frames world.rows t a.last y
+    held None y is q = absurd (cc)
+    held (Some w) y is q = subst (IsConflictAtEnd frames world.rows t a.last) (same_Some w y is) q.0

@@ -7,7 +7,8 @@ use Rattle.ub_base.specs.declared.names.Item.TheVariants.{Read, Write, Born, Die
 use Rattle.addr_map.specs.declared.map.Row.{Row}
 use Rattle.c_typed.specs.declared.tree.Place.{Place}
 use Rattle.c_typed.specs.Order.{is_body}
-use Rattle.mem_spec.specs.Script.{Act, Done, Raised, Ended, Outside, Unplaced, Script, Give, Raise, Finish, Exceed, Misplace, Do, run, touched, refused, refuses}
+use Rattle.mem_spec.specs.Script.{Act, Done, Raised, Ended, Outside, Unplaced, Script, Give, Raise, Finish, Exceed, Misplace, Do, run, touched, refused}
+use Rattle.mem_spec.specs.Script.{refuses}
 use Rattle.mem_spec.specs.Script.{Touch, Ask, Get, Put, Bear, Bury, Show, Find, Settle, Take, Print, answer, item_of, left}
 use Rattle.mem_spec.specs.Store.{Store}
 use Rattle.c_model.specs.Findings.{has_ending, is_under, items_of, items_under}

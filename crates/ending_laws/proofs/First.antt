@@ -17,9 +17,10 @@ use Rattle.detector_laws.specs.Looked.{GoesFree, none, more}
 use Rattle.detector_laws.specs.Shown.{all_begun, begun_below, begun_in}
 use Rattle.detector_laws.proofs.Firsts.{free_picks_pass, last_pick_tells}
 use Rattle.ending_laws.specs.First.{BudgetIsFirst, EndIsFirst, LimitIsFirst, RaiseIsFirst, ReturnIsClean}
-use Rattle.ending_laws.specs.Frames.{IsFindingOf, all_ending, first_of_all}
+use Rattle.ending_laws.specs.Frames.{IsFindingOf, all_ending}
 use Rattle.ending_laws.proofs.Entries.{leaves_entry}
-use Rattle.ending_laws.proofs.Nested.{first_of_frames, open_are_nested}
+use Rattle.ending_laws.proofs.Nested.{open_are_nested}
+use Rattle.ending_laws.proofs.Union.{first_of_all}
 
 -- ---- a raised clause
 raised_within : (x : Option (Cause × ℕ)) (o : Outcome) (c : Clause) (later : List Entry) → within x o ≡ Raises c later → o ≡ Raises c later
@@ -95,11 +96,11 @@ module _ (world : World) (later : List Entry) where
   open_below (h ∷ hs) inner = open_below hs (ends_in world later h.0 h.0.begun inner) ∙ open_in h.0 h.0.begun (begun_below hs) inner
 
 pub end_is_first : EndIsFirst
-end_is_first world first st n left status output later frames rs before free q answers =
-    subst (IsFindingOf world later (all_begun st) (suc n) (Clean status output (suc n)) (first_of_all frames None rs))
+end_is_first world first st n left status output later frames ts r before free q told is =
+    subst (IsFindingOf world later (all_begun st) (suc n) (Clean status output (suc n)) r)
     (sym (last_pick_tells world first st n left (Ends status output later) before q
     ∙ ap (λ os. found_in world later os (suc n) (Clean status output (suc n))) same))
-    (first_of_frames world later frames (all_begun st) rs (suc n) (Clean status output (suc n)) (open_are_nested world st free) answers)
+    (first_of_all world st.trace later frames (all_begun st) ts r (suc n) (Clean status output (suc n)) (open_are_nested world st free) told is)
   where
     same : all_open world later st.held (ends_in world later st.top st.top.begun []) ≡ all_ending world later (all_begun st) []
     same = open_below world later st.held (ends_in world later st.top st.top.begun []) ∙ open_in world later st.top st.top.begun (begun_below st.held) []

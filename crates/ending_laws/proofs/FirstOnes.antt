@@ -58,9 +58,13 @@ pub record IsSound (rows : List Row) (t : Opened) (o : Open) (f : Found) : Type 
 abbrev pub IsToldOf : Opened → (Found → Type 0) → Bool → Place → Place → Type 0
 IsToldOf t Q race x y = (f : Found) × Q f × (f.race ≡ race) × (f.event ≡ event_in t x) × (f.against ≡ event_in t y)
 
-module _ (frames : List FrameRow) (rows : List Row) (t : Opened) (o : Open) (Q : Found → Type 0) (sound : (f : Found) → Q f → IsSound rows t o f)
-    (races_told : (x y : Place) → IsDue o x → IsDue o y → precedes x y ≡ true → races rows o x y ≡ true → IsToldOf t Q true x y)
-    (quarrels_told : (x y : Place) → IsDue o x → IsDue o y → precedes x y ≡ true → quarrels rows o x y ≡ true → IsToldOf t Q false x y) where
+-- they are of just the pairs that race or quarrel
+pub record Describes (rows : List Row) (t : Opened) (o : Open) (Q : Found → Type 0) : Type 0 where
+  pub sound : (f : Found) → Q f → IsSound rows t o f
+  pub raced : (x y : Place) → IsDue o x → IsDue o y → precedes x y ≡ true → races rows o x y ≡ true → IsToldOf t Q true x y
+  pub quarrelled : (x y : Place) → IsDue o x → IsDue o y → precedes x y ≡ true → quarrels rows o x y ≡ true → IsToldOf t Q false x y
+
+module _ (frames : List FrameRow) (rows : List Row) (t : Opened) (o : Open) (Q : Found → Type 0) (d : Describes rows t o Q) where
   -- no lesser pair counts
   lesser : (f g : Found) (u v x y : Place) → f.event ≡ event_in t u → f.against ≡ event_in t v → g.event ≡ event_in t x → g.against ≡ event_in t y →
       is_lesser frames g f ≡ false → (precedes x u ≡ false) × (x ≡ u → precedes y v ≡ false)
@@ -77,12 +81,12 @@ module _ (frames : List FrameRow) (rows : List Row) (t : Opened) (o : Open) (Q :
             (ap₂ (event_cmp frames) (ge ∙ ap (event_in t) is) fe ∙ tied_itself (event_total frames) (event_in t u))),
       )
 
-  no_race : ((f : Found) → Q f → f.race ≡ true → ⊥) → NoPair o (races rows o)
-  no_race none x y dx dy order = not_false (races rows o x y) (λ h. let r = races_told x y dx dy order h in none r.0 r.1 r.2)
+  pub no_race : ((f : Found) → Q f → f.race ≡ true → ⊥) → NoPair o (races rows o)
+  no_race none x y dx dy order = not_false (races rows o x y) (λ h. let r = d.raced x y dx dy order h in none r.0 r.1 r.2)
 
   module _ (f : Found) (q : Q f) (least : (g : Found) → Q g → counts_before frames g f ≡ false) where
     s : IsSound rows t o f
-    s = sound f q
+    s = d.sound f q
 
     abbrev u : Place
     u = s.first
@@ -102,7 +106,7 @@ module _ (frames : List FrameRow) (rows : List Row) (t : Opened) (o : Open) (Q :
       order = s.of.order;
       passes = s.raced r;
       least = λ x y dx dy order h.
-          let g = races_told x y dx dy order h in
+          let g = d.raced x y dx dy order h in
           lesser f g.0 u v x y s.of.event s.of.against g.3 g.4 (sym (by_race g.0.race f.race (is_lesser frames g.0 f) g.2 r) ∙ least g.0 g.1);
     }
 
@@ -116,14 +120,17 @@ module _ (frames : List FrameRow) (rows : List Row) (t : Opened) (o : Open) (Q :
       order = s.of.order;
       passes = s.quarrelled r;
       least = λ x y dx dy order h.
-          let g = quarrels_told x y dx dy order h in
+          let g = d.quarrelled x y dx dy order h in
           lesser f g.0 u v x y s.of.event s.of.against g.3 g.4 (sym (by_other g.0.race f.race (is_lesser frames g.0 f) g.2 r) ∙ least g.0 g.1);
     }
+
+  pub no_quarrel : ((f : Found) → Q f → f.race ≡ false → ⊥) → NoPair o (quarrels rows o)
+  no_quarrel none x y dx dy order = not_false (quarrels rows o x y) (λ h. let r = d.quarrelled x y dx dy order h in none r.0 r.1 r.2)
 
   pub first_is_first : (r : Option Found) → IsFirstOf frames Q r → IsFoundIn rows o r
   first_is_first None none = (
     no_race (λ f q is. none f q),
-    λ x y dx dy order. not_false (quarrels rows o x y) (λ h. let r = quarrels_told x y dx dy order h in none r.0 r.1),
+    no_quarrel (λ f q is. none f q),
   )
   first_is_first (Some f) (q, least) = (
     λ r. named f q least (races rows o) (first_race f q least r),

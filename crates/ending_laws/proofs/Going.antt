@@ -1,5 +1,6 @@
 -- No act but that of a body ends the run: what their scripts are made of goes on, or is undefined.
-use Rattle.std.proofs.Common.{◌≡◌, ◌+◌, ◌==◌, ℕ, suc, Bool, true, false, not, ◌||◌, if◌then◌else◌, List, [], ◌∷◌, length, Option, Some, None, is_some, refl, sym}
+use Rattle.std.proofs.Common.{◌≡◌, ◌+◌, ◌==◌, ℕ, suc, Bool, true, false, not, ◌||◌, if◌then◌else◌, List, [], ◌∷◌, length, Option, Some, None, is_some, refl}
+use Rattle.std.proofs.Common.{sym}
 use Rattle.std.proofs.Common.{ap, subst, ◌∙◌, true≢false}
 use Rattle.std.specs.Prelude.{ℤ, Result, Ok, Err, pos}
 use Rattle.ub_base.specs.declared.clause.Kind.{Kind}
@@ -39,8 +40,10 @@ use Rattle.mem_spec.specs.Script.{◌>>=◌, ◌>>◌}
 use Rattle.mem_spec.specs.Store.{Store, TaggedByte}
 use Rattle.c_model.specs.Control.{Todo, Enter, Leave, Unwrite, ready_work}
 use Rattle.c_model.specs.Nodes.{act_of, call_value, check_change, convert, difference, fill, int_outcome, load, member, outcome, part_of, part_pointer, put}
-use Rattle.c_model.specs.Nodes.{amount, is_empty, bool_value, in_order, change_access, content_bytes, new_value, put_whole, read_part, relational, shifted, unary_value, update_value}
-use Rattle.c_model.specs.Program.{Decl, Expr, Exprs, Filling, Head, Load, Conv, Un, Bin, PtrAdd, PtrDiff, Rel, Eq, Member, Part, Assign, Update, And, Or, Cond, Comma}
+use Rattle.c_model.specs.Nodes.{amount, is_empty, bool_value, in_order, change_access, content_bytes, new_value, put_whole, read_part, relational, shifted}
+use Rattle.c_model.specs.Nodes.{unary_value, update_value}
+use Rattle.c_model.specs.Program.{Decl, Expr, Exprs, Filling, Head, Load, Conv, Un, Bin, PtrAdd, PtrDiff, Rel, Eq, Member, Part, Assign, Update, And, Or, Cond}
+use Rattle.c_model.specs.Program.{Comma}
 use Rattle.c_model.specs.Program.{Call, Listed, expr}
 use Rattle.c_model.specs.Steps.{Begun, Control, Ev, Local, Pick, Scene, at_node, bear_all, call_act, control_act, does, event_act, event_of, first_type}
 use Rattle.c_model.specs.Steps.{kill_all, operand_values, own_kind, pass_all, target, values_of}
@@ -125,7 +128,8 @@ object_goes : (rows : List Row) (len a : ℕ) (p : Prov) → GoesOn (object_of r
 object_goes rows len a Empty = raise _
 object_goes rows len a (Whole x) = give _
 object_goes rows len a (Either id past start) =
-    either (in_row (row_of rows past) a len) _ _ (does_so _ _ (λ b. give _)) (either (in_row (row_of rows start) a len) _ _ (does_so _ _ (λ b. give _)) (raise _))
+    either (in_row (row_of rows past) a len) _ _ (does_so _ _ (λ b. give _))
+        (either (in_row (row_of rows start) a len) _ _ (does_so _ _ (λ b. give _)) (raise _))
 
 access_goes : (rows : List Row) (len align a : ℕ) (p : Prov) → GoesOn (access_act rows len align a p)
 access_goes rows len align a p =

@@ -7,5 +7,6 @@ pub mod Going
 pub mod Main
 pub mod Nested
 pub mod Recorded
+pub mod Union
 pub mod Untouched
 pub mod Ways

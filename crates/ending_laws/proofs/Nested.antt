@@ -77,7 +77,7 @@ before_started p q h =
     ∙ longer (reverse q) some.0 some.1)
 
 module _ (frames : List FrameRow) where
-  lesser_frame : (f g : Found) (p q : Path) → path_of frames f.event.frame.0 ≡ p → path_of frames g.event.frame.0 ≡ q → IsStartedFrom p q →
+  pub lesser_frame : (f g : Found) (p q : Path) → path_of frames f.event.frame.0 ≡ p → path_of frames g.event.frame.0 ≡ q → IsStartedFrom p q →
       is_lesser frames g f ≡ true
   lesser_frame f g p q fp gq h = by_frames (frame_cmp frames g.event.frame.0 f.event.frame.0) _ _ (ap₂ path_cmp gq fp ∙ before_started p q h)
     where
@@ -99,30 +99,30 @@ module _ (world : World) (later : List Entry) (frames : List FrameRow) where
   first_quarrel os = least_pair world later (quarrels world.rows) os
 
   -- it is of a frame that was started from all those that are left, and what is found first of those behind it
-  record IsBest (all rest : List (Scene × Begun)) (os : List Open) (f : Found) : Type 0 where
-    of : Scene × Begun
-    one : IsOneOf all of
-    started : IsStartedFromAll of.0.path rest
-    frame : f.event.frame.0 ≡ world.number of.0.path
-    known : path_of frames (world.number of.0.path) ≡ of.0.path
-    raced : f.race ≡ true → first_race os ≡ Some (told of f)
-    other : f.race ≡ false → (first_race os ≡ None) × (first_quarrel os ≡ Some (told of f))
+  pub record IsBest (all rest : List (Scene × Begun)) (os : List Open) (f : Found) : Type 0 where
+    pub of : Scene × Begun
+    pub one : IsOneOf all of
+    pub started : IsStartedFromAll of.0.path rest
+    pub frame : f.event.frame.0 ≡ world.number of.0.path
+    pub known : path_of frames (world.number of.0.path) ≡ of.0.path
+    pub raced : f.race ≡ true → first_race os ≡ Some (told of f)
+    pub other : f.race ≡ false → (first_race os ≡ None) × (first_quarrel os ≡ Some (told of f))
 
-  abbrev Best : (all rest : List (Scene × Begun)) → List Open → Option Found → Type 0
+  abbrev pub Best : (all rest : List (Scene × Begun)) → List Open → Option Found → Type 0
   Best all rest os None = (first_race os ≡ None) × (first_quarrel os ≡ None)
   Best all rest os (Some f) = IsBest all rest os f
 
-  with_none : (test : Open → Place → Place → Bool) (o : Open) (os : List Open) → NoPair o (test o) →
+  pub with_none : (test : Open → Place → Place → Bool) (o : Open) (os : List Open) → NoPair o (test o) →
       least_pair world later test (o ∷ os) ≡ least_pair world later test os
   with_none test o os h = ap (λ z. with_items world later o z (least_pair world later test os)) (no_pair_taken o (test o) h)
 
-  with_some : (test : Open → Place → Place → Bool) (o : Open) (os : List Open) (u v : Place) → IsFirstPair o (test o) u v →
+  pub with_some : (test : Open → Place → Place → Bool) (o : Open) (os : List Open) (u v : Place) → IsFirstPair o (test o) u v →
       least_pair world later test (o ∷ os) ≡ Some (pair_told world later o u v)
   with_some test o os u v h = ap (λ z. with_items world later o z (least_pair world later test os)) (first_pair_taken o (test o) u v h)
 
   module _ (all rest : List (Scene × Begun)) (os : List Open) (y : Scene × Begun) (one : IsOneOf all y) (below : IsStartedFromAll y.0.path rest) where
     -- the one of this frame
-    new_best : (g : Found) (a : IsAnswerIn world later frames y (Some g)) → (g.race ≡ false → first_race os ≡ None) → IsBest all rest (open_of y ∷ os) g
+    pub new_best : (g : Found) (a : IsAnswerIn world later frames y (Some g)) → (g.race ≡ false → first_race os ≡ None) → IsBest all rest (open_of y ∷ os) g
     new_best g a none = record {
       of = y;
       one = one;
@@ -137,7 +137,7 @@ module _ (world : World) (later : List Entry) (frames : List FrameRow) where
     }
 
     -- the one that was best
-    old_best : (f : Found) → IsBest all (y ∷ rest) os f → NoPair (open_of y) (races world.rows (open_of y)) →
+    pub old_best : (f : Found) → IsBest all (y ∷ rest) os f → NoPair (open_of y) (races world.rows (open_of y)) →
         (f.race ≡ false → NoPair (open_of y) (quarrels world.rows (open_of y))) → IsBest all rest (open_of y ∷ os) f
     old_best f b raceless quarrelless = record {
       of = b.of;
@@ -203,7 +203,7 @@ module _ (world : World) (later : List Entry) (frames : List FrameRow) where
   all_best all [] os (r ∷ rs) b among nested answers best = absurd answers
   all_best all (y ∷ rest) os [] b among nested answers best = absurd answers
 
-  finding_at : (all : List (Scene × Begun)) (os : List Open) (n : ℕ) (otherwise : Finding) (b : Option Found) → Best all [] os b →
+  pub finding_at : (all : List (Scene × Begun)) (os : List Open) (n : ℕ) (otherwise : Finding) (b : Option Found) → Best all [] os b →
       IsFindingOf world later all n otherwise b (found_in world later os n otherwise)
   finding_at all os n otherwise None best = ap₂ (λ x y. raced_or n x (quarrel_or n y otherwise)) best.0 best.1
   finding_at all os n otherwise (Some f) best = (best.of, best.one, best.frame, by_race f.race refl)

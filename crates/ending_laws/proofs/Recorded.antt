@@ -1,5 +1,6 @@
 -- What was told where the run ends is what the definitions have.
-use Rattle.std.proofs.Common.{◌≡◌, ◌⊎◌, inl, inr, ⊎_elim, ℕ, zero, suc, Bool, true, false, ◌||◌, List, [], ◌∷◌, ◌++◌, Some, refl, sym, ap, subst, ◌∙◌, true≢false}
+use Rattle.std.proofs.Common.{◌≡◌, ◌⊎◌, inl, inr, ⊎_elim, ℕ, zero, suc, Bool, true, false, ◌||◌, List, [], ◌∷◌, ◌++◌, Some, refl, sym, ap, subst, ◌∙◌}
+use Rattle.std.proofs.Common.{true≢false}
 use Rattle.std.specs.Prelude.{slice_get}
 use Rattle.std.proofs.lemmas.Option.{same_Some}
 use Rattle.ub_base.specs.declared.clause.Kind.TheVariants.{Body}
@@ -45,15 +46,15 @@ alone own is h = λ j. ((λ g. (h j).0 (sym (or_false (own j)) ∙ g)), (λ g. o
 pub tells_ending : TellsEnding
 tells_ending world trace x f e u passed ahead t items s is tells fresh r stands =
     let q = starts_recorded world trace x f e u passed ahead t items s is r stands in
-    let open = q.0 in (
+    let begun = q.0 in (
       record {
-        frame = open.frame;
-        turn = open.turn;
-        tree = open.tree;
-        taken = open.taken;
-        places = open.places;
+        frame = begun.frame;
+        turn = begun.turn;
+        tree = begun.tree;
+        taken = begun.taken;
+        places = begun.places;
         items = λ d a h. ⊎_elim
-            (λ j. open.items d a (ap (λ z. has z d.place) (sym r.places) ∙ has_place t.done j.0 d j.1))
+            (λ j. begun.items d a (ap (λ z. has z d.place) (sym r.places) ∙ has_place t.done j.0 d j.1))
             (λ same. subst (λ (z : Evaluation). HasItems (has_item z) (items_by (x ∷ trace) (x ∷ trace) f.path f.turn z.place)) same
             (subst (HasItems (has_item (evaluation u.node u.kind items))) (sym (items_are trace x f u is (λ b. fresh)))
             (alone (touched items 0 (length items)) x.items tells)))

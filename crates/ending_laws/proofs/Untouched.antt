@@ -1,5 +1,6 @@
 -- The trace stays without items of events that aren't done.
-use Rattle.std.proofs.Common.{◌≡◌, ◌≢◌, ◌<◌, ℕ, suc, Bool, true, false, ◌&&◌, ◌||◌, ◌==◌, if◌then◌else◌, List, [], ◌∷◌, ◌++◌, length, Option, Some, None, is_some}
+use Rattle.std.proofs.Common.{◌≡◌, ◌≢◌, ◌<◌, ℕ, suc, Bool, true, false, ◌&&◌, ◌||◌, ◌==◌, if◌then◌else◌, List, [], ◌∷◌, ◌++◌, length, Option, Some, None}
+use Rattle.std.proofs.Common.{is_some}
 use Rattle.std.proofs.Common.{refl, sym, ap, ap₂, subst, ◌∙◌, true≢false, arith}
 use Rattle.std.proofs.lemmas.Bool.Decides.{nat_tests}
 use Rattle.ub_base.specs.Frames.{Path}
@@ -169,7 +170,7 @@ module _ (world : World) where
       now = λ w s. absurd (true≢false (sym (ap (λ o. done_in o w) b) ∙ s));
       later = λ k w m. subst (λ z. items_by (x ∷ st.trace) (x ∷ st.trace) z k w ≡ []) (sym q) (later k w (omega (arith, l, m)));
     }
-    top_untouched (begins e is none q tn h) new = record {
+    top_untouched (begins e is given q tn h) new = record {
       now = λ w s. subst (λ z. items_by (x ∷ st.trace) (x ∷ st.trace) next.top.scene.path z w ≡ []) (sym tn)
           (subst (λ z. items_by (x ∷ st.trace) (x ∷ st.trace) z (suc st.top.scene.turn) w ≡ []) (sym q) (later (suc st.top.scene.turn) w (omega arith)));
       later = λ k w m. subst (λ z. items_by (x ∷ st.trace) (x ∷ st.trace) z k w ≡ []) (sym q) (later k w (omega (arith, tn, m)));
@@ -206,7 +207,7 @@ module _ (world : World) where
 
     next_held : ComesTo world st next → next.trace ≡ x ∷ st.trace → AllHeldUntouched (x ∷ st.trace) next.held
     next_held (rests b q l h) new = subst (AllHeldUntouched (x ∷ st.trace)) (sym h) held_on
-    next_held (begins e is none q tn h) new = subst (AllHeldUntouched (x ∷ st.trace)) (sym h) held_on
+    next_held (begins e is given q tn h) new = subst (AllHeldUntouched (x ∷ st.trace)) (sym h) held_on
     next_held (takes e u y is took tr en bare h) new = subst (AllHeldUntouched (x ∷ st.trace)) (sym h) held_on
     next_held (starts u y b q tr en h) new =
         subst (AllHeldUntouched (x ∷ st.trace)) (sym h) (

@@ -36,20 +36,18 @@ pub record EndsIn (world : World) (trace later : List Entry) (f : Scene) (e : Be
   pub left : (w : Place) → has (passed ++ u ∷ []) w ≡ false → items_by later later f.path f.turn w ≡ []
 
 -- ---- what is told
--- That body was told last, with all that the trace has of it, and this is what `ended` gives.
-pub record EndIsAnswered (world : World) (trace later : List Entry) (frames : List FrameRow) (f : Scene) (e : Begun) (u : Place) (r : Option Found)
-    : Type 0 where
-  pub ends : EndsIn world trace later f e u
-  pub told : Opened
+-- that body was told last, and what was told is what the definitions have
+pub record IsToldAtEnd (world : World) (trace later : List Entry) (f : Scene) (e : Begun) (t : Opened) : Type 0 where
+  pub body : Place
+  pub ends : EndsIn world trace later f e body
   pub last : Evaluation
-  pub records : Records world later f e (ends.passed ++ u ∷ []) (ends.passed ++ u ∷ []) told
-  pub stands : StandsBehind told last
-  pub first : IsFirstOf frames (IsConflictAtEnd frames world.rows told last) r
+  pub records : Records world later f e (ends.passed ++ body ∷ []) (ends.passed ++ body ∷ []) t
+  pub stands : StandsBehind t last
 
--- then it is what c_model finds first in the full expression, and where it is none nothing is found in it; its events are of that frame
+-- Then what `ended` gives is what c_model finds first in the full expression, and where it is none nothing is found in it; its events are of that frame.
 abbrev pub EndIsFound : Type 0
-EndIsFound = (world : World) (trace later : List Entry) (frames : List FrameRow) (f : Scene) (e : Begun) (u : Place) (r : Option Found)
-    → EndIsAnswered world trace later frames f e u r
+EndIsFound = (world : World) (trace later : List Entry) (frames : List FrameRow) (f : Scene) (e : Begun) (t : Opened) (r : Option Found)
+    → (told : IsToldAtEnd world trace later f e t) → IsFirstOf frames (IsConflictAtEnd frames world.rows t told.last) r
     → IsFoundIn world.rows (ending_at world later f e) r × ((x : Found) → r ≡ Some x → x.event.frame.0 ≡ world.number f.path)
 
 -- ---- as a body ends the run

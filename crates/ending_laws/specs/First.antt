@@ -11,7 +11,9 @@ use Rattle.evaluation_log.specs.declared.found.Found.{Found}
 use Rattle.detector_laws.specs.Frames.{AreFree}
 use Rattle.detector_laws.specs.Looked.{GoesFree}
 use Rattle.detector_laws.specs.Shown.{all_begun}
-use Rattle.ending_laws.specs.Frames.{AreAnswers, IsFindingOf, first_of_all}
+use Rattle.evaluation_search.specs.First.{IsFirstOf}
+use Rattle.run_evaluations.specs.Told.{Opened}
+use Rattle.ending_laws.specs.Frames.{AllToldAtEnd, IsConflictOfAll, IsFindingOf}
 
 -- a clause that the next pick raises, where nothing was found so far: at that pick
 abbrev pub RaiseIsFirst : Type 0
@@ -29,13 +31,13 @@ LimitIsFirst = (world : World) (first st : State) (n left : ℕ) (c : Cause) (nu
 abbrev pub BudgetIsFirst : Type 0
 BudgetIsFirst = (world : World) (first st : State) (n : ℕ) → GoesFree world first n st → found_from world (n + 0) 0 first ≡ Out_of_steps n
 
--- the run ends with it: the conflict that counts of those in the full expressions that are open, or none
+-- the run ends with it: the first conflict of all that was told of the full expressions that are open, or none
 abbrev pub EndIsFirst : Type 0
 EndIsFirst = (world : World) (first st : State) (n left status : ℕ) (output : Outputs) (later : List Entry) (frames : List FrameRow)
-    (rs : List (Option Found)) → GoesFree world first n st → AreFree world st
-    → step world st (canonical_pick world st.top st.top.begun) ≡ Ends status output later → AreAnswers world later frames (all_begun st) rs →
-    IsFindingOf world later (all_begun st) (suc n) (Clean status output (suc n)) (first_of_all frames None rs)
-    (found_from world (n + suc left) 0 first)
+    (ts : List Opened) (r : Option Found) → GoesFree world first n st → AreFree world st
+    → step world st (canonical_pick world st.top st.top.begun) ≡ Ends status output later → AllToldAtEnd world st.trace later frames (all_begun st) ts
+    → IsFirstOf frames (IsConflictOfAll frames world.rows ts) r →
+    IsFindingOf world later (all_begun st) (suc n) (Clean status output (suc n)) r (found_from world (n + suc left) 0 first)
 
 -- where `main` returns nothing is open, and the run is clean
 abbrev pub ReturnIsClean : Type 0

@@ -1,6 +1,7 @@
 -- What is found where the run ends, of all full expressions that are open (own).
-use Rattle.std.specs.Prelude.{◌≡◌, ◌⊎◌, ℕ, List, [], ◌∷◌, ◌++◌, Option, Some, None}
+use Rattle.std.specs.Prelude.{◌≡◌, ◌⊎◌, ◌-◌, ℕ, List, [], ◌∷◌, ◌++◌, Option, Some, None, length, slice_get}
 use Rattle.ub_base.specs.Frames.{Path, Row as FrameRow, path_of}
+use Rattle.addr_map.specs.declared.map.Row.{Row}
 use Rattle.c_model.specs.FirstFinding.{Finding, found_in}
 use Rattle.c_model.specs.Moments.{Open}
 use Rattle.c_model.specs.Runs.{Entry, State}
@@ -8,11 +9,14 @@ use Rattle.c_model.specs.Steps.{Begun, Scene}
 use Rattle.c_model.specs.World.{World}
 use Rattle.evaluation_log.specs.FoundItems.{first_found}
 use Rattle.evaluation_log.specs.declared.found.Found.{Found}
+use Rattle.evaluation_search.specs.First.{IsFirstOf}
+use Rattle.run_evaluations.specs.FirstAtEnd.{IsConflictAtEnd}
+use Rattle.run_evaluations.specs.Told.{Evaluation, Opened}
 use Rattle.telling_laws.specs.FirstFound.{IsFoundIn}
 use Rattle.detector_laws.specs.Frames.{AreFree}
 use Rattle.detector_laws.specs.Looked.{finding_of}
 use Rattle.detector_laws.specs.Shown.{all_begun}
-use Rattle.ending_laws.specs.Ends.{ending_at}
+use Rattle.ending_laws.specs.Ends.{IsToldAtEnd, ending_at}
 
 -- those that are open, that of the innermost frame first, as c_model looks at them where the run ends: that of the outermost first, before these
 abbrev pub all_ending : World → List Entry → List (Scene × Begun) → List Open → List Open
@@ -70,3 +74,31 @@ abbrev pub FirstOfFrames : Type 0
 FirstOfFrames = (world : World) (later : List Entry) (frames : List FrameRow) (xs : List (Scene × Begun)) (rs : List (Option Found)) (n : ℕ)
     (otherwise : Finding) → AreNested xs → AreAnswers world later frames xs rs →
     IsFindingOf world later xs n otherwise (first_of_all frames None rs) (found_in world later (all_ending world later xs []) n otherwise)
+
+-- ---- the first one of all at once
+-- of what was told of a full expression, the conflicts where the run ends in the evaluation that was told last
+abbrev pub IsConflictAtLast : List FrameRow → List Row → Opened → Found → Type 0
+IsConflictAtLast frames rows t f =
+    (last : Evaluation) × (slice_get t.done (length t.done - 1) ≡ Some last) × IsConflictAtEnd frames rows t last f
+
+-- of all of them
+abbrev pub IsConflictOfAll : List FrameRow → List Row → List Opened → Found → Type 0
+IsConflictOfAll frames rows [] f = ⊥
+IsConflictOfAll frames rows (t ∷ ts) f = IsConflictAtLast frames rows t f ⊎ IsConflictOfAll frames rows ts f
+
+-- what was told of each is what the definitions have of it, and the list of frames gives each frame its path
+pub record ToldAtEnd (world : World) (trace later : List Entry) (frames : List FrameRow) (x : Scene × Begun) (t : Opened) : Type 0 where
+  pub told : IsToldAtEnd world trace later x.0 x.1 t
+  pub known : path_of frames (world.number x.0.path) ≡ x.0.path
+
+abbrev pub AllToldAtEnd : World → (trace later : List Entry) → List FrameRow → List (Scene × Begun) → List Opened → Type 0
+AllToldAtEnd world trace later frames [] [] = Unit {0}
+AllToldAtEnd world trace later frames (x ∷ xs) (t ∷ ts) = ToldAtEnd world trace later frames x t × AllToldAtEnd world trace later frames xs ts
+AllToldAtEnd world trace later frames _ _ = ⊥
+
+-- the first conflict of all of them is what c_model finds first in all of them, and without one nothing is found
+abbrev pub FirstOfAll : Type 0
+FirstOfAll = (world : World) (trace later : List Entry) (frames : List FrameRow) (xs : List (Scene × Begun)) (ts : List Opened) (r : Option Found)
+    (n : ℕ) (otherwise : Finding) → AreNested xs → AllToldAtEnd world trace later frames xs ts
+    → IsFirstOf frames (IsConflictOfAll frames world.rows ts) r →
+    IsFindingOf world later xs n otherwise r (found_in world later (all_ending world later xs []) n otherwise)

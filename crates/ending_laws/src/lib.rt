@@ -3,7 +3,7 @@
 
 ghost use Rattle.ending_laws.specs.Ends.{BodiesEnd, EndIsFound};
 ghost use Rattle.ending_laws.specs.First.{BudgetIsFirst, EndIsFirst, LimitIsFirst, RaiseIsFirst, ReturnIsClean};
-ghost use Rattle.ending_laws.specs.Frames.{FirstOfFrames, OpenAreNested};
+ghost use Rattle.ending_laws.specs.Frames.{FirstOfAll, FirstOfFrames, OpenAreNested};
 ghost use Rattle.ending_laws.specs.Main.{OnlyBodiesEnd, PicksStayOfMain, RunsEnd, StartsWithMain};
 ghost use Rattle.ending_laws.specs.Told.{GivesEnding, TellsEnding};
 ghost use Rattle.ending_laws.specs.Untouched.{PicksEndNone, PicksStayUntouched, StartsOnTheWay, StaysOnTheWay};
@@ -37,10 +37,11 @@ pub fn law_end_is_found()
     ensures { EndIsFound }
 {}
 
-/// The one that counts of these is what is found first of all full expressions that are open.
+/// The one that counts of these is what is found first of all full expressions that are open, as is the first one of all that was told.
 pub fn law_first_of_frames()
     ensures nested { OpenAreNested }
-    ensures first { FirstOfFrames }
+    ensures each { FirstOfFrames }
+    ensures all { FirstOfAll }
 {}
 
 /// So it is the first finding, as is a clause that is raised, a limit that is passed, or a budget that is used up, where nothing was found so far.
