@@ -1,13 +1,11 @@
 -- A body ends the run in the full expression of the top frame, and in those that wait for the frames above them.
-use Rattle.std.proofs.Common.{◌≡◌, ◌≢◌, ℕ, Bool, true, false, ◌||◌, List, [], ◌∷◌, ◌++◌, Option, Some, None, refl, sym, ap, subst, ◌∙◌, true≢false}
+use Rattle.std.proofs.Common.{◌≡◌, Bool, true, false, ◌||◌, List, [], ◌∷◌, ◌++◌, Option, Some, None, refl, sym, ap, subst, ◌∙◌, true≢false}
 use Rattle.ub_base.specs.Frames.{Path}
 use Rattle.ub_base.specs.declared.clause.Kind.TheVariants.{Body}
-use Rattle.ub_base.specs.declared.names.Item.{Item}
 use Rattle.c_typed.specs.declared.tree.Place.{Place}
 use Rattle.c_typed.specs.Order.{has, place, same_place}
 use Rattle.c_model.specs.Findings.{has_ending, is_under}
-use Rattle.c_model.specs.Moments.{items_by}
-use Rattle.c_model.specs.Runs.{Entry, State, canonical_pick, chosen_pick, entry_of, place_of}
+use Rattle.c_model.specs.Runs.{Entry, canonical_pick, chosen_pick, entry_of, place_of}
 use Rattle.c_model.specs.Steps.{Begun, Control, Ev, Local, Pick, Scene, is_done}
 use Rattle.c_model.specs.World.{World}
 use Rattle.c_model.proofs.Listed.{same_place_itself}

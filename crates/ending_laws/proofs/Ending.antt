@@ -1,30 +1,25 @@
 -- What `ended` gives is what c_model finds first where the run ends.
-use Rattle.std.proofs.Common.{◌≡◌, ◌⊎◌, inl, inr, ⊎_elim, ℕ, zero, suc, ◌-◌, ◌<◌, ◌≤◌, ◌==◌, Bool, true, false, not, ◌&&◌, ◌||◌, List, [], ◌∷◌, ◌++◌, length}
+use Rattle.std.proofs.Common.{◌≡◌, ◌⊎◌, inl, inr, ⊎_elim, ℕ, zero, suc, ◌-◌, ◌<◌, Bool, true, false, not, ◌&&◌, ◌||◌, List, [], ◌∷◌, ◌++◌, length}
 use Rattle.std.proofs.Common.{Option, Some, None, refl, sym, ap, ap₂, subst, ◌∙◌, true≢false, arith}
 use Rattle.std.specs.Prelude.{slice_get}
 use Rattle.std.proofs.lemmas.Bool.Decides.{nat_tests}
 use Rattle.std.proofs.lemmas.Option.{same_Some}
-use Rattle.ub_base.specs.declared.clause.Kind.TheVariants.{Body, Val}
-use Rattle.ub_base.specs.declared.names.Frame.{Frame}
 use Rattle.ub_base.specs.declared.names.Event.{Event}
 use Rattle.ub_base.specs.declared.names.Item.{Item}
-use Rattle.ub_base.specs.declared.names.Item.TheVariants.{Read, Write, Born, Dies, Alive, Expose, Lookup, Narrow, Input, Output, Ending, Any as AnyItem}
+use Rattle.ub_base.specs.declared.names.Item.TheVariants.{Ending, Any as AnyItem}
 use Rattle.ub_base.specs.Frames.{Row as FrameRow}
-use Rattle.addr_map.specs.Conflict.{items_conflict, some_conflict, stands_at}
+use Rattle.addr_map.specs.Conflict.{some_conflict}
 use Rattle.addr_map.specs.declared.map.Row.{Row}
-use Rattle.c_typed.specs.declared.class.Class.{Class}
 use Rattle.c_typed.specs.declared.class.Class.TheVariants.{Store}
 use Rattle.c_typed.specs.declared.tree.Place.{Place}
 use Rattle.c_typed.specs.Decide.{due_in, is_before}
-use Rattle.c_typed.specs.Order.{Taken, events, has, is_body, is_due, place, same_place}
-use Rattle.c_typed.specs.Tree.{Tree, Trees, node, size}
+use Rattle.c_typed.specs.Order.{events, has, is_body, same_place}
 use Rattle.c_model.specs.Findings.{accesses, has_ending}
 use Rattle.c_model.specs.FirstFinding.{are_apart, quarrels, races}
 use Rattle.c_model.specs.Keys.{all_by_bytes, by_bytes}
 use Rattle.c_model.specs.Moments.{Open, has_shown, items_by}
-use Rattle.c_model.specs.Program.{tree_of}
 use Rattle.c_model.specs.Runs.{Entry}
-use Rattle.c_model.specs.Steps.{Begun, Scene, is_done, taken_by}
+use Rattle.c_model.specs.Steps.{Begun, Scene}
 use Rattle.c_model.specs.World.{World}
 use Rattle.c_model.proofs.Decided.{has_due}
 use Rattle.c_model.proofs.Listed.{same_place_eq, same_place_itself}
@@ -33,24 +28,21 @@ use Rattle.elaborate.proofs.Listed.{and_l, and_r}
 use Rattle.elaborate.proofs.Ranges.{and_b, events_in, has_left, has_or, or_a, or_b, or_cases}
 use Rattle.evaluation_log.specs.Clashes.{Clash, SomeClash}
 use Rattle.evaluation_log.specs.declared.found.Found.{Found}
-use Rattle.evaluation_log.specs.declared.sought.Sought.{Sought}
 use Rattle.evaluation_log.specs.declared.sought.Sought.TheVariants.{Any, Races}
 use Rattle.evaluation_search.specs.First.{IsFirstOf, sought_of}
 use Rattle.finding_laws.specs.AtEnd.{with_any}
-use Rattle.finding_laws.specs.FirstPairs.{IsDue, NoPair, place_key, precedes}
+use Rattle.finding_laws.specs.FirstPairs.{IsDue, place_key, precedes}
 use Rattle.finding_laws.specs.Footprints.{IsAmong as IsItemOf}
 use Rattle.finding_laws.specs.LeastPairs.{HasItems}
 use Rattle.finding_laws.proofs.AtEnd.{any_is_had, only_ends_meet, races_as_before}
 use Rattle.finding_laws.proofs.Bytes.{right_of}
 use Rattle.footprint.specs.Holds.{stands_for}
 use Rattle.footprint.specs.Least.{IsLeast}
-use Rattle.run_evaluations.specs.Ends.{IsDependence}
 use Rattle.run_evaluations.specs.First.{IsConflictIn, event_in}
 use Rattle.run_evaluations.specs.FirstAtEnd.{AreOfWay, IsConflictAtEnd, IsConflictBeside, done_has, has_at_end}
-use Rattle.run_evaluations.specs.Scopes.{Scope, part_of}
+use Rattle.run_evaluations.specs.Scopes.{Scope}
 use Rattle.run_evaluations.specs.Shows.{AreApart, AreOfTwo, IsAmong}
 use Rattle.run_evaluations.specs.Told.{Evaluation, IsUnder, Opened, has as has_item}
-use Rattle.telling_laws.specs.FirstFound.{IsFoundIn}
 use Rattle.telling_laws.specs.Standing.{StandsBehind, places}
 use Rattle.telling_laws.proofs.ClashLemmas.{has_least, meets_by_items, races_by_items}
 use Rattle.telling_laws.proofs.FirstTold.{told_of}
@@ -62,7 +54,7 @@ use Rattle.detector_laws.specs.Records.{Records}
 use Rattle.detector_laws.proofs.Free.{done_as}
 use Rattle.detector_laws.proofs.Recorded.{has_place}
 use Rattle.ending_laws.specs.Ends.{EndIsFound, EndsIn, IsToldAtEnd, ending_at}
-use Rattle.ending_laws.proofs.FirstOnes.{Describes, IsOfPlaces, IsSound, IsToldOf, first_is_first}
+use Rattle.ending_laws.proofs.FirstOnes.{Describes, IsSound, IsToldOf, first_is_first}
 use Rattle.ending_laws.proofs.Ways.{body_due, two_rise, way_of}
 
 -- ---- lists

@@ -1,9 +1,8 @@
 -- The entry that a pick leaves, and that it hasn't ended the run if that goes on.
-use Rattle.std.proofs.Common.{◌≡◌, ℕ, Bool, true, false, ◌&&◌, if◌then◌else◌, List, [], ◌∷◌, ◌++◌, Option, Some, None, refl, sym, ap, subst, ◌∙◌, true≢false}
+use Rattle.std.proofs.Common.{◌≡◌, ℕ, Bool, true, false, if◌then◌else◌, List, [], ◌∷◌, ◌++◌, refl, sym, ap, subst, ◌∙◌, true≢false}
 use Rattle.ub_base.specs.Frames.{Path}
-use Rattle.ub_base.specs.declared.clause.Cause.{Cause}
 use Rattle.ub_base.specs.declared.names.Item.{Item}
-use Rattle.ub_base.specs.declared.names.Item.TheVariants.{Read, Write, Born, Dies, Alive, Expose, Lookup, Narrow, Input, Output, Ending, Any}
+use Rattle.ub_base.specs.declared.names.Item.TheVariants.{Ending}
 use Rattle.addr_map.specs.declared.map.Row.{Row}
 use Rattle.c_typed.specs.declared.tree.Place.{Place}
 use Rattle.c_typed.specs.Order.{is_body}
@@ -14,12 +13,12 @@ use Rattle.mem_spec.specs.Store.{Store}
 use Rattle.c_model.specs.Findings.{has_ending, is_under, items_of, items_under}
 use Rattle.c_model.specs.Moments.{is_of, items_by}
 use Rattle.c_model.specs.Moves.{Move, Stay, Start, End}
-use Rattle.c_model.specs.Runs.{Entry, State, Outcome, Refused, Raises, Over, No_row, Ends, Running, acted, back, canonical_pick, entry_of, limited, moved, step}
-use Rattle.c_model.specs.Runs.{place_of, within, without_row, trace_of}
+use Rattle.c_model.specs.Runs.{Entry, State, No_row, Running, acted, back, canonical_pick, entry_of, moved, step}
+use Rattle.c_model.specs.Runs.{trace_of}
 use Rattle.c_model.specs.Steps.{Local, Pick, Control, Ev, does, move}
 use Rattle.c_model.specs.Values.{Value}
-use Rattle.c_model.specs.World.{Limits, World}
-use Rattle.detector_laws.proofs.Goes.{same_state, through_limited, through_within}
+use Rattle.c_model.specs.World.{World}
+use Rattle.detector_laws.proofs.Goes.{through_limited, through_within}
 use Rattle.ending_laws.specs.Untouched.{NoneEnds, PicksEndNone}
 
 -- ---- a pick that goes on

@@ -1,16 +1,16 @@
 -- What is found first where the next pick doesn't go on.
-use Rattle.std.proofs.Common.{◌≡◌, ◌+◌, ℕ, suc, List, [], ◌∷◌, length, Option, Some, None, refl, sym, ap, subst, ◌∙◌}
+use Rattle.std.proofs.Common.{◌≡◌, ℕ, suc, List, [], ◌∷◌, length, Option, Some, None, refl, sym, ap, subst, ◌∙◌}
 use Rattle.ub_base.specs.declared.clause.Cause.{Cause}
 use Rattle.ub_base.specs.declared.clause.Clause.{Clause}
 use Rattle.c_typed.specs.declared.tree.Place.{Place}
-use Rattle.mem_spec.specs.Script.{Act, Done, Raised, Ended, Outside, Unplaced, run}
+use Rattle.mem_spec.specs.Script.{Act, Done, Raised, Ended, Outside, Unplaced}
 use Rattle.mem_spec.specs.Store.{Store}
-use Rattle.c_model.specs.FirstFinding.{Finding, Clean, Undefined, all_open, ends_in, found_from, found_in, raised_at}
+use Rattle.c_model.specs.FirstFinding.{Finding, Clean, Undefined, all_open, ends_in, found_in, raised_at}
 use Rattle.c_model.specs.Moments.{Open}
 use Rattle.c_model.specs.Moves.{Move, Stay, Start, End}
 use Rattle.c_model.specs.Runs.{Entry, State, Outcome, Refused, Raises, Over, No_row, Ends, Running, acted, back, canonical_pick, entry_of, limited, moved, step}
-use Rattle.c_model.specs.Runs.{place_of, trace_of, within}
-use Rattle.c_model.specs.Steps.{Begun, Control, Ev, Local, Pick, Scene, does, move}
+use Rattle.c_model.specs.Runs.{trace_of, within}
+use Rattle.c_model.specs.Steps.{Begun, Control, Ev, Local, Pick, Scene, move}
 use Rattle.c_model.specs.Values.{Value}
 use Rattle.c_model.specs.World.{Limits, World}
 use Rattle.detector_laws.specs.Looked.{GoesFree, none, more}

@@ -1,7 +1,7 @@
 -- No act but that of a body ends the run: what their scripts are made of goes on, or is undefined.
-use Rattle.std.proofs.Common.{◌≡◌, ◌+◌, ◌==◌, ℕ, suc, Bool, true, false, not, ◌||◌, if◌then◌else◌, List, [], ◌∷◌, length, Option, Some, None, is_some, refl}
+use Rattle.std.proofs.Common.{◌≡◌, ◌==◌, ℕ, suc, Bool, true, false, not, ◌||◌, if◌then◌else◌, List, [], ◌∷◌, length, Option, Some, None, is_some, refl}
 use Rattle.std.proofs.Common.{sym}
-use Rattle.std.proofs.Common.{ap, subst, ◌∙◌, true≢false}
+use Rattle.std.proofs.Common.{subst, true≢false}
 use Rattle.std.specs.Prelude.{ℤ, Result, Ok, Err, pos}
 use Rattle.ub_base.specs.declared.clause.Kind.{Kind}
 use Rattle.ub_base.specs.declared.clause.Kind.TheVariants.{Val, Eff, Body}
@@ -30,22 +30,21 @@ use Rattle.c_typed.specs.declared.tree.RelOp.{RelOp}
 use Rattle.c_typed.specs.declared.tree.UnOp.{UnOp}
 use Rattle.c_typed.specs.declared.tree.UnOp.TheVariants as unary
 use Rattle.c_typed.specs.Order.{is_body, place}
-use Rattle.mem_spec.specs.Acts.{Accessed, Seen, scalar, whole, bytes, in_row, offset_in, is_aligned, declared_of, is_literal, is_constant, suits_store}
-use Rattle.mem_spec.specs.Acts.{access as access_act, check_writable, create, diff, expose, from_int, in_bounds, in_common, is_multiple, kill, less, load_block}
+use Rattle.mem_spec.specs.Acts.{Seen, scalar, whole, bytes, in_row, is_literal, is_constant}
+use Rattle.mem_spec.specs.Acts.{access as access_act, check_writable, create, diff, expose, from_int, in_common, less, load_block}
 use Rattle.mem_spec.specs.Acts.{load_func, load_int, load_ptr, object_of, pointer_or_number, settle_by, settle_common, settle_to, shift, show_each, show_pieces}
-use Rattle.mem_spec.specs.Acts.{all_written, number_of, pointer_in, some_live, store, target_lives, unwrite, candidates}
-use Rattle.mem_spec.specs.Script.{Act, Answer, Ask, Bear, Bury, Do, Done, Ended, Exceed, Find, Finish, Get, Give, Misplace, Outside, Print, Put, Raise, Raised}
-use Rattle.mem_spec.specs.Script.{Script, Settle, Show, Take, Touch, Unplaced, answer, item_of, left, refused, refuses, require, run, touch, touched}
+use Rattle.mem_spec.specs.Acts.{all_written, number_of, pointer_in, some_live, store, target_lives, candidates}
+use Rattle.mem_spec.specs.Script.{Act, Answer, Ask, Bear, Bury, Do, Done, Ended, Exceed, Find, Get, Give, Misplace, Outside, Print, Put, Raise, Raised}
+use Rattle.mem_spec.specs.Script.{Script, Settle, Show, Take, Touch, Unplaced, answer, item_of, left, refused, refuses, require, run, touched}
 use Rattle.mem_spec.specs.Script.{◌>>=◌, ◌>>◌}
 use Rattle.mem_spec.specs.Store.{Store, TaggedByte}
 use Rattle.c_model.specs.Control.{Todo, Enter, Leave, Unwrite, ready_work}
 use Rattle.c_model.specs.Nodes.{act_of, call_value, check_change, convert, difference, fill, int_outcome, load, member, outcome, part_of, part_pointer, put}
 use Rattle.c_model.specs.Nodes.{amount, is_empty, bool_value, in_order, change_access, content_bytes, new_value, put_whole, read_part, relational, shifted}
 use Rattle.c_model.specs.Nodes.{unary_value, update_value}
-use Rattle.c_model.specs.Program.{Decl, Expr, Exprs, Filling, Head, Load, Conv, Un, Bin, PtrAdd, PtrDiff, Rel, Eq, Member, Part, Assign, Update, And, Or, Cond}
-use Rattle.c_model.specs.Program.{Comma}
+use Rattle.c_model.specs.Program.{Decl, Expr, Filling, Head, Load, Conv, Un, Bin, PtrAdd, PtrDiff, Rel, Member, Part, Assign, Update}
 use Rattle.c_model.specs.Program.{Call, Listed, expr}
-use Rattle.c_model.specs.Steps.{Begun, Control, Ev, Local, Pick, Scene, at_node, bear_all, call_act, control_act, does, event_act, event_of, first_type}
+use Rattle.c_model.specs.Steps.{Begun, Control, Ev, Local, Scene, at_node, bear_all, call_act, control_act, event_act, event_of, first_type}
 use Rattle.c_model.specs.Steps.{kill_all, operand_values, own_kind, pass_all, target, values_of}
 use Rattle.mem_spec.specs.Agreement.{bytes_of_kind}
 use Rattle.mem_spec.specs.Bytes.{number_bytes, pointer_bytes}
@@ -129,7 +128,7 @@ object_goes rows len a Empty = raise _
 object_goes rows len a (Whole x) = give _
 object_goes rows len a (Either id past start) =
     either (in_row (row_of rows past) a len) _ _ (does_so _ _ (λ b. give _))
-        (either (in_row (row_of rows start) a len) _ _ (does_so _ _ (λ b. give _)) (raise _))
+    (either (in_row (row_of rows start) a len) _ _ (does_so _ _ (λ b. give _)) (raise _))
 
 access_goes : (rows : List Row) (len align a : ℕ) (p : Prov) → GoesOn (access_act rows len align a p)
 access_goes rows len align a p =

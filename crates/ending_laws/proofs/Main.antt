@@ -1,9 +1,7 @@
 -- The outermost frame stays that of `main`, and how a run ends.
 use Rattle.std.proofs.Common.{◌≡◌, ◌⊎◌, inl, inr, ℕ, Bool, true, false, ◌&&◌, if◌then◌else◌, List, [], ◌∷◌, Option, Some, None, is_none, refl, sym, ap, subst}
 use Rattle.std.proofs.Common.{◌∙◌}
-use Rattle.std.proofs.Common.{true≢false}
 use Rattle.ub_base.specs.declared.clause.Cause.{Cause}
-use Rattle.ub_base.specs.declared.clause.Clause.{Clause}
 use Rattle.c_typed.specs.declared.tree.Place.{Place}
 use Rattle.c_typed.specs.Order.{is_body}
 use Rattle.mem_spec.specs.Script.{Act, Done, Raised, Ended, Outside, Unplaced, run}
@@ -12,8 +10,8 @@ use Rattle.mem_spec.specs.Streams.{Outputs}
 use Rattle.c_model.specs.Control.{Todo, Enter, Leave, Begin, Go_to, Go_out, Go_on, Go_back, ready_work}
 use Rattle.c_model.specs.Moves.{Move, Stay, Start, End}
 use Rattle.c_model.specs.Program.{Head, Call, Isolated, Expr, expr, Function, Stmt}
-use Rattle.c_model.specs.Runs.{Entry, State, Outcome, Refused, Raises, Over, No_row, Ends, Running, acted, back, entry_of, limited, main_frame, moved, start}
-use Rattle.c_model.specs.Runs.{started_run, step, within}
+use Rattle.c_model.specs.Runs.{Entry, State, Outcome, Refused, Raises, Over, No_row, Ends, Running, acted, back, entry_of, limited, main_frame, moved}
+use Rattle.c_model.specs.Runs.{started_run, within}
 use Rattle.c_model.specs.Steps.{Begun, Control, Ev, Local, Pick, Scene, at_node, body_frame, called_by, control_next, does, ends_with, move, move_of, next}
 use Rattle.c_model.specs.Steps.{own_body, start_call, started}
 use Rattle.c_model.specs.Values.{Value, later_values}

@@ -1,19 +1,18 @@
 -- The conflict that counts of those of all frames is what is found first in all of them.
-use Rattle.std.proofs.Common.{◌≡◌, ◌⊎◌, inl, inr, ℕ, zero, suc, Bool, true, false, if◌then◌else◌, List, [], ◌∷◌, ◌++◌, Option, Some, None, length}
+use Rattle.std.proofs.Common.{◌≡◌, inl, inr, ℕ, suc, Bool, true, false, if◌then◌else◌, List, [], ◌∷◌, ◌++◌, Option, Some, None, length}
 use Rattle.std.proofs.Common.{refl, sym, ap, ap₂, subst, ◌∙◌, true≢false, arith}
 use Rattle.std.specs.Prelude.{reverse}
 use Rattle.std.specs.declared.cmp.Ordering.{Ordering}
-use Rattle.std.specs.declared.cmp.Ordering.TheVariants.{Less, Equal, Greater}
-use Rattle.std.specs.Ordering.{is_lt, nat_cmp, ordering_then}
+use Rattle.std.specs.declared.cmp.Ordering.TheVariants.{Less, Equal}
+use Rattle.std.specs.Ordering.{is_lt, ordering_then}
 use Rattle.std.proofs.lemmas.Cmp.{nat_cmp_total, tied_itself}
 use Rattle.std.proofs.lemmas.List.{length-reverse, reverse-append}
 use Rattle.ub_base.specs.Frames.{Path, Row as FrameRow, path_of}
-use Rattle.c_names.specs.Orders.{event_cmp, frame_cmp, path_cmp, step_cmp, steps_cmp}
+use Rattle.c_names.specs.Orders.{frame_cmp, path_cmp, step_cmp, steps_cmp}
 use Rattle.c_typed.specs.declared.tree.Place.{Place}
-use Rattle.c_typed.specs.Tree.{size}
-use Rattle.c_model.specs.FirstFinding.{Finding, Pair, Raced, Order_dependent, due_only, found_in, least_pair, pair_among, quarrel_or, quarrels, raced_or, races}
+use Rattle.c_model.specs.FirstFinding.{Finding, Pair, Raced, Order_dependent, found_in, least_pair, quarrel_or, quarrels, raced_or, races}
 use Rattle.c_model.specs.FirstFinding.{with_items}
-use Rattle.c_model.specs.Moments.{Open, places_from}
+use Rattle.c_model.specs.Moments.{Open}
 use Rattle.c_model.specs.Runs.{Entry}
 use Rattle.c_model.specs.Steps.{Begun, Local, Scene}
 use Rattle.c_model.specs.World.{World}
@@ -21,7 +20,7 @@ use Rattle.evaluation_log.specs.FoundItems.{counts_before, first_found, is_lesse
 use Rattle.evaluation_log.specs.declared.found.Found.{Found}
 use Rattle.finding_laws.specs.FirstPairs.{IsFirstPair, NoPair, pair_told}
 use Rattle.finding_laws.proofs.FirstPairs.{first_pair_taken, no_pair_taken}
-use Rattle.telling_laws.specs.FirstFound.{IsFoundIn, place_in}
+use Rattle.telling_laws.specs.FirstFound.{place_in}
 use Rattle.detector_laws.specs.Frames.{AllWaitFree}
 use Rattle.detector_laws.specs.Looked.{finding_of}
 use Rattle.detector_laws.specs.Shown.{begun_below, begun_in}

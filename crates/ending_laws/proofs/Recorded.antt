@@ -1,28 +1,19 @@
 -- What was told where the run ends is what the definitions have.
-use Rattle.std.proofs.Common.{◌≡◌, ◌⊎◌, inl, inr, ⊎_elim, ℕ, zero, suc, Bool, true, false, ◌||◌, List, [], ◌∷◌, ◌++◌, Some, refl, sym, ap, subst, ◌∙◌}
-use Rattle.std.proofs.Common.{true≢false}
+use Rattle.std.proofs.Common.{◌≡◌, ◌⊎◌, inl, inr, ⊎_elim, ℕ, zero, suc, Bool, false, ◌||◌, List, [], ◌∷◌, ◌++◌, Some, sym, ap, subst, ◌∙◌}
 use Rattle.std.specs.Prelude.{slice_get}
 use Rattle.std.proofs.lemmas.Option.{same_Some}
-use Rattle.ub_base.specs.declared.clause.Kind.TheVariants.{Body}
 use Rattle.ub_base.specs.declared.names.Item.{Item}
-use Rattle.c_typed.specs.declared.tree.Place.{Place}
 use Rattle.c_typed.specs.Order.{has}
 use Rattle.c_model.specs.Moments.{items_by}
-use Rattle.c_model.specs.Runs.{Entry}
-use Rattle.c_model.specs.Steps.{Begun, Scene, taken_by}
-use Rattle.c_model.specs.World.{World}
 use Rattle.finding_laws.specs.LeastPairs.{HasItems}
-use Rattle.run_evaluations.specs.Shows.{IsAmong}
-use Rattle.run_evaluations.specs.Told.{Evaluation, Opened, chosen_by, evaluation, last_given, told, has as has_item}
+use Rattle.run_evaluations.specs.Told.{Evaluation, evaluation, last_given, has as has_item}
 use Rattle.evaluation_log.specs.Touched.{touched}
 use Rattle.std.specs.Prelude.{length}
-use Rattle.telling_laws.specs.Standing.{StandsBehind, places}
+use Rattle.telling_laws.specs.Standing.{places}
 use Rattle.telling_laws.proofs.Splits.{given_last, last_split, places_push}
 use Rattle.telling_laws.proofs.Stands.{gives_standing}
-use Rattle.elaborate.proofs.Ranges.{has_left, or_cases}
-use Rattle.detector_laws.proofs.Free.{not_passed, or_false}
+use Rattle.detector_laws.proofs.Free.{or_false}
 use Rattle.detector_laws.proofs.Recorded.{has_place, items_are, starts_recorded}
-use Rattle.detector_laws.specs.Records.{Records}
 use Rattle.ending_laws.specs.Told.{GivesEnding, TellsEnding}
 use Rattle.ending_laws.proofs.Ending.{same_ends}
 

@@ -1,25 +1,21 @@
 -- The first conflict of all frames is what is found first in all of them.
-use Rattle.std.proofs.Common.{◌≡◌, ◌⊎◌, inl, inr, ◌-◌, ℕ, Bool, true, false, if◌then◌else◌, List, [], ◌∷◌, Option, Some, None, length}
+use Rattle.std.proofs.Common.{◌≡◌, inl, inr, Bool, true, false, if◌then◌else◌, List, [], ◌∷◌, Option, Some, None}
 use Rattle.std.proofs.Common.{refl, sym, ap, ap₂, subst, ◌∙◌, true≢false}
-use Rattle.std.specs.Prelude.{slice_get}
 use Rattle.std.proofs.lemmas.Option.{same_Some}
 use Rattle.ub_base.specs.declared.names.Event.{Event}
 use Rattle.ub_base.specs.Frames.{Row as FrameRow, path_of}
-use Rattle.c_model.specs.FirstFinding.{Finding, Pair, Raced, Order_dependent, found_in, least_pair, quarrel_or, quarrels, raced_or, races}
+use Rattle.c_model.specs.FirstFinding.{Pair, least_pair, quarrels, races}
 use Rattle.c_model.specs.Moments.{Open}
 use Rattle.c_model.specs.Runs.{Entry}
 use Rattle.c_model.specs.Steps.{Begun, Scene}
 use Rattle.c_model.specs.World.{World}
 use Rattle.evaluation_log.specs.FoundItems.{counts_before, is_lesser}
 use Rattle.evaluation_log.specs.declared.found.Found.{Found}
-use Rattle.evaluation_search.specs.First.{IsFirstOf}
 use Rattle.finding_laws.specs.FirstPairs.{NoPair}
 use Rattle.run_evaluations.specs.FirstAtEnd.{IsConflictAtEnd}
-use Rattle.run_evaluations.specs.Told.{Evaluation, Opened}
-use Rattle.telling_laws.specs.FirstFound.{IsFoundIn, place_in}
-use Rattle.detector_laws.specs.Looked.{finding_of}
+use Rattle.run_evaluations.specs.Told.{Opened}
 use Rattle.ending_laws.specs.Ends.{ending_at}
-use Rattle.ending_laws.specs.Frames.{AllToldAtEnd, AreNested, FirstOfAll, IsConflictAtLast, IsConflictOfAll, IsFindingOf, IsOneOf, IsStartedFrom}
+use Rattle.ending_laws.specs.Frames.{AllToldAtEnd, AreNested, FirstOfAll, IsConflictAtLast, IsConflictOfAll, IsOneOf}
 use Rattle.ending_laws.specs.Frames.{IsStartedFromAll}
 use Rattle.ending_laws.specs.Frames.{ToldAtEnd, all_ending}
 use Rattle.ending_laws.proofs.Ending.{describes, end_is_found}

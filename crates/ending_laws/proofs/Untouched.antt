@@ -1,5 +1,5 @@
 -- The trace stays without items of events that aren't done.
-use Rattle.std.proofs.Common.{◌≡◌, ◌≢◌, ◌<◌, ℕ, suc, Bool, true, false, ◌&&◌, ◌||◌, ◌==◌, if◌then◌else◌, List, [], ◌∷◌, ◌++◌, length, Option, Some, None}
+use Rattle.std.proofs.Common.{◌≡◌, ◌<◌, ℕ, suc, Bool, true, false, ◌&&◌, ◌||◌, ◌==◌, if◌then◌else◌, List, [], ◌∷◌, ◌++◌, length, Option, Some}
 use Rattle.std.proofs.Common.{is_some}
 use Rattle.std.proofs.Common.{refl, sym, ap, ap₂, subst, ◌∙◌, true≢false, arith}
 use Rattle.std.proofs.lemmas.Bool.Decides.{nat_tests}
@@ -11,22 +11,21 @@ use Rattle.c_typed.specs.Order.{is_body, place, same_place}
 use Rattle.c_model.specs.Findings.{is_under, items_of, items_under, same_path}
 use Rattle.c_model.specs.Moments.{is_of, items_by}
 use Rattle.mem_spec.specs.Script.{Act, Done, Raised, Ended, Outside, Unplaced}
-use Rattle.c_model.specs.Runs.{Entry, Running, State, canonical_pick, entry_of, main_frame, start, started_run, step}
-use Rattle.c_model.specs.Steps.{Begun, Local, Pick, Scene, is_done, with_given}
+use Rattle.c_model.specs.Runs.{Entry, Running, State, canonical_pick, entry_of, main_frame, started_run}
+use Rattle.c_model.specs.Steps.{Begun, Local, Scene, is_done, with_given}
 use Rattle.c_model.specs.Values.{Value}
 use Rattle.c_model.specs.World.{World}
 use Rattle.c_model.proofs.Listed.{same_place_eq, same_place_itself}
 use Rattle.telling_laws.proofs.ShowLemmas.{neither}
-use Rattle.detector_laws.specs.Along.{AreClear}
-use Rattle.detector_laws.specs.Frames.{AllWaitFree, AreFree, ComesTo, IsEntryOf, WaitsFree, rests, begins, takes, starts, ends}
+use Rattle.detector_laws.specs.Frames.{AllWaitFree, AreFree, ComesTo, WaitsFree, rests, begins, takes, starts, ends}
 use Rattle.detector_laws.specs.Fresh.{AreFresh, started_in}
-use Rattle.detector_laws.specs.Looked.{GoesFree, none, more}
+use Rattle.detector_laws.specs.Looked.{none, more}
 use Rattle.detector_laws.proofs.Clear.{goes_clear, starts_clear}
 use Rattle.detector_laws.proofs.Free.{done_as, not_passed}
 use Rattle.detector_laws.proofs.Goes.{picks_come_to, same_state, through_limited, through_within}
 use Rattle.detector_laws.proofs.Items.{items_stay, none_of_own, stay_of_above, stay_of_other}
 use Rattle.detector_laws.proofs.Paths.{and_l, not_same, not_true, not_under, path_is, turn_of_head, under_itself, under_length, under_same, under_tail}
-use Rattle.ending_laws.specs.Untouched.{AllHeldUntouched, AreOnTheWay, AreUntouched, IsUntouched, NoneEnds, PicksStayUntouched, StartsOnTheWay}
+use Rattle.ending_laws.specs.Untouched.{AllHeldUntouched, AreUntouched, IsUntouched, NoneEnds, PicksStayUntouched, StartsOnTheWay}
 use Rattle.ending_laws.specs.Untouched.{StaysOnTheWay, done_in, with_body}
 use Rattle.ending_laws.proofs.Entries.{leaves_entry, picks_end_none}
 

@@ -1,6 +1,6 @@
 -- Two events that are done before a body, and haven't shown, are of two operands of a node above it.
-use Rattle.std.proofs.Common.{◌≡◌, ◌⊎◌, inl, inr, ⊎_elim, ℕ, suc, ◌+◌, ◌<◌, ◌≤◌, ◌==◌, Bool, true, false, ◌&&◌, ◌||◌, List, [], ◌∷◌, ◌++◌}
-use Rattle.std.proofs.Common.{Option, Some, refl, sym, ap, ap₂, subst, ◌∙◌, true≢false, arith}
+use Rattle.std.proofs.Common.{◌≡◌, inl, ⊎_elim, ℕ, suc, ◌+◌, ◌<◌, ◌≤◌, ◌==◌, Bool, true, false, ◌&&◌, ◌||◌, List, [], ◌∷◌, ◌++◌}
+use Rattle.std.proofs.Common.{Some, refl, sym, ap, ap₂, subst, ◌∙◌, true≢false, arith}
 use Rattle.std.specs.Prelude.{slice_get}
 use Rattle.std.proofs.lemmas.Bool.Decides.{nat_tests}
 use Rattle.std.proofs.lemmas.Option.{same_Some}
@@ -10,7 +10,7 @@ use Rattle.c_typed.specs.declared.class.Class.{Class}
 use Rattle.c_typed.specs.declared.class.Class.TheVariants.{Object, Constant, Plain, Store, Update, Choice, Comma, Call, Isolated}
 use Rattle.c_typed.specs.declared.tree.Place.{Place}
 use Rattle.c_typed.specs.Decide.{due_in, has_kind, is_before}
-use Rattle.c_typed.specs.Order.{Taken, events, goes, has, own_rule, place, same_place}
+use Rattle.c_typed.specs.Order.{events, goes, has, own_rule, same_place}
 use Rattle.c_typed.specs.Tree.{Tree, Trees, node, is_quiet, kinds_of, size}
 use Rattle.c_model.specs.Moments.{has_shown, holds, least}
 use Rattle.c_model.proofs.Closed.{found_before}
@@ -27,7 +27,6 @@ use Rattle.run_evaluations.specs.Shows.{AreOfTwo}
 use Rattle.run_evaluations.specs.Told.{IsOperandIn, IsUnder}
 use Rattle.run_evaluations.proofs.PartLemmas.{due_at, part_before, side_part}
 use Rattle.run_evaluations.proofs.ToldLemmas.{due_part}
-use Rattle.telling_laws.specs.Newly.{IsPair}
 use Rattle.telling_laws.proofs.Blocks.{Block, holds_is, none_before, none_behind, operands_block, tree_block}
 use Rattle.telling_laws.proofs.Leasts.{IsLeast, side_of, sides_rise}
 use Rattle.telling_laws.proofs.Parts.{part_there, same_operands, still}

@@ -1,5 +1,5 @@
 -- What is found where the run ends, in one full expression that is open (own; 6.5p2 for races).
-use Rattle.std.specs.Prelude.{◌≡◌, true, false, List, [], ◌∷◌, ◌++◌, Option, Some, None}
+use Rattle.std.specs.Prelude.{◌≡◌, true, false, List, [], ◌∷◌, ◌++◌, Option, Some}
 use Rattle.ub_base.specs.declared.clause.Kind.TheVariants.{Body}
 use Rattle.ub_base.specs.Frames.{Row as FrameRow}
 use Rattle.c_typed.specs.declared.tree.Place.{Place}
