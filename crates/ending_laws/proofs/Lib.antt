@@ -1,0 +1,12 @@
+pub mod Ahead
+pub mod Ending
+pub mod Entries
+pub mod First
+pub mod FirstOnes
+pub mod Going
+pub mod Main
+pub mod Nested
+pub mod Recorded
+pub mod Union
+pub mod Untouched
+pub mod Ways
