@@ -1,7 +1,7 @@
 use Rattle.std.proofs.Common.{◌≡◌, ◌-◌, [], ◌∷◌}
 use Rattle.parse_spec.specs.Declarations.{parts_from}
 use Rattle.parse_spec.specs.Steps.{turns}
-use Rattle.parse_declarations.proofs.declaration.rest_parts.Given as goal
+use Rattle.parse_declarations.proofs.declarations.rest_parts.Given as goal
 
 abbrev pub invariant-loop-turn : goal.invariant-loop-turn
 invariant-loop-turn l =

@@ -2,7 +2,7 @@ use Rattle.std.proofs.Common.{◌≡◌, Some, subst}
 use Rattle.c_grammar.specs.Grammar.{Named}
 use Rattle.parse_spec.specs.Nested.{declarator}
 use Rattle.parse_declarations.proofs.Names.{named_reads}
-use Rattle.parse_declarations.proofs.declaration.named_declarator.Goals as goal
+use Rattle.parse_declarations.proofs.declarations.named_declarator.Goals as goal
 
 pub returns : goal.returns
 returns c =

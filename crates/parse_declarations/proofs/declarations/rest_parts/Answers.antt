@@ -2,7 +2,7 @@ use Rattle.std.proofs.Common.{rules, arith}
 use Rattle.std.proofs.lemmas.Grind.{common_steps}
 use Rattle.parse_cursor.proofs.Turns.{one_more, no_more}
 use Rattle.parse_spec.specs.Declarations.{parts_from}
-use Rattle.parse_declarations.proofs.declaration.rest_parts.Goals as goal
+use Rattle.parse_declarations.proofs.declarations.rest_parts.Goals as goal
 
 pub returns-then-not-eat : goal.returns-then-not-eat
 unfolding parts_from
