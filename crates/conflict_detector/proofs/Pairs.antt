@@ -1,5 +1,5 @@
 -- A conflict of the definition is of two evaluations that are due.
-use Rattle.std.proofs.Common.{◌≡◌, ◌⊎◌, ℕ, zero, suc, Bool, true, List, [], ◌∷◌, length, refl, ap, subst, ◌∙◌, Option, Some, None}
+use Rattle.std.proofs.Common.{◌≡◌, ℕ, zero, suc, Bool, true, List, [], ◌∷◌, length, refl, ap, ◌∙◌, Option, Some, None}
 use Rattle.std.specs.Prelude.{slice_get, IfNone, IfSome}
 use Rattle.ub_base.specs.Frames.{Row as FrameRow}
 use Rattle.addr_map.specs.declared.map.Row.{Row}

@@ -1,5 +1,5 @@
 -- The first conflict of all frames where the run ends.
-use Rattle.std.proofs.Common.{◌≡◌, ◌⊎◌, inl, inr, ⊎_elim, ◌<◌, ◌≤◌, ◌+◌, ◌-◌, ℕ, zero, suc, Bor, Bool, true, false, List, [], ◌∷◌, ◌++◌, length, refl, ap}
+use Rattle.std.proofs.Common.{◌≡◌, ◌⊎◌, inl, inr, ⊎_elim, ◌<◌, ◌+◌, ◌-◌, ℕ, zero, suc, Bor, Bool, true, false, List, [], ◌∷◌, ◌++◌, length, refl, ap}
 use Rattle.std.proofs.Common.{sym, subst, ◌∙◌, arith}
 use Rattle.std.proofs.Common.{Option, Some, None, length-append}
 use Rattle.std.specs.Prelude.{slice_get, IfSome}
@@ -15,15 +15,14 @@ use Rattle.run_state.specs.declared.watch.Begun.{Begun}
 use Rattle.evaluation_log.specs.declared.found.Found.{Found}
 use Rattle.evaluation_log.specs.declared.rules.Rules.{Rules}
 use Rattle.evaluation_log.specs.FoundItems.{first_found}
-use Rattle.evaluation_search.specs.First.{IsFirst, IsFirstOf}
+use Rattle.evaluation_search.specs.First.{IsFirstOf}
 use Rattle.evaluation_search.proofs.FirstLemmas.{alike, both}
-use Rattle.evaluation_log.specs.Ruled.{rules_of}
 use Rattle.run_evaluations.specs.Ends.{IsDependence}
-use Rattle.run_evaluations.specs.First.{IsConflictIn, event_in}
+use Rattle.run_evaluations.specs.First.{event_in}
 use Rattle.run_evaluations.specs.FirstAtEnd.{AreOfWay, IsConflictAtEnd, IsConflictBeside, has_at_end}
 use Rattle.run_evaluations.specs.Follows.{HasStarted}
 use Rattle.run_evaluations.specs.Scopes.{Scope}
-use Rattle.run_evaluations.specs.Shows.{AreApart, EndsTop, IsAmong, TellsEnd}
+use Rattle.run_evaluations.specs.Shows.{AreApart, TellsEnd}
 use Rattle.run_evaluations.specs.Told.{Evaluation, Opened, given, has, last_given}
 use Rattle.conflict_detector.specs.declared.detector.Detector.{Detector}
 use Rattle.conflict_detector.specs.declared.examined.Expressions.{Expressions}
@@ -316,12 +315,14 @@ module _ (frames : List FrameRow) (rows : List Row) (roots : List (Bor Typed)) (
             (first_more frames rows past t best a.0.0 first a.0.2),
       )
 
-pub ending_more : (frames : List FrameRow) (rows : List Row) (roots : List (Bor Typed)) (bs : List Begun) (from k total at : ℕ) (os : List Opened)
-    (best new : Option Found) (d e g : Detector) → at ≡ from + suc k → Asks frames rows roots bs at best new d e → g.known ≡ e.known →
-    Leaves e.open g.open → Ending frames rows roots bs from (suc (suc k)) total os best d → Ending frames rows roots bs from (suc k) total os new g
-ending_more frames rows roots bs from k total at os best new d e g place asks same leaves h =
-    ending_from frames rows roots bs from os k total at h.now h.past best new d e g place h.known h.follows h.started h.can h.first h.goes h.sum asks same
-        leaves
+pub ending_more : (frames : List FrameRow) (rows : List Row) (roots : List (Bor Typed)) (bs : List Begun) (from m n k total at : ℕ) (os : List Opened)
+    (best new : Option Found) (d e g : Detector) → m ≡ suc (suc k) → n ≡ suc k → at ≡ from + suc k → Asks frames rows roots bs at best new d e →
+    g.known ≡ e.known → Leaves e.open g.open → Ending frames rows roots bs from m total os best d → Ending frames rows roots bs from n total os new g
+ending_more frames rows roots bs from m n k total at os best new d e g before after place asks same leaves at_m =
+    let h = subst (λ (z : ℕ). Ending frames rows roots bs from z total os best d) before at_m in
+    subst (λ (z : ℕ). Ending frames rows roots bs from z total os new g) (sym after)
+    (ending_from frames rows roots bs from os k total at h.now h.past best new d e g place h.known h.follows h.started h.can h.first h.goes h.sum asks
+    same leaves)
 
 -- what is seen in the end
 pub sees_end : (frames : List FrameRow) (rows : List Row) (roots : List (Bor Typed)) (bs : List Begun) (from total at : ℕ) (os : List Opened)

@@ -1,5 +1,5 @@
 -- What a call gives is the first conflict, or there is none.
-use Rattle.std.proofs.Common.{◌≡◌, ◌⊎◌, inl, inr, ℕ, Bor, Bool, true, false, List, refl, sym, subst, ◌∙◌, Option, Some, None, if◌then◌else◌}
+use Rattle.std.proofs.Common.{◌≡◌, inl, inr, ℕ, Bor, Bool, true, false, List, refl, sym, subst, ◌∙◌, Option, Some, None, if◌then◌else◌}
 use Rattle.std.specs.Prelude.{IfNone, IfSome}
 use Rattle.std.proofs.lemmas.Option.{same_Some}
 use Rattle.ub_base.specs.Frames.{Row as FrameRow}
@@ -13,7 +13,7 @@ use Rattle.evaluation_search.specs.First.{IsFirst, IsFirstOf}
 use Rattle.evaluation_search.proofs.FirstLemmas.{both}
 use Rattle.run_state.specs.declared.watch.Begun.{Begun}
 use Rattle.run_evaluations.specs.First.{AreOfNode, AreOfOperands, IsConflictIn, IsOrdered}
-use Rattle.run_evaluations.specs.Shows.{NoneOfNode, NoneOfTwo}
+use Rattle.run_evaluations.specs.Shows.{NoneOfTwo}
 use Rattle.run_evaluations.specs.Scopes.{IsRuled}
 use Rattle.run_evaluations.specs.Told.{Opened, TellsNode}
 use Rattle.evaluation_log.specs.declared.rules.Rule.{Rule}

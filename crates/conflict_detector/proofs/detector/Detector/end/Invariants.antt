@@ -1,5 +1,5 @@
 -- The first conflict so far is of two items that conflict, its two evaluations stand as it asks, and it is the first one of the frames that were left.
-use Rattle.std.specs.Prelude.{◌≡◌, ◌-◌, ◌+◌, ◌≤◌, List, length}
+use Rattle.std.specs.Prelude.{◌≡◌, ◌-◌, ◌≤◌, List, length}
 use Rattle.elaborate.specs.Roots.{trees_at}
 use Rattle.evaluation_log.specs.FoundItems.{ItemsConflict}
 use Rattle.run_evaluations.specs.Told.{Opened}

@@ -1,3 +1,4 @@
+use Rattle.std.proofs.Common.{refl}
 use Rattle.conflict_detector.proofs.RunEnds.{asked_at, at_top}
 use Rattle.conflict_detector.proofs.detector.Detector.ended.Goals as goal
 

@@ -16,4 +16,4 @@ pub returns-clause-rules : goal.returns-clause-rules
 returns-clause-rules c = λ roots right numbered.
     let there = c.in_ok-grow.ensures.there in
     rules_put c.grow.new.self c.put.new.self c.args.number c.args.root.now c.in_ok-examined.examined c.put.ensures
-        (omega (arith, there, c.grow.new.self.list.ok.0)) c.in_ok-examined.ensures.rules
+    (omega (arith, there, c.grow.new.self.list.ok.0)) c.in_ok-examined.ensures.rules

@@ -9,4 +9,8 @@ returns c = record {
       let old = c.args.self.now in
       let g = c.in_ok-leave.ensures.follows u us (below_all old.open t (u ∷ us) f.follows) started in
       (g.0, record { follows = g.1; names = pop_names _ old.names.items _ t (u ∷ us) (omega (arith, old.names.ok.0)) f.names c.pop.ensures.rest });
+  below = λ t u us f started.
+      let old = c.args.self.now in
+      let g = c.in_ok-leave.ensures.follows u us f.below started in
+      (g.0, record { follows = g.1; names = pop_names _ old.names.items _ t (u ∷ us) (omega (arith, old.names.ok.0)) f.names c.pop.ensures.rest });
 }
