@@ -1,5 +1,5 @@
 -- What a watch answers, and what it has seen where a run ended.
-use Rattle.std.specs.Prelude.{◌≡◌, List, Option, Some, None, IsSome}
+use Rattle.std.specs.Prelude.{◌≡◌, List, Option, IsSome}
 use Rattle.c_typed.specs.Tree.{Tree}
 use Rattle.core_run.specs.declared.watch.Go.{Go}
 use Rattle.core_run.specs.declared.watch.Go.TheVariants.{On, Stop}

@@ -1,5 +1,3 @@
-use Rattle.std.specs.Prelude.{Some}
-use Rattle.core_run.specs.Calls.{HasStopped}
 use Rattle.elaborate.specs.Roots.{trees_at}
 use Rattle.footprint_run.proofs.Stand.{seen_after}
 use Rattle.footprint_run.proofs.watcher.WatcherWatch.operands_done.Goals as goal
@@ -11,6 +9,6 @@ invariant_of-self c = record { stopped = c.args.self.now.stopped; apart = c.args
 pub invariant_of-self-2 : goal.invariant_of-self-2
 invariant_of-self-2 c =
     let w = c.args.self.now in
-    let after = seen_after (HasStopped (Some w.calls)) (trees_at w.roots.now) w.seen c.note-go.new.last c.note-go.result
-    (c.note-go.ensures (trees_at w.roots.now) c.in_ok-seen.ensures.apart) w.stopped w.apart in
+    let after = seen_after (trees_at w.roots.now) w.seen c.note-go.new.last c.note-go.result _ w.calls c.operands_done-2.result
+    (c.note-go.ensures (trees_at w.roots.now) c.in_ok-seen.ensures.apart) c.operands_done-2.ensures w.apart in
     record { stopped = after.0; apart = after.1 }
