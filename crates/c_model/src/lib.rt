@@ -131,7 +131,8 @@ pub fn law_control_picks()
     ensures case_in_block { picks_of case_in_block [] 20 ≡ enter ∷ begin ∷ settle ∷ enter ∷ enter ∷ begin ∷ settle ∷ leave ∷ leave ∷ leave ∷ [] }
     ensures no_case { picks_of no_case [] 20 ≡ enter ∷ begin ∷ settle ∷ begin ∷ settle ∷ leave ∷ [] }
     ensures continue_in_do { picks_of continue_in_do [] 20 ≡ enter ∷ enter ∷ jump ∷ leave ∷ begin ∷ settle ∷ begin ∷ settle ∷ leave ∷ [] }
-    ensures continue_in_switch { picks_of continue_in_switch [] 20 ≡ enter ∷ enter ∷ begin ∷ settle ∷ enter ∷ jump ∷ leave ∷ leave ∷ begin ∷ settle ∷ begin ∷ settle ∷ leave ∷ [] }
+    ensures continue_in_switch { picks_of continue_in_switch [] 20
+        ≡ enter ∷ enter ∷ begin ∷ settle ∷ enter ∷ jump ∷ leave ∷ leave ∷ begin ∷ settle ∷ begin ∷ settle ∷ leave ∷ [] }
     ensures nested_break { picks_of nested_break [] 20 ≡ enter ∷ enter ∷ enter ∷ jump ∷ leave ∷ enter ∷ leave ∷ jump ∷ leave ∷ begin ∷ settle ∷ leave ∷ [] }
 {}
 

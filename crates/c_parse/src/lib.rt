@@ -1,11 +1,7 @@
 //! The syntax tree of a list of tokens (Annex A of ISO/IEC 9899:2011, in the profile).
 #![tactic(auto)]
 
-mod declaration;
 mod error;
-mod initializer;
-mod knot;
-mod statement;
 mod unit;
 
 pub use error::ParseFault;

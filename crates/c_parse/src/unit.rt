@@ -10,15 +10,15 @@ ghost use Rattle.parse_spec.specs.Declarations as declarations;
 ghost use Rattle.parse_spec.specs.Steps.{and_then, pure};
 ghost use Rattle.parse_spec.specs.Units as spec;
 
-use crate::declaration::{assertion, declaration_specs, more_parts, named_declarator};
 use crate::error::ParseFault;
-use crate::statement::body;
 use c_ast::{Declaration, Declarator, Entry, Specs, Unit, UnitEntry, nest};
 use c_lex::{Mark, Tokens, Word};
 use c_spelling::spelled_by;
 use parse_cursor::tokens::declares_typedef;
 use parse_cursor::{Cursor, Refusal};
+use parse_declarations::{assertion, declaration_specs, more_parts, named_declarator};
 use parse_nodes::behind::{kept, pushed, with};
+use parse_statements::body;
 use std::alloc::Global;
 use ub_base::Items;
 

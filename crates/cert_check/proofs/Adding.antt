@@ -14,6 +14,7 @@ next_row : (map : List Row) (row : Row) (rows : List Row) → breaks map row ≡
 next_row map row rows keeps = rw keeps
 
 -- where a row was added, what is left goes on behind it
-pub one_more : (map now : List Row) (row : Row) (left rest : List Row) (start : Option (List Row)) → breaks map row ≡ false → now ≡ insert_row row map → left ≡ row ∷ rest → added map left ≡ start →
+pub one_more : (map now : List Row) (row : Row) (left rest : List Row) (start : Option (List Row)) → breaks map row ≡ false → now ≡ insert_row row map →
+    left ≡ row ∷ rest → added map left ≡ start →
     added now rest ≡ start
 one_more map now row left rest start keeps is split was = let next = next_row map row rest keeps in cc

@@ -12,8 +12,8 @@ use certificate::{Answer, Cert, Claim, Part, Segment};
 use core_ir::Core;
 use elaborate::{elaborate, roots_of};
 use prov_memory::Memory;
-use run_acts::start_bytes;
 use run_machine::{Code, Halt, MOST_CREATED, Machine, code_of, prepare};
+use run_standing::start_bytes;
 use std::alloc::Global;
 use ub_base::{Bytes, Cause, NoMemory, ObjName};
 

@@ -40,8 +40,8 @@ use Rattle.c_model.specs.Steps.{Scene, auto_name, name_of, turn_of}
 use Rattle.c_model.specs.World.{World}
 use Rattle.program_view.specs.Trees.{expr_of, exprs_of, constant_head, is_pointer}
 use Rattle.program_view.proofs.Seen.{node_in, operands_in, own_type, head_in, expr_at, by_size}
-use Rattle.run_acts.specs.Contents.{StandsAt}
-use Rattle.run_acts.proofs.Starting.{all_at}
+use Rattle.run_values.specs.Contents.{StandsAt}
+use Rattle.run_values.proofs.Placed.{all_at}
 use Rattle.run_layout.specs.declared.steps.BlockCode.{BlockCode}
 use Rattle.run_layout.specs.EventActs.{head_at}
 use Rattle.run_state.specs.declared.machine.Machine.{Machine}

@@ -8,10 +8,10 @@ use Rattle.prov_memory.specs.Keeps.{RowsStay}
 use Rattle.c_model.specs.Program.{Standing}
 use Rattle.c_model.specs.World.{Limits}
 use Rattle.program_view.specs.View.{main_values, standing_of}
-use Rattle.run_acts.proofs.Viewed.{as_viewed}
+use Rattle.run_standing.proofs.Viewed.{as_viewed}
 use Rattle.run_statements.specs.declared.numbers.Numbers.{Numbers}
 use Rattle.run_layout.specs.OfTrees.{ListsTrees}
-use Rattle.run_state.specs.Begins.{StartIsWithin, StartsAs}
+use Rattle.run_start.specs.Begins.{StartIsWithin, StartsAs}
 use Rattle.run_state.specs.Meaning.{StandsProgram, world_with}
 use Rattle.run_state.specs.declared.machine.Machine.{Machine}
 use Rattle.code_view.specs.Laws.{IsCodeOfProgram}

@@ -11,7 +11,7 @@ use Rattle.run_statements.specs.Jumping.{HasJumps}
 use Rattle.run_layout.specs.declared.steps.FunctionCode.{FunctionCode}
 use Rattle.run_layout.specs.declared.whole.Code.{Code}
 use Rattle.run_layout.specs.Roots.{HaveCode}
-use Rattle.run_state.specs.Begins.{KeepsLabels}
+use Rattle.run_start.specs.Begins.{KeepsLabels}
 use Rattle.run_state.specs.Meaning.{StandsProgram}
 
 -- this function has code, and the labels that are kept of it are those of its body there

@@ -15,7 +15,7 @@ use Rattle.run_statements.specs.declared.numbers.Numbers.{Numbers}
 use Rattle.run_layout.specs.declared.whole.Code.{Code}
 use Rattle.run_layout.specs.OfTrees.{AreTermsOf, ListsTrees}
 use Rattle.run_layout.specs.Roots.{AreInBlocks}
-use Rattle.run_state.specs.Begins.{BeginsAsDefined, StartIsWithin, StartsAs}
+use Rattle.run_start.specs.Begins.{BeginsAsDefined, StartIsWithin, StartsAs}
 use Rattle.run_state.specs.Meaning.{world_with}
 use Rattle.run_state.specs.Stands.{HoldsAll}
 use Rattle.run_state.specs.declared.machine.Machine.{Machine}

@@ -28,7 +28,7 @@ use Rattle.mem_laws.specs.MoreRows.{Extends}
 use Rattle.c_model.specs.Runs.{State}
 use Rattle.c_model.specs.World.{World, profile_limits}
 use Rattle.run_facts.specs.SetUp.{IsItsCode, IsProfile, IsItsWorld, IsSetUp, IsWhole}
-use Rattle.run_state.specs.Begins.{BeginsAsDefined, CountsAsDefined, HoldsGiven, IsUnstarted, KeepsLabels}
+use Rattle.run_start.specs.Begins.{BeginsAsDefined, CountsAsDefined, HoldsGiven, IsUnstarted, KeepsLabels}
 use Rattle.run_state.specs.declared.machine.Machine.{Machine}
 use Rattle.run_statements.specs.declared.numbers.Numbers.{Numbers}
 use Rattle.value_facts.specs.Held.{AreBytes}

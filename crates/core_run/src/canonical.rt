@@ -26,10 +26,10 @@ use frame_numbers::law_numbers;
 use mem_laws::law_apart_extend;
 use pick_facts::law_event_asked;
 use prov_memory::{Memory, Outputs};
-use run_acts::start_bytes;
 use run_machine::{
     Completed, Halt, MOST_CREATED, Machine, Pick, View, canonical, code_of, prepare,
 };
+use run_standing::start_bytes;
 use start_laws::{law_bytes, law_start};
 use std::alloc::Global;
 use ub_base::{Bytes, Cause, Event, Frame, Frames, NoMemory};

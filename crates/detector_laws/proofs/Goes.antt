@@ -328,7 +328,8 @@ module _ (world : World) where
     after_move Control End v x s after is at path bare fit r = after_end st.held v x s after refl path a.held r
     after_move (Ev u) End v x s after is at path bare fit r = absurd (subst NoEnd is (move_goes f f.begun u))
 
-    after_act : (p : Pick) (act : Act Value) (after : State) → run world.rows (does world f f.begun p) st.store ≡ act → Fits st.trace f.scene f.begun p → acted world st p act ≡ Running after → Comes st after
+    after_act : (p : Pick) (act : Act Value) (after : State) → run world.rows (does world f f.begun p) st.store ≡ act → Fits st.trace f.scene f.begun p →
+        acted world st p act ≡ Running after → Comes st after
     after_act p (Done v is s) after ran fit r =
         after_move p (move world f f.begun p) v (entry_of world f p is) s after refl
         (λ u e. record { path = refl; turn = refl; place = ap place_of e }) refl

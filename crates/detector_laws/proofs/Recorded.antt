@@ -88,7 +88,8 @@ kind_is Body h = refl
 kind_is Val h = absurd (true≢false (sym h))
 kind_is Eff h = absurd (true≢false (sym h))
 
-pub items_are : (trace : List Entry) (x : Entry) (f : Scene) (u : Place) → IsEntryOf f u x → (u.kind ≡ Body → items_under ((f.turn, u.node) ∷ f.path) trace ≡ []) →
+pub items_are : (trace : List Entry) (x : Entry) (f : Scene) (u : Place) → IsEntryOf f u x →
+    (u.kind ≡ Body → items_under ((f.turn, u.node) ∷ f.path) trace ≡ []) →
     items_by (x ∷ trace) (x ∷ trace) f.path f.turn u ≡ x.items
 items_are trace x f u is fresh =
     if_true (is_of f.path f.turn u x) (items_of (x ∷ trace) x u) (items_by (x ∷ trace) trace f.path f.turn u) (is_this f u x is)

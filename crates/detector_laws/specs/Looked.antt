@@ -45,7 +45,8 @@ FreePicksPass = (world : World) (first st : State) (n left : ℕ) → GoesFree w
 -- and with one pick more it is what shows at that pick: a raised clause, a limit, an end of the run with what is found there, or what is found on the way
 abbrev pub LastPickTells : Type 0
 LastPickTells = (world : World) (first st : State) (n left : ℕ) (o : Outcome) → GoesFree world first n st
-    → step world st (canonical_pick world st.top st.top.begun) ≡ o → found_from world (n + suc left) 0 first ≡ shown_at world st o n (found_from world left (suc n))
+    → step world st (canonical_pick world st.top st.top.begun) ≡ o →
+        found_from world (n + suc left) 0 first ≡ shown_at world st o n (found_from world left (suc n))
 
 -- ---- where a conflict is found on the way
 -- the finding that it makes

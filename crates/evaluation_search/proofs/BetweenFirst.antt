@@ -1,6 +1,7 @@
 -- The first conflict between operands: of the first operand that clashes with one behind it the least event that does, and the least event behind that it
 -- clashes with.
-use Rattle.std.proofs.Common.{◌≡◌, ◌≢◌, ◌⊎◌, inl, inr, ⊎_elim, ℕ, zero, suc, ◌≤◌, ◌<◌, ◌+◌, ◌-◌, Bool, true, false, ◌&&◌, ◌||◌, List, length, refl, sym, ap, ◌∙◌, arith}
+use Rattle.std.proofs.Common.{◌≡◌, ◌≢◌, ◌⊎◌, inl, inr, ⊎_elim, ℕ, zero, suc, ◌≤◌, ◌<◌, ◌+◌, ◌-◌, Bool, true, false, ◌&&◌, ◌||◌, List, length, refl, sym, ap}
+use Rattle.std.proofs.Common.{◌∙◌, arith}
 use Rattle.std.proofs.Common.{Option, Some, None, Result, Ok, Err, subst}
 use Rattle.std.specs.Prelude.{slice_get, IfNone, IfOk, IfSome}
 use Rattle.std.specs.declared.cmp.Ordering.{Ordering}
@@ -156,7 +157,8 @@ module _ (frames : List FrameRow) (rows : List Row) (p : Place) (events : List L
   name k = named p (slice_get events k)
 
   -- the items of a conflict clash
-  pub of_clash : (sought : Sought) (a b : ℕ) (f : Found) → sought ≡ sought_of f.race → IsOf frames rows p events items a b f → SomeClash sought rows (has a) (has b)
+  pub of_clash : (sought : Sought) (a b : ℕ) (f : Found) → sought ≡ sought_of f.race → IsOf frames rows p events items a b f →
+      SomeClash sought rows (has a) (has b)
   of_clash sought a b f e of = subst (λ s. SomeClash s rows (has a) (has b)) (sym e) (f.items.0, f.items.1, of.least.0)
 
   pub of_first : (sought : Sought) (a b : ℕ) (f : Found) → sought ≡ sought_of f.race → IsOf frames rows p events items a b f →
@@ -342,7 +344,8 @@ module _ (frames : List FrameRow) (rows : List Row) (p : Place) (events : List L
               let low = q.1.2.behind in
               counts_cases frames g f (same_races g.race f.race (sym q.0 ∙ s.0.0)) (event_cmp frames g.event f.event) refl
               (not_first a m g.event f.event q.1.3.event at not_before)
-              (λ e. s.1 g (q.0, (a, q.1.1, (same_event a m g.event f.event q.1.3.event at meets.0 least.0.0 e, omega (arith, low, ends_at), q.1.2.within), q.1.3))),
+              (λ e. s.1 g (q.0, (a, q.1.1, (same_event a m g.event f.event q.1.3.event at meets.0 least.0.0 e, omega (arith, low, ends_at), q.1.2.within),
+                  q.1.3))),
         )
       where
         same_event : (k l : ℕ) (x y : Event) → name k ≡ Some x → name l ≡ Some y → begin ≤ k → begin ≤ l → event_cmp frames x y ≡ Equal → k ≡ l
@@ -386,7 +389,8 @@ module _ (frames : List FrameRow) (rows : List Row) (p : Place) (events : List L
         let w = q.1.2 in
         let low = w.low in
         let rise = w.rise in
-        let c = some_sub rows sought (has q.1.0) (has q.1.1) (operand_has sought segments events items w.first) (operand_has sought segments events items w.second)
+        let c = some_sub rows sought (has q.1.0) (has q.1.1) (operand_has sought segments events items w.first)
+            (operand_has sought segments events items w.second)
         (λ j h. in_operand w.first q.1.0 j w.from w.to (of_first sought q.1.0 q.1.1 f q.0 q.1.3) h)
         (λ j h. in_operand w.second q.1.1 j w.behind w.within (of_second sought q.1.0 q.1.1 f q.0 q.1.3) h)
         (of_clash sought q.1.0 q.1.1 f q.0 q.1.3) in
@@ -519,7 +523,8 @@ takes_kept frames p events at None b none some h = absurd (let z : true ≡ fals
 takes_kept frames p events at (Some m) b none some h = inl (refl, λ q. (m, refl, sym (some m refl) ∙ h))
 
 -- ---- of what is given as it is
-pub ok_both : {E : Type 0} (P Q R : Option Found → Type 0) (r : Result (Option Found) E) → ((o : Option Found) → P o → Q o → R o) → IfOk r P → IfOk r Q → IfOk r R
+pub ok_both : {E : Type 0} (P Q R : Option Found → Type 0) (r : Result (Option Found) E) → ((o : Option Found) → P o → Q o → R o) → IfOk r P → IfOk r Q →
+    IfOk r R
 ok_both P Q R (Ok o) f p q = f o p q
 ok_both P Q R (Err e) f p q = tt
 

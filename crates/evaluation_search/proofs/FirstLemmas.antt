@@ -1,5 +1,6 @@
 -- Conflicts in the order in which they count, and events in theirs.
-use Rattle.std.proofs.Common.{◌≡◌, ◌⊎◌, inl, inr, ⊎_elim, ℕ, zero, suc, ◌≤◌, ◌<◌, ◌+◌, max, Bool, true, false, cond, List, refl, sym, ap, ◌∙◌, arith, Option, Some, None, subst}
+use Rattle.std.proofs.Common.{◌≡◌, ◌⊎◌, inl, inr, ⊎_elim, ℕ, zero, suc, ◌≤◌, ◌<◌, ◌+◌, max, Bool, true, false, cond, List, refl, sym, ap, ◌∙◌, arith, Option}
+use Rattle.std.proofs.Common.{Some, None, subst}
 use Rattle.std.proofs.Common.{if◌then◌else◌}
 use Rattle.std.specs.Prelude.{slice_get}
 use Rattle.std.specs.declared.cmp.Ordering.{Ordering}
@@ -136,7 +137,8 @@ module _ (frames : List FrameRow) where
 
 -- ---- the least event so far
 module _ (frames : List FrameRow) (name : ℕ → Option Event) where
-  first_less : (a b : Option Event) → comes_first frames a b ≡ true → (x : Event) × (y : Event) × (a ≡ Some x) × (b ≡ Some y) × (is_lt (event_cmp frames x y) ≡ true)
+  first_less : (a b : Option Event) → comes_first frames a b ≡ true →
+      (x : Event) × (y : Event) × (a ≡ Some x) × (b ≡ Some y) × (is_lt (event_cmp frames x y) ≡ true)
   first_less None b h = absurd (cc)
   first_less (Some x) None h = absurd (cc)
   first_less (Some x) (Some y) h = (x, y, refl, refl, h)
@@ -176,7 +178,8 @@ module _ (frames : List FrameRow) (name : ℕ → Option Event) where
         (old.0.0, omega (arith, lt), old.0.2),
         λ k q. ⊎_elim (λ less. old.1 k (q.0, less, q.2))
             (λ same. let z = h (subst Q same q.2) in
-            (λ i. comes_first frames (name (same i)) (name m)) ∙ (ap (λ n. comes_first frames (name at) (name n)) (same_Some m z.0 z.1) ∙ z.2)) (below_or_at k at q.1),
+            (λ i. comes_first frames (name (same i)) (name m)) ∙ (ap (λ n. comes_first frames (name at) (name n)) (same_Some m z.0 z.1) ∙ z.2))
+                (below_or_at k at q.1),
       )
 
       taken : (best : Option ℕ) → IsLeastEvent frames name (λ k. (from ≤ k) × (k < at) × Q k) best → Q at →

@@ -77,7 +77,8 @@ impl Search<'_> {
             (NoClash sought self.now.under.map.now (operand_has sought segments.now self.now.log.events.now self.now.log.items.now group)
             (behind_has sought segments.now self.now.log.events.now self.now.log.items.now group))) }
         ensures first { AreOnce self.now.log.events.now (start_of segments.now self.now.log.events.now group) → IfOk result
-            (IsFirstOf self.now.under.frames.now (IsSoughtPair sought self.now.under.frames.now self.now.under.map.now self.now.place self.now.log.events.now self.now.log.items.now
+            (IsFirstOf self.now.under.frames.now
+            (IsSoughtPair sought self.now.under.frames.now self.now.under.map.now self.now.place self.now.log.events.now self.now.log.items.now
             (AreFrom segments.now self.now.log.events.now group))) }
     {
         let behind = (

@@ -1,5 +1,6 @@
 -- The first pair of a list of places in their order.
-use Rattle.std.proofs.Common.{◌≡◌, ◌⊎◌, inl, inr, ⊎_elim, ℕ, zero, suc, ◌≤◌, ◌<◌, ◌+◌, ◌*◌, nat_lt, ◌==◌, Bool, true, false, ◌&&◌, List, [], ◌∷◌, Option, Some, None, refl, sym, ap, ◌∙◌}
+use Rattle.std.proofs.Common.{◌≡◌, ◌⊎◌, inl, inr, ⊎_elim, ℕ, zero, suc, ◌≤◌, ◌<◌, ◌+◌, ◌*◌, nat_lt, ◌==◌, Bool, true, false, ◌&&◌, List, [], ◌∷◌, Option, Some}
+use Rattle.std.proofs.Common.{None, refl, sym, ap, ◌∙◌}
 use Rattle.std.proofs.Common.{arith, subst, if◌then◌else◌}
 use Rattle.std.specs.declared.cmp.Ordering.{Ordering}
 use Rattle.std.specs.declared.cmp.Ordering.TheVariants.{Less, Equal, Greater}
@@ -22,7 +23,8 @@ use Rattle.c_model.specs.Runs.{Entry}
 use Rattle.c_model.specs.Keys.{kind_key}
 use Rattle.c_model.specs.Moments.{Open, places_from}
 use Rattle.c_model.specs.FirstFinding.{Pair, Finding, races, quarrels, first_or, pair_among, due_only, raced_or, quarrel_or, with_items}
-use Rattle.finding_laws.specs.FirstPairs.{place_key, precedes, IsDue, IsFirstPair, NoPair, FirstPairIsTaken, NoPairIsTaken, FirstIsFound, EventsByPlaces, pair_told}
+use Rattle.finding_laws.specs.FirstPairs.{place_key, precedes, IsDue, IsFirstPair, NoPair, FirstPairIsTaken, NoPairIsTaken, FirstIsFound, EventsByPlaces}
+use Rattle.finding_laws.specs.FirstPairs.{pair_told}
 
 -- ---- lists of places
 IsOne : List Place → Place → Type 0
@@ -251,7 +253,8 @@ events_by_places rows d e frame turn =
     let same_frame : frame_cmp rows d.frame.0 e.frame.0 ≡ Equal =
     ap (λ f. frame_cmp rows d.frame.0 f.0) (sym frame) ∙ (then_equal (frame_cmp rows d.frame.0 d.frame.0) _ (tied_itself (event_total rows) d)).0 in
     let same_turn : nat_cmp d.turn e.turn ≡ Equal = ap (nat_cmp d.turn) (sym turn) ∙ tied_itself nat_cmp_total d.turn in
-    ap (λ o. is_lt (ordering_then o (ordering_then (nat_cmp d.turn e.turn) (ordering_then (nat_cmp d.node e.node) (nat_cmp (kind_rank d.kind) (kind_rank e.kind))))))
+    ap (λ o. is_lt (ordering_then o (ordering_then (nat_cmp d.turn e.turn)
+        (ordering_then (nat_cmp d.node e.node) (nat_cmp (kind_rank d.kind) (kind_rank e.kind))))))
     same_frame
     ∙ (ap (λ o. is_lt (ordering_then o (ordering_then (nat_cmp d.node e.node) (nat_cmp (kind_rank d.kind) (kind_rank e.kind))))) same_turn
     ∙ ((λ i. is_lt (ordering_then (nat_cmp d.node e.node) (nat_cmp (rank_key d.kind i) (rank_key e.kind i))))

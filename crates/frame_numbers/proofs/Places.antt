@@ -79,12 +79,14 @@ pub place_stays : (rows more : List Row) (a t k i : ℕ) → place_in rows a t k
 place_stays [] more a t k i e = absurd (cc)
 place_stays (r ∷ rs) more a t k i e = go (place_stays rs more a t k) (is_row r a t k) refl e
   where
-    later : ((j : ℕ) → place_in rs a t k ≡ Some j → place_in (rs ++ more) a t k ≡ Some j) → (o : Option ℕ) → place_in rs a t k ≡ o → option_map suc o ≡ Some i → option_map suc (place_in (rs ++ more) a t k) ≡ Some i
+    later : ((j : ℕ) → place_in rs a t k ≡ Some j → place_in (rs ++ more) a t k ≡ Some j) → (o : Option ℕ) → place_in rs a t k ≡ o → option_map suc o ≡ Some i →
+        option_map suc (place_in (rs ++ more) a t k) ≡ Some i
     later below None p q = absurd (cc)
     later below (Some j) p q = ap (λ o. option_map suc o) (below j p) ∙ q
 
     go : ((j : ℕ) → place_in rs a t k ≡ Some j → place_in (rs ++ more) a t k ≡ Some j) → (b : Bool) → is_row r a t k ≡ b →
-        (if b then Some 0 else option_map suc (place_in rs a t k)) ≡ Some i → (if is_row r a t k then Some 0 else option_map suc (place_in (rs ++ more) a t k)) ≡ Some i
+        (if b then Some 0 else option_map suc (place_in rs a t k)) ≡ Some i →
+            (if is_row r a t k then Some 0 else option_map suc (place_in (rs ++ more) a t k)) ≡ Some i
     go below true p q = ap (λ (b : Bool). if b then Some 0 else option_map suc (place_in (rs ++ more) a t k)) p ∙ q
     go below false p q = ap (λ (b : Bool). if b then Some 0 else option_map suc (place_in (rs ++ more) a t k)) p ∙ later below (place_in rs a t k) refl q
 

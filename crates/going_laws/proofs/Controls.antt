@@ -25,7 +25,8 @@ use Rattle.c_model.specs.Control.{
   ready_work,
 }
 use Rattle.c_model.specs.Moves.{Move, Stay, Start, End}
-use Rattle.c_model.specs.Runs.{Entry, Outcome, Refused, Raises, Over, No_row, Ends, Running, State, acted, back, entry_of, enter_passes, limited, moved, step, within}
+use Rattle.c_model.specs.Runs.{Entry, Outcome, Refused, Raises, Over, No_row, Ends, Running, State, acted, back, entry_of, enter_passes, limited, moved, step}
+use Rattle.c_model.specs.Runs.{within}
 use Rattle.c_model.specs.Steps.{Begun, Control, Ev, Local, control_next, does, move, next}
 use Rattle.c_model.specs.Values.{Value}
 use Rattle.c_model.specs.World.{World, Limits}

@@ -55,7 +55,8 @@ module _ (scoped : LawfulIsScoped) (ordered : StepsOrdered) where
   open_of world p numbers old st n e s going stage begun =
       kept_open world old (length (reverse old.below.items)) old.top old.top.stage st.top.scene st.top.begun s e stage begun going.frames.0.begun
 
-  starts_go : CanonicalReached → (world : World) (p : Program) (numbers : Numbers) (old new : Machine) (st after : State) (n : ℕ) (e : Begun) (s : Stage) (u : Place)
+  starts_go : CanonicalReached → (world : World) (p : Program) (numbers : Numbers) (old new : Machine) (st after : State) (n : ℕ) (e : Begun) (s : Stage)
+      (u : Place)
       (g : Local) (frame : Frame) → IsGoing world p numbers old st n → old.top.stage ≡ Some s → st.top.begun ≡ Some e → HasStarted old s new
       → canonical_pick world st.top st.top.begun ≡ Ev u → step world st (Ev u) ≡ Running after → Running after ≡ Running (started_state world st u g)
       → Stands world (meaning_of p numbers old.code.now) (numbered new frame) after → IsWithin world after → suc n < 2 ^ 32

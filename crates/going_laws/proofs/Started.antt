@@ -1,5 +1,6 @@
 -- What the frames of isolated initializers and of functions leave as they start.
-use Rattle.std.proofs.Common.{arith, ◌≡◌, ◌+◌, ◌-◌, ◌<◌, ◌≤◌, ◌^◌, ℕ, suc, Bool, true, false, List, [], ◌∷◌, ◌++◌, length, reverse, Option, Some, None, slice_get}
+use Rattle.std.proofs.Common.{arith, ◌≡◌, ◌+◌, ◌-◌, ◌<◌, ◌≤◌, ◌^◌, ℕ, suc, Bool, true, false, List, [], ◌∷◌, ◌++◌, length, reverse, Option, Some, None}
+use Rattle.std.proofs.Common.{slice_get}
 use Rattle.std.proofs.Common.{refl, sym, ap, ◌∙◌}
 use Rattle.std.specs.Prelude.{min}
 use Rattle.ub_base.specs.declared.names.Event.{Event}
@@ -15,7 +16,8 @@ use Rattle.run_facts.specs.Frames.{Sees, SeesFunction, function_of}
 use Rattle.going_laws.proofs.Starts.{HasStarted}
 
 -- along the canonical way the cursor has passed the event
-pub past_is : (straight : Bool) (old past : Machine) (s : Stage) (d : Due) → straight ≡ true → IsPast straight old s d past → (c : ℕ) × (past ≡ at_cursor old s c)
+pub past_is : (straight : Bool) (old past : Machine) (s : Stage) (d : Due) → straight ≡ true → IsPast straight old s d past →
+    (c : ℕ) × (past ≡ at_cursor old s c)
 past_is true old past s d is p = (suc (s.cursor + p.1.0), p.5)
 past_is false old past s d is p = absurd (cc)
 

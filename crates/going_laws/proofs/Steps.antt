@@ -99,7 +99,8 @@ can_step world m st (Some e) is can = absurd (cc)
 
 -- what a body gives chooses no operand
 abbrev pub BodyKeeps : Type 0
-BodyKeeps = (world : World) (f : Scene) (e : Begun) (n : ℕ) (v : Value) (kept : Taken) → IsKept world f e kept → IsKept world f (with_given e (place n Body) v) kept
+BodyKeeps = (world : World) (f : Scene) (e : Begun) (n : ℕ) (v : Value) (kept : Taken) → IsKept world f e kept →
+    IsKept world f (with_given e (place n Body) v) kept
 
 -- ---- the frame stays
 -- it sees the same function, with one of its full expressions open or none
@@ -388,7 +389,8 @@ module _ (world : World) (p : Program) (numbers : Numbers) (old new : Machine) (
     abbrev Kept : Option Stage → Scene → Option Begun → Type 0
     Kept o f b = KeepsBegun world new (length (reverse new.below.items)) z.onto o f b
 
-    given_open : (f : Local) (e : Begun) (s : Stage) → Kept (Some s) f.scene (Some e) → Kept (Some s) f.scene (Some (with_given e returned.onto.1 returned.value))
+    given_open : (f : Local) (e : Begun) (s : Stage) → Kept (Some s) f.scene (Some e) →
+        Kept (Some s) f.scene (Some (with_given e returned.onto.1 returned.value))
     given_open f e s k = record {
       straight = k.straight;
       chosen = λ x is. subst (λ (u : Place). IsKept world f.scene (with_given e u returned.value) (taken_in x.taken)) (sym waits)
@@ -402,7 +404,8 @@ module _ (world : World) (p : Program) (numbers : Numbers) (old new : Machine) (
     given_then f (Some e) None is k = tt
     given_then f (Some e) (Some s) is k = given_open f e s k
 
-    top_then : KeepsFrame world new z.onto (reverse new.below.items) (next world returned.onto.0 returned.onto.0.begun (Ev returned.onto.1) returned.value) (suc n)
+    top_then : KeepsFrame world new z.onto (reverse new.below.items) (next world returned.onto.0 returned.onto.0.begun (Ev returned.onto.1) returned.value)
+        (suc n)
     top_then = record {
       begun = given_then returned.onto.0 returned.onto.0.begun z.onto.stage refl kept_then.0.begun;
       sees = kept_then.0.sees;

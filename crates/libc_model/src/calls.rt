@@ -1,33 +1,29 @@
 // The functions of the library, each with its act.
-ghost use Rattle.std.specs.Prelude.{◌≡◌, ◌≢◌, ℕ, ◌<◌, ◌≤◌, ◌+◌, ◌^◌, true, false, nat_lt, Some, None, Ok, Err, length, List, [], OnOk, OnErr, IfNone};
-ghost use Rattle.std.specs.Prelude.{if◌then◌else◌};
+ghost use Rattle.std.specs.Prelude.{◌≡◌, ◌≢◌, ℕ, ◌<◌, true, false, Some, None, Ok, Err, length, List, [], OnOk, OnErr};
 ghost use Rattle.c_types.specs.declared.library.LibFunc.TheVariants.{Malloc, Free, Getchar, Putchar, Puts, Exit, Abort, Printf, Fprintf, Sprintf, Snprintf};
 ghost use Rattle.ub_base.specs.declared.clause.Cause.TheVariants.{Output};
 ghost use Rattle.addr_map.specs.declared.map.Row.{Row};
 ghost use Rattle.mem_spec.specs.Script.{Script, run};
 ghost use Rattle.prov_memory.specs.Keeps.{Keeps};
 ghost use Rattle.prov_memory.specs.Memory.{Kept, AreKnown, HasCell, store_of};
-ghost use Rattle.mem_spec.specs.Streams.{Io, total};
-ghost use Rattle.prov_memory.specs.declared.answer.LibAnswer.TheVariants as answers;
+ghost use Rattle.mem_spec.specs.Streams.{Io};
 ghost use Rattle.libc_spec.specs.Library.{LibValue, called, byte_or_end, integer_in, argument_at};
 ghost use Rattle.ub_base.specs.declared.names.Event.{Event};
-ghost use Rattle.libc_model.specs.Seen.{values_seen};
-ghost use Rattle.libc_model.specs.Parts.{Gives, Follows, line, line_at, printing, limited};
+ghost use Rattle.libc_arguments.specs.Seen.{values_seen};
+ghost use Rattle.libc_arguments.specs.Parts.{Gives, Follows, line, line_at, printing, limited};
 ghost use Rattle.prov_memory.specs.Tags.{AreTagged};
-ghost use Rattle.libc_model.specs.Answers.{ArgumentsMade, GivesMade, allocates, IsCall, AreWithin, Answers, answer_in, given_value, gives_value, leaves_all};
-ghost use Rattle.libc_model.specs.Answers.{wants_memory};
+ghost use Rattle.libc_arguments.specs.Answers.{ArgumentsMade, GivesMade, allocates, IsCall, AreWithin, Answers, answer_in, given_value, gives_value};
+ghost use Rattle.libc_arguments.specs.Answers.{leaves_all};
+ghost use Rattle.libc_arguments.specs.Answers.{wants_memory};
 
-use crate::arguments::{Pointer, check_string, int_at, pointer_at, size_at};
-use crate::bytes::{numbers, settle};
-use crate::{heap, ranges, strings};
 use c_types::LibFunc;
+use libc_arguments::{
+    Pointer, check_output, check_string, int_at, low_byte, numbers, pointer_at, settle, size_at,
+};
 use mem_spec::Stream;
 use prov_memory::{LibAnswer, Memory, Streams, Touched, Value, Values};
 use std::alloc::Global;
-use ub_base::{Cause, Clause, Event, Item, NoMemory};
-
-/// The limit on the bytes of standard output and standard error together (own).
-const OUTPUT: u64 = 1 << 24;
+use ub_base::{Clause, Event, Item, NoMemory};
 
 /// The status of a program that aborts (own).
 const ABORTED: u8 = 134;
@@ -89,18 +85,18 @@ fn value_of(
     ensures made { allocates f ≡ true → IsCall f (values_seen args.now) m.old io.old → GivesMade m.new (answer_in result) }
 {
     match f {
-        LibFunc::Malloc => heap::allocate(size_at(args, 0), who, m, t),
-        LibFunc::Calloc => heap::allocate_zeros(alloc, args, who, m, t),
-        LibFunc::Realloc => heap::reallocate(alloc, args, who, m, t),
+        LibFunc::Malloc => libc_heap::allocate(size_at(args, 0), who, m, t),
+        LibFunc::Calloc => libc_heap::allocate_zeros(alloc, args, who, m, t),
+        LibFunc::Realloc => libc_heap::reallocate(alloc, args, who, m, t),
         LibFunc::Free => free(alloc, args, m, t),
-        LibFunc::Memcpy => ranges::copy(alloc, false, args, m, t),
-        LibFunc::Memmove => ranges::copy(alloc, true, args, m, t),
-        LibFunc::Memset => ranges::fill(alloc, args, m, t),
-        LibFunc::Memcmp => ranges::compare(alloc, args, m, t),
-        LibFunc::Strlen => strings::length(alloc, args, m, t),
-        LibFunc::Strcpy => strings::copy_string(alloc, args, m, t),
-        LibFunc::Strcmp => strings::compare_strings(alloc, args, m, t),
-        LibFunc::Strchr => strings::find_byte(alloc, args, m, t),
+        LibFunc::Memcpy => libc_strings::copy(alloc, false, args, m, t),
+        LibFunc::Memmove => libc_strings::copy(alloc, true, args, m, t),
+        LibFunc::Memset => libc_strings::fill(alloc, args, m, t),
+        LibFunc::Memcmp => libc_strings::compare(alloc, args, m, t),
+        LibFunc::Strlen => libc_strings::length(alloc, args, m, t),
+        LibFunc::Strcpy => libc_strings::copy_string(alloc, args, m, t),
+        LibFunc::Strcmp => libc_strings::compare_strings(alloc, args, m, t),
+        LibFunc::Strchr => libc_strings::find_byte(alloc, args, m, t),
         LibFunc::Getchar => getchar(io, t),
         LibFunc::Putchar => putchar(int_at(args, 0), io, t),
         LibFunc::Puts => puts(alloc, args, m, io, t),
@@ -120,7 +116,7 @@ fn free(alloc: Global, args: &[Value], m: &mut Memory, t: &mut Touched) -> Resul
     ensures same { OnErr result (m.new ≡ m.old) }
     ensures kept { Keeps m.old m.new }
 {
-    match heap::free(alloc, pointer_at(args, 0), Clause::Free, m, t) {
+    match libc_heap::free(alloc, pointer_at(args, 0), Clause::Free, m, t) {
         Ok(()) => Ok(Value::Nothing),
         Err(answer) => Err(answer),
     }
@@ -147,27 +143,6 @@ fn byte_or_end(next: Option<u8>) -> Value
     }
 }
 
-// How many bytes would be written in all with so many more, where that passes the limit.
-fn output_past(written: u64, more: u64) -> Option<u64>
-    ensures past { written + more < 2 ^ 64 → result ≡ (if nat_lt (2 ^ 24) (written + more) then Some (written + more) else None) }
-    ensures within { IfNone result (written + more ≤ 2 ^ 24) }
-{
-    let total = written.saturating_add(more);
-    if total > OUTPUT { Some(total) } else { None }
-}
-
-/// Whether so many more bytes pass the limit on standard output and standard error together.
-pub fn check_output(io: &Streams, more: u64) -> Result<(), LibAnswer>
-    ensures within { OnOk result (total io.now.output + more ≤ 2 ^ 24) }
-    ensures past { total io.now.output + more < 2 ^ 64 → result ≡
-        (if nat_lt (2 ^ 24) (total io.now.output + more) then Err (answers.Outside Output (total io.now.output + more)) else Ok tt) }
-{
-    match output_past(io.written(), more) {
-        Some(total) => Err(LibAnswer::Outside(Cause::Output, total)),
-        None => Ok(()),
-    }
-}
-
 // putchar: the byte of the number modulo 256, which it gives.
 fn putchar(number: i128, io: &mut Streams, t: &mut Touched) -> Result<Value, LibAnswer>
     requires { t.old ≡ [] }
@@ -176,7 +151,7 @@ fn putchar(number: i128, io: &mut Streams, t: &mut Touched) -> Result<Value, Lib
     ensures same { OnErr result (io.new ≡ io.old) }
     ensures within { AreWithin io.old → AreWithin io.new }
 {
-    let byte = ranges::low_byte(number);
+    let byte = low_byte(number);
     check_output(io, 1)?;
     t.add(Item::Output)?;
     io.put(Stream::Output, &[byte])?;
@@ -254,7 +229,7 @@ fn exit(status: i128, t: &mut Touched) -> Result<Value, LibAnswer>
         Answers (answer_in result) t.new (store_of m io) (called m.rows Exit vs who (store_of m io)) }
 {
     t.add(Item::Ending)?;
-    Err(LibAnswer::End(ranges::low_byte(status)))
+    Err(LibAnswer::End(low_byte(status)))
 }
 
 fn abort(t: &mut Touched) -> Result<Value, LibAnswer>

@@ -53,8 +53,8 @@ use Rattle.mem_spec.specs.Streams.{Io}
 use Rattle.prov_memory.specs.Memory.{Kept, store_of}
 use Rattle.libc_spec.specs.Library.{pointer, Text, read_numbers, is_zero, joined}
 use Rattle.libc_spec.specs.Print.{before_zero, until_most, bounded_from, string_bytes}
-use Rattle.libc_model.specs.declared.arguments.Range.{Range}
-use Rattle.libc_model.specs.Parts.{
+use Rattle.libc_arguments.specs.declared.arguments.Range.{Range}
+use Rattle.libc_arguments.specs.Parts.{
   after,
   CanFollow,
   has_read,
@@ -71,8 +71,8 @@ use Rattle.libc_model.specs.Parts.{
   one_more,
   string_size,
 }
-use Rattle.libc_model.proofs.Scripts.{then, behind, run_then, run_twice, behind_done}
-use Rattle.libc_model.proofs.Parts.{
+use Rattle.libc_arguments.proofs.Scripts.{then, behind, run_then, run_twice, behind_done}
+use Rattle.libc_arguments.proofs.Parts.{
   then_gives,
   then_follows,
   then_raises,
@@ -86,7 +86,7 @@ use Rattle.libc_model.proofs.Parts.{
   units,
   joined_units,
 }
-use Rattle.libc_model.proofs.Reading.{reads_follow}
+use Rattle.libc_arguments.proofs.Reading.{reads_follow}
 use Rattle.libc_print.specs.Strings.{bounded_size, bounded_text}
 use Rattle.libc_print.proofs.Running.{loud, follows_same}
 

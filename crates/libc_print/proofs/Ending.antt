@@ -17,12 +17,12 @@ use Rattle.mem_spec.specs.Streams.{Io, printed_to, total}
 use Rattle.prov_memory.specs.Memory.{Kept, store_of}
 use Rattle.libc_spec.specs.Library.{LibValue, number, pointer, pointer_in, address_in, prov_in, argument_at, text, read_numbers, joined}
 use Rattle.libc_spec.specs.Print.{Argument, print_to}
-use Rattle.libc_model.specs.Answers.{Answers, AreWithin}
-use Rattle.libc_model.specs.Parts.{after, CanFollow, Gives}
-use Rattle.libc_model.proofs.Scripts.{then, run_then, behind_done, run_same, run_twice}
-use Rattle.libc_model.proofs.Answering.{answers_of, address_is}
-use Rattle.libc_model.proofs.Parts.{raises_then, bare_after, after_append, follow_append, joined_append}
-use Rattle.libc_model.proofs.Printing.{wrote, after_wrote, follow_wrote, total_printed, past_split, past_act}
+use Rattle.libc_arguments.specs.Answers.{Answers, AreWithin}
+use Rattle.libc_arguments.specs.Parts.{after, CanFollow, Gives}
+use Rattle.libc_arguments.proofs.Scripts.{then, run_then, behind_done, run_same, run_twice}
+use Rattle.libc_arguments.proofs.Answering.{answers_of, address_is}
+use Rattle.libc_arguments.proofs.Parts.{raises_then, bare_after, after_append, follow_append, joined_append}
+use Rattle.libc_arguments.proofs.Printing.{wrote, after_wrote, follow_wrote, total_printed, past_split, past_act}
 use Rattle.libc_print.specs.Runs.{Prints, printed_text}
 use Rattle.libc_print.specs.Calls.{put_out, printing, limited}
 use Rattle.libc_print.proofs.Printing.{with_format, with_numbers}

@@ -25,10 +25,10 @@ use Rattle.libc_spec.specs.Formatted.{
   printed_to_by,
   stored_by,
 }
-use Rattle.libc_model.specs.Answers.{AreWithin, Answers, GivesMade}
-use Rattle.libc_model.proofs.Living.{no_streams}
+use Rattle.libc_arguments.specs.Answers.{AreWithin, Answers, GivesMade}
+use Rattle.libc_arguments.proofs.Living.{no_streams}
 use Rattle.mem_spec.specs.Streams.{total, silent}
-use Rattle.libc_model.proofs.Keeping.{Only, OnDone, Made, only_then, only_run, ranges_done, output_done, answers_made}
+use Rattle.libc_arguments.proofs.Keeping.{Only, OnDone, Made, only_then, only_run, ranges_done, output_done, answers_made}
 
 print_made : (m : Kept) (to : Stream) (rows : List Row) (format : LibValue) (as' : List Argument) → Only (Made m) (print_to to rows format as')
 print_made m to rows format as' =

@@ -7,4 +7,3 @@ pub mod Stepping
 pub mod Storing
 pub mod Streaming
 pub mod Taking
-pub mod Writing

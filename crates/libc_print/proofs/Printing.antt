@@ -11,11 +11,11 @@ use Rattle.mem_spec.specs.Streams.{Io}
 use Rattle.prov_memory.specs.Memory.{Kept, store_of}
 use Rattle.libc_spec.specs.Library.{Text, text, read_numbers, without_zero}
 use Rattle.libc_spec.specs.Print.{Argument, text_of}
-use Rattle.libc_model.specs.declared.arguments.Range.{Range}
-use Rattle.libc_model.specs.Parts.{after, Gives, Follows, ReadsAll, bytes_of, text_in}
-use Rattle.libc_model.proofs.Scripts.{then, behind, run_then}
-use Rattle.libc_model.proofs.Parts.{then_raises, raises_then}
-use Rattle.libc_model.proofs.Reading.{reads_follow}
+use Rattle.libc_arguments.specs.declared.arguments.Range.{Range}
+use Rattle.libc_arguments.specs.Parts.{after, Gives, Follows, ReadsAll, bytes_of, text_in}
+use Rattle.libc_arguments.proofs.Scripts.{then, behind, run_then}
+use Rattle.libc_arguments.proofs.Parts.{then_raises, raises_then}
+use Rattle.libc_arguments.proofs.Reading.{reads_follow}
 use Rattle.libc_print.specs.Runs.{Prints, printed_text}
 
 -- ---- the format without its zero

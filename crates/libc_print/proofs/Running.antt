@@ -49,15 +49,16 @@ use Rattle.libc_spec.specs.Library.{Text, text, read_numbers, without_zero, join
 use Rattle.libc_spec.specs.Directives as directives
 use Rattle.libc_spec.specs.Directives.{directive_of, form, taken}
 use Rattle.libc_spec.specs.Print.{Argument, Taken, Step, Field, put, step, text_of, field, address_parts, one}
-use Rattle.libc_model.specs.declared.arguments.Range.{Range}
-use Rattle.libc_model.specs.Parts.{after, effect, CanFollow, has_read, Gives, Follows, ReadsAll, bytes_of, text_in}
-use Rattle.libc_model.proofs.Scripts.{behind}
-use Rattle.libc_model.proofs.Parts.{then_gives, then_raises, raises_then, gives_at_once, quiet_starts, after_append, follow_append}
-use Rattle.libc_model.proofs.Reading.{reads_follow}
-use Rattle.libc_print.specs.declared.refusal.Refusal.{Refusal}
-use Rattle.libc_print.specs.declared.refusal.Refusal.TheVariants.{Raise, Outside, NoMemory}
-use Rattle.libc_print.specs.Seen.{digits_of, address_parts_of}
-use Rattle.libc_print.specs.Answers.{PutsBytes, Puts, Steps, answer_of}
+use Rattle.libc_arguments.specs.declared.arguments.Range.{Range}
+use Rattle.libc_arguments.specs.Parts.{after, effect, CanFollow, has_read, Gives, Follows, ReadsAll, bytes_of, text_in}
+use Rattle.libc_arguments.proofs.Scripts.{behind}
+use Rattle.libc_arguments.proofs.Parts.{then_gives, then_raises, raises_then, gives_at_once, quiet_starts, after_append, follow_append}
+use Rattle.libc_arguments.proofs.Reading.{reads_follow}
+use Rattle.libc_directives.specs.declared.refusal.Refusal.{Refusal}
+use Rattle.libc_directives.specs.declared.refusal.Refusal.TheVariants.{Raise, Outside, NoMemory}
+use Rattle.libc_directives.specs.Seen.{digits_of, address_parts_of}
+use Rattle.libc_directives.specs.Answers.{PutsBytes, Puts, answer_of}
+use Rattle.libc_print.specs.Answers.{Steps}
 use Rattle.libc_print.specs.Runs.{Prints, printed_text, Added, Adds, directive_bytes, step_bytes}
 use Rattle.libc_print.proofs.Stepping.{sized_step}
 use Rattle.libc_print.proofs.Printing.{then_passes, with_format, with_numbers, text_without}

@@ -7,9 +7,10 @@ use Rattle.mem_spec.specs.Script.{Script, Give, ◌>>=◌}
 use Rattle.libc_spec.specs.Directives as directives
 use Rattle.libc_spec.specs.Directives.{directive_of, form, Form, taken, left_out, invalid}
 use Rattle.libc_spec.specs.Print.{Argument, Taken, Step, put_formed, step_by, step}
-use Rattle.libc_print.specs.declared.refusal.Refusal.{Refusal}
-use Rattle.libc_print.specs.declared.refusal.Refusal.TheVariants.{Raise, Outside}
-use Rattle.libc_print.specs.Answers.{Steps, IsFormed, answer_of, refusal_of}
+use Rattle.libc_directives.specs.declared.refusal.Refusal.{Refusal}
+use Rattle.libc_directives.specs.declared.refusal.Refusal.TheVariants.{Raise, Outside}
+use Rattle.libc_print.specs.Answers.{Steps, IsFormed, refusal_of}
+use Rattle.libc_directives.specs.Answers.{answer_of}
 
 -- ---- one step
 abbrev pub sized_step : ℕ → Taken (List ℕ) → Script Step

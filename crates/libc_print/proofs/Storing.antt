@@ -95,15 +95,15 @@ use Rattle.libc_spec.specs.Library.{LibValue, number, pointer, pointer_in, argum
 use Rattle.libc_spec.specs.Print.{Argument}
 use Rattle.libc_spec.specs.Formatted as formatted
 use Rattle.libc_spec.specs.Formatted.{short, room, ended, array, Noted, noting, touches, touches_any, placed, store_text, stored_by}
-use Rattle.libc_model.specs.declared.arguments.Range.{Range}
-use Rattle.libc_model.specs.Answers.{Answers, AreWithin}
-use Rattle.libc_model.specs.Parts.{after, CanFollow, Gives, Follows, accessed_if}
-use Rattle.libc_model.specs.Writes.{FillsRange, target_at, write_items, overwritten}
-use Rattle.libc_model.proofs.Scripts.{then, behind, run_then, behind_done}
-use Rattle.libc_model.proofs.Parts.{after_life, joined_append, then_gives, then_raises, raises_then, gives_at_once}
-use Rattle.libc_model.proofs.Answering.{answers_of}
-use Rattle.libc_model.proofs.Writing.{write_run}
-use Rattle.libc_model.proofs.Copying.{writes_apart, writes_joined}
+use Rattle.libc_arguments.specs.declared.arguments.Range.{Range}
+use Rattle.libc_arguments.specs.Answers.{Answers, AreWithin}
+use Rattle.libc_arguments.specs.Parts.{after, CanFollow, Gives, Follows, accessed_if}
+use Rattle.libc_arguments.specs.Writes.{FillsRange, target_at, write_items, overwritten}
+use Rattle.libc_arguments.proofs.Scripts.{then, behind, run_then, behind_done}
+use Rattle.libc_arguments.proofs.Parts.{after_life, joined_append, then_gives, then_raises, raises_then, gives_at_once}
+use Rattle.libc_arguments.proofs.Answering.{answers_of}
+use Rattle.libc_arguments.proofs.Writing.{write_run}
+use Rattle.libc_arguments.proofs.Copying.{writes_apart, writes_joined}
 use Rattle.libc_print.specs.Runs.{Prints, printed_text}
 use Rattle.libc_print.specs.Calls.{limited, short_text}
 use Rattle.libc_print.specs.Stored.{overlaps, noted, storing}

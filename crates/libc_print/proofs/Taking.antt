@@ -7,7 +7,7 @@ use Rattle.c_types.specs.declared.ty.Qual.{Qual, the_lemmas}
 use Rattle.prov_memory.specs.declared.value.Value.{Value}
 use Rattle.libc_spec.specs.Library.{argument_at}
 use Rattle.libc_spec.specs.Print.{same_kind}
-use Rattle.libc_model.specs.Seen.{values_seen}
+use Rattle.libc_arguments.specs.Seen.{values_seen}
 use Rattle.libc_print.specs.Seen.{typed, type_at}
 
 -- the next argument and those behind it

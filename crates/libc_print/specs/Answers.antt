@@ -9,26 +9,10 @@ use Rattle.mem_spec.specs.Script.{Script, Give, Raise as RaiseOf, Exceed}
 use Rattle.libc_spec.specs.Directives as directives
 use Rattle.libc_spec.specs.Directives.{form}
 use Rattle.libc_spec.specs.Print.{Argument, Taken, Step}
-use Rattle.libc_print.specs.Seen.{directive_seen}
-use Rattle.libc_print.specs.declared.directive.Directive.{Directive}
-use Rattle.libc_print.specs.declared.refusal.Refusal.{Refusal}
-use Rattle.libc_print.specs.declared.refusal.Refusal.TheVariants.{Raise, Outside, NoMemory}
-
--- the bytes are added that the script gives, or it is refused as the script says; where memory is wanted nothing is said
-abbrev pub PutsBytes : Result (Unit {0}) Refusal → (old new : List ℕ) → Script (List ℕ) → Type 0
-PutsBytes (Err NoMemory) old new script = Unit {0}
-PutsBytes (Ok u) old new (Give bytes) = new ≡ old ++ bytes
-PutsBytes (Err (Raise c)) old new (RaiseOf d) = c ≡ d
-PutsBytes (Err (Outside c n)) old new (Exceed d m) = (c ≡ d) × (n ≡ m)
-PutsBytes _ old new script = ⊥
-
--- the same for a script that takes arguments, which leaves these
-abbrev pub Puts : Result (Unit {0}) Refusal → (old new : List ℕ) → List Argument → Script (Taken (List ℕ)) → Type 0
-Puts (Err NoMemory) old new rest script = Unit {0}
-Puts (Ok u) old new rest (Give taken) = (new ≡ old ++ taken.item) × (rest ≡ taken.rest)
-Puts (Err (Raise c)) old new rest (RaiseOf d) = c ≡ d
-Puts (Err (Outside c n)) old new rest (Exceed d m) = (c ≡ d) × (n ≡ m)
-Puts _ old new rest script = ⊥
+use Rattle.libc_directives.specs.Seen.{directive_seen}
+use Rattle.libc_directives.specs.declared.directive.Directive.{Directive}
+use Rattle.libc_directives.specs.declared.refusal.Refusal.{Refusal}
+use Rattle.libc_directives.specs.declared.refusal.Refusal.TheVariants.{Raise, Outside, NoMemory}
 
 -- what was taken, with the arguments that are left, as a script
 abbrev pub taken_as : {A B : Type 0} → (A → B) → Result A Clause → List Argument → Script (Taken B)
@@ -38,12 +22,6 @@ taken_as f (Err c) rest = RaiseOf c
 abbrev pub taken : {A : Type 0} → Result A Clause → List Argument → Script (Taken A)
 taken (Ok item) rest = Give (record { item = item; rest = rest })
 taken (Err c) rest = RaiseOf c
-
--- a refusal as the answer of a call
-abbrev pub answer_of : Refusal → LibAnswer
-answer_of (Raise c) = answers.Raise c
-answer_of (Outside c n) = answers.Outside c n
-answer_of NoMemory = answers.NoMemory
 
 -- the conversions whose argument is a pointer, `s` and `p`
 abbrev pub is_pointed : ℕ → Bool

@@ -8,7 +8,7 @@ use Rattle.prov_memory.specs.Memory.{Kept, store_of}
 use Rattle.addr_map.specs.declared.map.Row.{Row}
 use Rattle.exposure.specs.declared.prov.Prov.{Prov}
 use Rattle.mem_spec.specs.Script.{Script, ◌>>=◌, Raised, Outside, run}
-use Rattle.libc_model.specs.Parts.{Gives, after}
+use Rattle.libc_arguments.specs.Parts.{Gives, after}
 use Rattle.libc_spec.specs.Library.{text, read_numbers, without_zero}
 use Rattle.libc_spec.specs.Print.{Argument, Taken, Step, text_of}
 

@@ -6,8 +6,8 @@ use Rattle.prov_memory.specs.Memory.{Kept}
 use Rattle.libc_spec.specs.Formatted as formatted
 use Rattle.libc_spec.specs.Library.{LibValue}
 use Rattle.libc_spec.specs.Formatted.{Noted, noting, touches_any, store_text}
-use Rattle.libc_model.specs.declared.arguments.Range.{Range}
-use Rattle.libc_model.specs.Parts.{accessed_if}
+use Rattle.libc_arguments.specs.declared.arguments.Range.{Range}
+use Rattle.libc_arguments.specs.Parts.{accessed_if}
 use Rattle.libc_print.specs.declared.stored.Placed.{Placed}
 
 abbrev pub placed_seen : Kept → Placed → formatted.Placed

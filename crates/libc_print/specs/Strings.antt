@@ -7,7 +7,7 @@ use Rattle.mem_spec.specs.Script.{Script, ◌>>=◌}
 use Rattle.mem_spec.specs.Acts.{argument}
 use Rattle.libc_spec.specs.Library.{is_zero}
 use Rattle.libc_spec.specs.Print.{bounded_from}
-use Rattle.libc_model.specs.Parts.{one_more}
+use Rattle.libc_arguments.specs.Parts.{one_more}
 
 -- how many bytes are up to and with the first written zero, or as many as are wanted, where so many are left
 abbrev pub bounded_size : (ℕ → TaggedByte) → (wanted left : ℕ) → ℕ → Option ℕ

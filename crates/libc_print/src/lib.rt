@@ -1,10 +1,7 @@
 //! printf, fprintf, sprintf and snprintf (7.21.6): the text of a format and its arguments, and what they answer.
 #![tactic(auto)]
 
-mod directive;
-mod number;
 mod printf;
-mod refusal;
 mod stored;
 mod stream;
 mod strings;

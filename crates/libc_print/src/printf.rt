@@ -5,11 +5,13 @@ ghost use Rattle.addr_map.specs.declared.map.Row.{Row};
 ghost use Rattle.libc_spec.specs.Directives.{directive_of};
 ghost use Rattle.libc_spec.specs.Library.{argument_at};
 ghost use Rattle.libc_spec.specs.Print.{put_byte, put_integer, put_string, put_address, put_sized, put, step, text_of, print_to, printed_by};
-ghost use Rattle.libc_model.specs.Answers.{AreWithin, Answers, GivesMade, HaveCells, answer_in, gives_value};
-ghost use Rattle.libc_model.specs.Parts.{Gives};
-ghost use Rattle.libc_model.specs.Seen.{values_seen};
-ghost use Rattle.libc_print.specs.Seen.{directive_seen, width_seen, left, typed};
-ghost use Rattle.libc_print.specs.Answers.{Puts, IsFormed, is_pointed};
+ghost use Rattle.libc_arguments.specs.Answers.{AreWithin, Answers, GivesMade, HaveCells, answer_in, gives_value};
+ghost use Rattle.libc_arguments.specs.Parts.{Gives};
+ghost use Rattle.libc_arguments.specs.Seen.{values_seen};
+ghost use Rattle.libc_directives.specs.Seen.{directive_seen, width_seen};
+ghost use Rattle.libc_print.specs.Seen.{left, typed};
+ghost use Rattle.libc_directives.specs.Answers.{Puts};
+ghost use Rattle.libc_print.specs.Answers.{IsFormed, is_pointed};
 ghost use Rattle.libc_print.specs.Runs.{Prints, printed_text, Adds, directive_bytes, step_bytes};
 ghost use Rattle.libc_print.specs.Calls.{printing, limited};
 ghost use Rattle.mem_spec.specs.Script.{Script, run};
@@ -17,14 +19,15 @@ ghost use Rattle.mem_spec.specs.Streams.{Io};
 ghost use Rattle.prov_memory.specs.Keeps.{Keeps};
 ghost use Rattle.prov_memory.specs.Memory.{Kept, HasCell, AreKnown, store_of};
 
-use crate::directive::{Directive, Form, behind, directive_of};
-use crate::number::{Width, is_signed, put_address, put_integer, put_one, put_text};
-use crate::refusal::Refusal;
 use crate::strings::string_of;
 use crate::values::{Arguments, take_int, take_integer, take_pointer, take_precision, take_width};
 use c_types::Qual;
-use libc_model::{
+use libc_arguments::{
     Pointer, check_output, check_string, expose, low_byte, numbers, pointer_at, settle,
+};
+use libc_directives::{
+    Directive, Form, Refusal, Width, behind, directive_of, is_signed, put_address, put_integer,
+    put_one, put_text,
 };
 use mem_spec::Stream;
 use prov_memory::{LibAnswer, Memory, Streams, Touched, Value, Values};

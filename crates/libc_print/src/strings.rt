@@ -7,11 +7,11 @@ ghost use Rattle.mem_spec.specs.Streams.{Io};
 ghost use Rattle.prov_memory.specs.Memory.{HasCell};
 ghost use Rattle.libc_spec.specs.Library.{is_zero};
 ghost use Rattle.libc_spec.specs.Print.{before_zero, string_bytes};
-ghost use Rattle.libc_model.specs.Seen.{pointer_seen};
-ghost use Rattle.libc_model.specs.Parts.{Follows, IsShort, byte_at, bytes_if, string_size};
+ghost use Rattle.libc_arguments.specs.Seen.{pointer_seen};
+ghost use Rattle.libc_arguments.specs.Parts.{Follows, IsShort, byte_at, bytes_if, string_size};
 ghost use Rattle.libc_print.specs.Strings.{bounded_size, bounded_text};
 
-use libc_model::{Pointer, Range, add_read, check, check_string, numbers};
+use libc_arguments::{Pointer, Range, add_read, check, check_string, numbers};
 use prov_memory::{LibAnswer, MemByte, Memory, Touched};
 use std::alloc::Global;
 use ub_base::{Clause, ObjName};

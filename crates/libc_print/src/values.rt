@@ -6,15 +6,15 @@ ghost use Rattle.libc_spec.specs.Print.{next_int, next_integer, next_pointer, wi
 ghost use Rattle.libc_spec.specs.Print.{fits_kind, is_target};
 ghost use Rattle.libc_spec.specs.Directives.{most};
 ghost use Rattle.prov_memory.specs.Memory.{Kept, HasCell};
-ghost use Rattle.libc_model.specs.Answers.{HaveCells};
-ghost use Rattle.libc_model.specs.Seen.{pointer_seen, values_seen};
-ghost use Rattle.libc_print.specs.Seen.{count_seen, length_seen, width_seen, argument_of, type_at, left};
+ghost use Rattle.libc_arguments.specs.Answers.{HaveCells};
+ghost use Rattle.libc_arguments.specs.Seen.{pointer_seen, values_seen};
+ghost use Rattle.libc_directives.specs.Seen.{count_seen, length_seen, width_seen};
+ghost use Rattle.libc_print.specs.Seen.{argument_of, type_at, left};
 ghost use Rattle.libc_print.specs.Answers.{taken, taken_as};
 
-use crate::directive::{Count, Length, MOST};
-use crate::number::Width;
 use c_types::{IntKind, Qual, Ty};
-use libc_model::{Pointer, int_at, pointer_at};
+use libc_arguments::{Pointer, int_at, pointer_at};
+use libc_directives::{Count, Length, MOST, Width};
 use prov_memory::Value;
 use ub_base::Clause;
 

@@ -15,13 +15,15 @@ use Rattle.c_types.specs.declared.library.LibFunc.TheVariants.{Malloc, Calloc, R
 use Rattle.c_types.specs.declared.library.LibFunc.TheVariants.{Strchr, Getchar, Putchar, Puts, Printf, Fprintf, Sprintf, Snprintf, Exit, Abort}
 use Rattle.mem_spec.specs.Store.{Store, TaggedByte, Life, is_live}
 use Rattle.mem_spec.specs.Script.{Touch, Ask, Get, Put, Bear, Bury, Show, Find, Settle, Take, Print, Answer, item_of, refuses, refused, answer, left, Script}
-use Rattle.mem_spec.specs.Script.{Give, Raise, Finish, Exceed, Misplace, Do, Act, Done, Raised, Ended, Outside, Unplaced, touched, run, touch, require, ◌>>=◌, ◌>>◌}
+use Rattle.mem_spec.specs.Script.{Give, Raise, Finish, Exceed, Misplace, Do, Act, Done, Raised, Ended, Outside, Unplaced, touched, run, touch, require, ◌>>=◌}
+use Rattle.mem_spec.specs.Script.{◌>>◌}
 use Rattle.mem_spec.specs.Acts.{Accessed, in_row, offset_in, settle_by, the_one_in, argument_object, argument_in, argument, check_writable, is_literal}
 use Rattle.mem_spec.specs.Acts.{is_constant, copy_between, show_each, show_pieces, origins_in, all_written, size_in}
 use Rattle.ub_base.specs.declared.names.Item.{Item}
 use Rattle.libc_spec.specs.Library as lib
 use Rattle.libc_spec.specs.Library.{LibValue, argument_at, address_in, prov_in, integer_in, size_of_value, is_heap_start, start_object, read_numbers, numbers}
-use Rattle.libc_spec.specs.Library.{check_target, bytes_at, write_numbers, until_zero, behind, ends_in_zero, text_at, text_from, text, overlap, low_byte, library}
+use Rattle.libc_spec.specs.Library.{check_target, bytes_at, write_numbers, until_zero, behind, ends_in_zero, text_at, text_from, text, overlap, low_byte}
+use Rattle.libc_spec.specs.Library.{library}
 use Rattle.library_laws.specs.Called.{allocates, takes_format}
 
 -- ---- a script that creates nothing, and ends the run, or passes a limit, only where it may

@@ -14,7 +14,8 @@ use Rattle.c_types.specs.declared.library.LibFunc.TheVariants.{Strchr, Getchar, 
 use Rattle.c_types.specs.Types.{CType}
 use Rattle.mem_spec.specs.declared.stream.Stream.TheVariants as streams
 use Rattle.mem_spec.specs.Store.{Store, TaggedByte, born, range_from, settled}
-use Rattle.mem_spec.specs.Script.{Ask, Get, Put, Bear, Bury, Settle, Script, Give, Misplace, Act, Done, Raised, Ended, Outside, Unplaced, refuses, run, touch, require}
+use Rattle.mem_spec.specs.Script.{Ask, Get, Put, Bear, Bury, Settle, Script, Give, Misplace, Act, Done, Raised, Ended, Outside, Unplaced, refuses, run, touch}
+use Rattle.mem_spec.specs.Script.{require}
 use Rattle.mem_spec.specs.Script.{◌>>=◌, ◌>>◌}
 use Rattle.mem_spec.specs.Acts.{base_in, has_place, size_in}
 use Rattle.libc_spec.specs.Library as lib

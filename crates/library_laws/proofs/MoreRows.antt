@@ -18,7 +18,8 @@ use Rattle.c_types.specs.declared.library.LibFunc.TheVariants.{Malloc, Calloc, R
 use Rattle.c_types.specs.declared.library.LibFunc.TheVariants.{Strchr, Getchar, Putchar, Puts, Printf, Fprintf, Sprintf, Snprintf, Exit, Abort}
 use Rattle.c_types.specs.Types.{CType}
 use Rattle.mem_spec.specs.Store.{Store, TaggedByte, range_from, settled}
-use Rattle.mem_spec.specs.Script.{Ask, Bear, Bury, Get, Put, Settle, Script, Give, Misplace, Act, Done, Raised, Ended, Outside, Unplaced, item_of, left, run, touch}
+use Rattle.mem_spec.specs.Script.{Ask, Bear, Bury, Get, Put, Settle, Script, Give, Misplace, Act, Done, Raised, Ended, Outside, Unplaced, item_of, left, run}
+use Rattle.mem_spec.specs.Script.{touch}
 use Rattle.mem_spec.specs.Script.{touched, require, ◌>>=◌, ◌>>◌}
 use Rattle.mem_spec.specs.Acts.{base_in, has_place, size_in}
 use Rattle.mem_laws.specs.MoreRows.{AreIn, Extends}

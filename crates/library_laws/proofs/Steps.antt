@@ -1,5 +1,6 @@
 -- What the body of a call of a library function does in a run.
-use Rattle.std.proofs.Common.{◌≡◌, ℕ, zero, suc, ◌+◌, ◌^◌, ◌&&◌, Bool, true, false, not, refl, sym, ap, ◌∙◌, subst, List, [], ◌∷◌, map, max, min, Option, Some, None}
+use Rattle.std.proofs.Common.{◌≡◌, ℕ, zero, suc, ◌+◌, ◌^◌, ◌&&◌, Bool, true, false, not, refl, sym, ap, ◌∙◌, subst, List, [], ◌∷◌, map, max, min, Option, Some}
+use Rattle.std.proofs.Common.{None}
 use Rattle.std.proofs.Common.{if◌then◌else◌, is_some, nat_lt}
 use Rattle.std.specs.Prelude.{◌||◌}
 use Rattle.ub_base.specs.declared.clause.Clause.TheVariants.{IncompatibleCall, InvalidPointer}
@@ -277,7 +278,8 @@ module _ (world : World) (st : State) (e : Begun) (u : Place) (g : LibFunc) (ts 
         let trace = entry_of world st.top (Ev u) js ∷ st.trace in
         ap (λ (b : Option Begun). limited world.limits (moved world st (Ev u) (move world st.top b (Ev u)) (result w) s trace)) begun
         ∙ ap (λ (k : Move Local). limited world.limits (moved world st (Ev u) k (result w) s trace)) stays
-        ∙ ap (λ (b : Option Begun). limited world.limits (Running (record { top = next world st.top b (Ev u) (result w); held = st.held; store = s; trace = trace })))
+        ∙ ap (λ (b : Option Begun). limited world.limits
+            (Running (record { top = next world st.top b (Ev u) (result w); held = st.held; store = s; trace = trace })))
         begun
         ∙ ap (λ (d : ℕ). within (limit_passed world.limits d s) (Running after)) (depth_same after.top st.top st.held refl)
 

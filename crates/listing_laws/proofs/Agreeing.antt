@@ -1,5 +1,6 @@
 -- Choices of nodes that aren't evaluated change nothing.
-use Rattle.std.proofs.Common.{◌≡◌, ℕ, suc, ◌+◌, Bool, true, false, not, ◌&&◌, ◌||◌, ◌==◌, if◌then◌else◌, List, [], ◌∷◌, ◌++◌, Option, refl, sym, ap, ap₂, subst, ◌∙◌, inl, inr, true≢false, arith}
+use Rattle.std.proofs.Common.{◌≡◌, ℕ, suc, ◌+◌, Bool, true, false, not, ◌&&◌, ◌||◌, ◌==◌, if◌then◌else◌, List, [], ◌∷◌, ◌++◌, Option, refl, sym, ap, ap₂, subst}
+use Rattle.std.proofs.Common.{◌∙◌, inl, inr, true≢false, arith}
 use Rattle.std.specs.List.{list_all}
 use Rattle.ub_base.specs.declared.clause.Kind.{Kind}
 use Rattle.ub_base.specs.declared.clause.Kind.TheVariants.{Val, Eff, Body}
@@ -7,7 +8,8 @@ use Rattle.c_typed.specs.declared.tree.Place.{Place}
 use Rattle.c_typed.specs.declared.class.Class.{Class}
 use Rattle.c_typed.specs.declared.class.Class.TheVariants.{Comma, Choice, Call}
 use Rattle.c_typed.specs.Tree.{Tree, node, Trees, none, more, size, is_quiet, kinds_of}
-use Rattle.c_typed.specs.Order.{Taken, goes, place, same_place, own_events, own_rule, events, operand_events, is_choice, is_val, is_body, is_last, has, across, upward, in_later, comes, operand_rules, Before, rule, chain, IsPermitted, update_is_open, operand_is_open}
+use Rattle.c_typed.specs.Order.{Taken, goes, place, same_place, own_events, own_rule, events, operand_events, is_choice, is_val, is_body, is_last, has, across}
+use Rattle.c_typed.specs.Order.{upward, in_later, comes, operand_rules, Before, rule, chain, IsPermitted, update_is_open, operand_is_open}
 use Rattle.c_typed.specs.Decide.{has_kind, due_in, due_among, is_before, is_ready, earlier_done, is_permitted, first_place}
 use Rattle.c_model.proofs.Ranks.{lt_lt, ge_lt, if_true, if_false, and_l, and_r, or_cases, eq_eq, events_in}
 use Rattle.c_model.proofs.Decided.{and_b, or_a, or_b, ne_eq, has_due, among_range}
@@ -24,7 +26,8 @@ across_plain : (class : Class) (c d : Option ℕ) (i j : ℕ) → is_choice clas
 across_plain Choice c d i j h = absurd (true≢false h)
 across_plain _ c d i j h = refl
 
-upward_plain : (class : Class) (c d : Option ℕ) (i : ℕ) (last : Bool) (kind : Kind) → is_choice class ≡ false → upward class c i last kind ≡ upward class d i last kind
+upward_plain : (class : Class) (c d : Option ℕ) (i : ℕ) (last : Bool) (kind : Kind) → is_choice class ≡ false →
+    upward class c i last kind ≡ upward class d i last kind
 upward_plain Choice c d i last kind h = absurd (true≢false h)
 upward_plain Comma c d i last Val h = refl
 upward_plain Call c d i last Body h = refl

@@ -1,5 +1,6 @@
 -- A choice that is made at the value of a first operand changes nothing of what is listed up to that value.
-use Rattle.std.proofs.Common.{◌≡◌, ℕ, suc, ◌+◌, ◌<◌, ◌≤◌, Bool, true, false, not, ◌&&◌, ◌||◌, ◌==◌, nat_lt, if◌then◌else◌, List, [], ◌∷◌, ◌++◌, append_assoc, Option, refl, sym, ap, ap₂, subst, ◌∙◌, ◌⊎◌, inl, inr, true≢false, arith}
+use Rattle.std.proofs.Common.{◌≡◌, ℕ, suc, ◌+◌, ◌<◌, ◌≤◌, Bool, true, false, not, ◌&&◌, ◌||◌, ◌==◌, nat_lt, if◌then◌else◌, List, [], ◌∷◌, ◌++◌, append_assoc}
+use Rattle.std.proofs.Common.{Option, refl, sym, ap, ap₂, subst, ◌∙◌, ◌⊎◌, inl, inr, true≢false, arith}
 use Rattle.ub_base.specs.declared.clause.Kind.TheVariants.{Val, Eff, Body}
 use Rattle.c_typed.specs.declared.tree.Place.{Place}
 use Rattle.c_typed.specs.declared.class.Class.{Class}
@@ -101,7 +102,8 @@ module _ (taken later : Taken) (n : ℕ) (agree : (k : ℕ) → (k ≡ n → ⊥
   goes_first : (class : Class) (c : Option ℕ) → goes class c 0 ≡ true
   goes_first class c = or_b (not (is_choice class)) _ refl
 
-  node_shares : (class : Class) (ts : Trees) → due_in taken n (node class ts) x ≡ true → Shares (events taken n (node class ts)) (events later n (node class ts))
+  node_shares : (class : Class) (ts : Trees) → due_in taken n (node class ts) x ≡ true →
+      Shares (events taken n (node class ts)) (events later n (node class ts))
   node_shares class none due = absurd (true≢false (sym (sym (if_false (suc n == n) _ _ (ne_eq (suc n) n (λ e. omega (arith, e)))) ∙ due)))
   node_shares class (more t ts) due =
       let z = size_pos t in

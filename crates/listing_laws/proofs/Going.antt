@@ -1,5 +1,6 @@
 -- A full expression goes along its canonical listing.
-use Rattle.std.proofs.Common.{◌≡◌, ◌≢◌, ℕ, zero, suc, ◌+◌, Bool, true, false, not, ◌||◌, if◌then◌else◌, List, [], ◌∷◌, ◌++◌, append_assoc, append-nil, Option, Some, None, is_some, is_none, refl, sym, ap, ap₂, subst, ◌∙◌, true≢false, arith}
+use Rattle.std.proofs.Common.{◌≡◌, ◌≢◌, ℕ, zero, suc, ◌+◌, Bool, true, false, not, ◌||◌, if◌then◌else◌, List, [], ◌∷◌, ◌++◌, append_assoc, append-nil, Option}
+use Rattle.std.proofs.Common.{Some, None, is_some, is_none, refl, sym, ap, ap₂, subst, ◌∙◌, true≢false, arith}
 use Rattle.ub_base.specs.declared.clause.Kind.{Kind}
 use Rattle.ub_base.specs.declared.clause.Kind.TheVariants.{Val, Eff, Body}
 use Rattle.c_typed.specs.declared.tree.Place.{Place}
@@ -25,7 +26,8 @@ or_false false = refl
 done_as : (world : World) (f : Scene) (e : Begun) (passed ahead : List Place) → StandsAlong world f e None passed ahead → is_done e ≡ has passed
 done_as world f e passed ahead s = λ i u. (sym (s.done u ∙ or_false (is_done e u))) i
 
-first_skipped : (test : Place → Bool) (us vs : List Place) → ((w : Place) → has us w ≡ true → test w ≡ false) → first_place test (us ++ vs) ≡ first_place test vs
+first_skipped : (test : Place → Bool) (us vs : List Place) → ((w : Place) → has us w ≡ true → test w ≡ false) →
+    first_place test (us ++ vs) ≡ first_place test vs
 first_skipped test [] vs f = refl
 first_skipped test (u ∷ us) vs f =
     if_false (test u) _ _ (f u (or_a _ _ (same_place_itself u))) ∙ first_skipped test us vs (λ w h. f w (or_b (same_place w u) _ h))
@@ -99,7 +101,8 @@ module _ (world : World) (f : Scene) (e : Begun) (u : Place) (w : Value) where
   other_node n k ne q = ne (let h : suc n ≡ suc k = ap (λ z. z.node) q in omega (arith, h))
 
   -- what was listed up to u is listed still
-  listed_on : (passed ahead : List Place) → events T 0 (tree_of e.root) ≡ passed ++ u ∷ ahead → (next : List Place) × (events T' 0 (tree_of e.root) ≡ passed ++ u ∷ next)
+  listed_on : (passed ahead : List Place) → events T 0 (tree_of e.root) ≡ passed ++ u ∷ ahead →
+      (next : List Place) × (events T' 0 (tree_of e.root) ≡ passed ++ u ∷ next)
   listed_on passed ahead listed = by_kind u.kind u.node refl refl
     where
       by_kind : (c : Kind) (n : ℕ) → u.kind ≡ c → u.node ≡ n → (next : List Place) × (events T' 0 (tree_of e.root) ≡ passed ++ u ∷ next)

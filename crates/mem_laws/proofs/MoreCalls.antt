@@ -22,7 +22,8 @@ use Rattle.mem_spec.specs.Acts.{is_constant, copy_between, show_each, show_piece
 use Rattle.libc_spec.specs.Library as lib
 use Rattle.libc_spec.specs.Library.{LibValue, argument_at, address_in, prov_in, integer_in, size_of_value, heap_name, heap_kind, is_given, new_object}
 use Rattle.libc_spec.specs.Library.{is_heap_start, start_object, read_numbers, numbers, check_target, bytes_at, write_numbers, until_zero, behind}
-use Rattle.libc_spec.specs.Library.{ends_in_zero, Text, text_at, text_from, text, overlap, low_byte, library, asked, noted, created_within, output_within, called}
+use Rattle.libc_spec.specs.Library.{ends_in_zero, Text, text_at, text_from, text, overlap, low_byte, library, asked, noted, created_within, output_within}
+use Rattle.libc_spec.specs.Library.{called}
 use Rattle.mem_laws.specs.MoreRows.{Extends, AreIn}
 use Rattle.mem_laws.specs.MoreCalls.{ArgumentsIn, AllocatesIn, CallsSame}
 use Rattle.mem_laws.proofs.MoreRows.{row_same}

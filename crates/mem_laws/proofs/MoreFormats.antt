@@ -1,5 +1,6 @@
 -- The scripts of calls with a format under more rows.
-use Rattle.std.proofs.Common.{◌≡◌, ℕ, zero, suc, ◌+◌, ◌-◌, ◌^◌, ◌==◌, Bool, true, false, not, List, [], ◌∷◌, ◌++◌, length, drop, Option, Some, None, refl, ap, ◌∙◌, ℤ, pos, cond, min}
+use Rattle.std.proofs.Common.{◌≡◌, ℕ, zero, suc, ◌+◌, ◌-◌, ◌^◌, ◌==◌, Bool, true, false, not, List, [], ◌∷◌, ◌++◌, length, drop, Option, Some, None, refl, ap}
+use Rattle.std.proofs.Common.{◌∙◌, ℤ, pos, cond, min}
 use Rattle.std.specs.Prelude.{nat_lt}
 use Rattle.std.specs.Ordering.{int_eq}
 use Rattle.ub_base.specs.declared.clause.Clause.{Clause}
@@ -24,7 +25,8 @@ use Rattle.libc_spec.specs.Print.{integer_field, bare, spaced, address_parts}
 use Rattle.libc_spec.specs.Formatted.{formatted, short, short_text, fprintf, room, ended, array, noting, overlaps, placed, store_text, sprintf}
 use Rattle.mem_laws.specs.MoreRows.{Extends, AreIn}
 use Rattle.mem_laws.specs.MoreFormats.{FormattedIn, FormatsSameUnderMore}
-use Rattle.mem_laws.proofs.MoreCalls.{Finds, Blind, Only, IsAccessedIn, blind_same, numbers_read, target, numbers_written, either, argued, text_read, row, shown}
+use Rattle.mem_laws.proofs.MoreCalls.{Finds, Blind, Only, IsAccessedIn, blind_same, numbers_read, target, numbers_written, either, argued, text_read, row}
+use Rattle.mem_laws.proofs.MoreCalls.{shown}
 use Rattle.mem_laws.proofs.MoreCalls.{argument_only, argument_same, text_same}
 
 -- ---- a script that finds nothing by its address, with what holds of its values
@@ -257,7 +259,8 @@ module _ (few more : List Row) (ext : Extends few more) where
   step_alike c cs at given h =
       choose StepIn (c == 37) _ _ _ _ (directive_alike (directive_of cs) at given h) (gives StepIn (record { bytes = c ∷ []; len = 0; rest = given }) h)
 
-  text_of_alike : (fuel at : ℕ) (cs : List ℕ) (given : List Argument) → FormattedIn few given → Alike Any (text_of fuel few at cs given) (text_of fuel more at cs given)
+  text_of_alike : (fuel at : ℕ) (cs : List ℕ) (given : List Argument) → FormattedIn few given →
+      Alike Any (text_of fuel few at cs given) (text_of fuel more at cs given)
   text_of_alike zero at cs given h = record { same = refl; fits = tt }
   text_of_alike (suc fuel) at [] given h = record { same = refl; fits = tt }
   text_of_alike (suc fuel) at (c ∷ cs) given h =

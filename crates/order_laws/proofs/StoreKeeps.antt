@@ -21,7 +21,8 @@ use Rattle.c_model.specs.Machine.{Machine, Does, Diff, Apart, alter, clash_one, 
 use Rattle.c_model.specs.MachineLaws.{StoreLaws}
 use Rattle.c_model.specs.ModelMachine.{done_by, frame_machine}
 use Rattle.order_laws.specs.StoreParts.{Part, life_of, is_known, is_exposed, byte_of, is_found, kept_for, kept_away, the_input, the_position, the_output}
-use Rattle.order_laws.specs.StoreParts.{Seen, a_life, a_truth, a_byte, an_object, some_bytes, some_outputs, a_number, look, alters, Fact, was_shown, was_settled}
+use Rattle.order_laws.specs.StoreParts.{Seen, a_life, a_truth, a_byte, an_object, some_bytes, some_outputs, a_number, look, alters, Fact, was_shown}
+use Rattle.order_laws.specs.StoreParts.{was_settled}
 use Rattle.order_laws.specs.StoreParts.{counts, store_parts}
 use Rattle.order_laws.specs.StoreParts.{counted_after}
 use Rattle.order_laws.specs.Asking.{ActsCount}

@@ -1,5 +1,6 @@
 -- What comes next is permitted, and not the first of the two events while the second waits.
-use Rattle.std.proofs.Common.{◌≡◌, ◌∙◌, ◌<◌, ◌^◌, ℕ, zero, suc, drop, sym, ap, subst, refl, List, [], ◌∷◌, ◌++◌, append_assoc, append-nil, Bool, true, false, not, ◌&&◌, ◌||◌}
+use Rattle.std.proofs.Common.{◌≡◌, ◌∙◌, ◌<◌, ◌^◌, ℕ, zero, suc, drop, sym, ap, subst, refl, List, [], ◌∷◌, ◌++◌, append_assoc, append-nil, Bool, true, false}
+use Rattle.std.proofs.Common.{not, ◌&&◌, ◌||◌}
 use Rattle.std.specs.Prelude.{Option, Some, None, if◌then◌else◌}
 use Rattle.ub_base.proofs.Tests.{and_left, and_right, not_true, some_is, if_true}
 use Rattle.c_typed.specs.declared.tree.Place.{Place}

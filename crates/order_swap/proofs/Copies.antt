@@ -1,5 +1,6 @@
 -- Rows that are copied one by one.
-use Rattle.std.proofs.Common.{◌≡◌, ◌∙◌, ◌<◌, ◌≤◌, ◌+◌, ◌-◌, ℕ, suc, zero, sym, ap, subst, refl, List, [], ◌∷◌, ◌++◌, length, get_or, take, Option, Some, arith, add-one}
+use Rattle.std.proofs.Common.{◌≡◌, ◌∙◌, ◌<◌, ◌≤◌, ◌+◌, ◌-◌, ℕ, suc, zero, sym, ap, subst, refl, List, [], ◌∷◌, ◌++◌, length, get_or, take, Option, Some, arith}
+use Rattle.std.proofs.Common.{add-one}
 use Rattle.std.specs.Prelude.{slice_get, Contains}
 use Rattle.ub_base.specs.Frames.{Row, IsFrameList}
 

@@ -1,5 +1,6 @@
 -- The turn of two events in an order (own).
-use Rattle.std.specs.Prelude.{◌≡◌, ◌<◌, ◌^◌, ◌++◌, ℕ, suc, Bool, false, true, ◌&&◌, ◌||◌, ◌==◌, List, [], ◌∷◌, map, drop, slice_get, Option, Some, if◌then◌else◌}
+use Rattle.std.specs.Prelude.{◌≡◌, ◌<◌, ◌^◌, ◌++◌, ℕ, suc, Bool, false, true, ◌&&◌, ◌||◌, ◌==◌, List, [], ◌∷◌, map, drop, slice_get, Option, Some}
+use Rattle.std.specs.Prelude.{if◌then◌else◌}
 use Rattle.ub_base.specs.declared.names.Event.{Event}
 use Rattle.ub_base.specs.declared.names.Frame.{Frame}
 use Rattle.c_typed.specs.declared.tree.Place.{Place}

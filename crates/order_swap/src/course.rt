@@ -11,8 +11,8 @@ use addr_map::{AddrMap, Mode};
 use c_typed::Place;
 use core_ir::CoreProgram;
 use prov_memory::{Memory, Outputs};
-use run_acts::start_bytes;
 use run_machine::{Halt, MOST_CREATED, Machine, Pick, canonical, code_of, prepare, single};
+use run_standing::start_bytes;
 use std::alloc::Global;
 use ub_base::{Bytes, Cause, Clause, Event, Frame, Frames, NoMemory};
 

@@ -12,7 +12,7 @@ use Rattle.c_typed.specs.declared.tree.Place.{Place}
 use Rattle.c_typed.specs.Order.{place}
 use Rattle.c_typed.specs.Tree.{size, is_quiet}
 use Rattle.libc_spec.specs.Library.{LibValue, argument_at, integer_in}
-use Rattle.libc_model.specs.Answers.{are_sizes, is_size, size_places}
+use Rattle.libc_arguments.specs.Answers.{are_sizes, is_size, size_places}
 use Rattle.c_model.specs.Libraries.{passed}
 use Rattle.c_model.specs.Program.{Expr, expr, Exprs, Head, none, more, tree_of}
 use Rattle.c_model.specs.Steps.{Begun, Scene, at_node, quiet_value, values_of}

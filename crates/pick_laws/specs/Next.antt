@@ -26,7 +26,8 @@ use Rattle.run_laws.specs.Calls.{HasPlaces}
 use Rattle.run_laws.specs.Open.{IsOpen}
 use Rattle.run_facts.specs.Going.{IsGoing}
 
--- 1. One that isn't a body. The full expression of the top frame is open as picks ask it, and an address finds an object among the memory's rows just where it does among the world's.
+-- 1. One that isn't a body. The full expression of the top frame is open as picks ask it, and an address finds an object among
+-- the memory's rows just where it does among the world's.
 abbrev pub EventIsNext : Type 0
 EventIsNext =
     (world : World) (p : Program) (numbers : Numbers) (m : Machine) (st : State) (n : ℕ) (e : Begun) (s : Stage) (laid : Laid) (firsts : List ℕ)

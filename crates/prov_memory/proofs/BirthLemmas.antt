@@ -1,5 +1,6 @@
 -- What a new object keeps of a memory.
-use Rattle.std.proofs.Common.{◌≡◌, ℕ, zero, suc, ◌+◌, ◌-◌, ◌*◌, ◌/◌, ◌%◌, ◌≤◌, ◌<◌, ◌^◌, Bool, true, false, not, ◌&&◌, ◌||◌, cond, refl, sym, ap, ◌∙◌, subst, arith}
+use Rattle.std.proofs.Common.{◌≡◌, ℕ, zero, suc, ◌+◌, ◌-◌, ◌*◌, ◌/◌, ◌%◌, ◌≤◌, ◌<◌, ◌^◌, Bool, true, false, not, ◌&&◌, ◌||◌, cond, refl, sym, ap, ◌∙◌, subst}
+use Rattle.std.proofs.Common.{arith}
 use Rattle.std.proofs.Common.{List, [], ◌∷◌, ◌++◌, length, map, Option, Some, None}
 use Rattle.std.specs.Prelude.{is_some, option_map, IfSome, IfOk, OnOk, OnErr, Result, Ok, Err, ◌==◌}
 use Rattle.std.proofs.Math.Nat.{mod-eq-sub-div-mul, div-mul-le_self, mod-lt}
@@ -142,7 +143,8 @@ pub row_left : (old new : Kept) (x : ObjName) (base size align : ℕ) → record
 row_left old new x base size align rest is rows = (
   true,
   ap (λ (m : Kept). record m { rows = new.rows; created = 2 ^ 62 }) rest
-      ∙ ap (λ (rs : List Row). record old { rows = rs; created = 2 ^ 62 }) (rows ∙ ap (λ (b : ℕ). rows_with (row_of old.rows x) (row_at x b size align) old.rows) is),
+      ∙ ap (λ (rs : List Row). record old { rows = rs; created = 2 ^ 62 })
+          (rows ∙ ap (λ (b : ℕ). rows_with (row_of old.rows x) (row_at x b size align) old.rows) is),
 )
 
 -- ---- a new object

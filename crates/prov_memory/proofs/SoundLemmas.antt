@@ -343,7 +343,8 @@ held_last : (hs : List Held) (h : Held) → is_some (held_of (hs ++ h ∷ []) h.
 held_last [] h = rw (same_object_refl h.name) refl
 held_last (g ∷ hs) h = some_either (same_object g.name h.name) g (held_of (hs ++ h ∷ []) h.name) (held_last hs h)
 
-pub born_made : (old new : Kept) (x : ObjName) (base size align : ℕ) (kind : ObjKind) (declared : Option Shape) → IsBorn old new x base size align kind declared →
+pub born_made : (old new : Kept) (x : ObjName) (base size align : ℕ) (kind : ObjKind) (declared : Option Shape) →
+    IsBorn old new x base size align kind declared →
     StayMade old new
 born_made old new x base size align kind declared b =
     let one = newborn x base size kind declared b.objects.0 in
@@ -360,7 +361,8 @@ some_held : (b : Bool) (h : Held) → is_some (cond b (Some h) None) ≡ true �
 some_held true h e = refl
 some_held false h e = absurd (cc)
 
-held_first : (b : Bool) (g : Held) (o p : Option Held) (P : Type 0) → (is_some (cond b (Some g) o) ≡ true → P) → ((is_some o ≡ true → P) → is_some p ≡ true → P) →
+held_first : (b : Bool) (g : Held) (o p : Option Held) (P : Type 0) → (is_some (cond b (Some g) o) ≡ true → P) →
+    ((is_some o ≡ true → P) → is_some p ≡ true → P) →
     is_some (cond b (Some g) p) ≡ true → P
 held_first true g o p P old next e = old refl
 held_first false g o p P old next e = next old e

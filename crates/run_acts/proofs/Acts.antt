@@ -17,7 +17,7 @@ use Rattle.prov_memory.specs.declared.answer.MemFault.TheVariants as faults
 use Rattle.prov_memory.specs.declared.value.Value.{Value as Held}
 use Rattle.prov_memory.specs.declared.value.Value.TheVariants as values
 use Rattle.prov_memory.specs.Loads.{IfPointer, IfRaise}
-use Rattle.run_acts.specs.Views.{value_in}
+use Rattle.run_values.specs.Views.{value_in}
 
 -- ---- an act whose value is made into another
 pub done_give : {A B : Type 0} (rows : List Row) (p : Script A) (f : A → B) (s t : Store) (v : A) (items : List Item) → run rows p s ≡ Done v items t →

@@ -28,7 +28,7 @@ use Rattle.prov_memory.specs.Pieces.{seen}
 use Rattle.c_model.specs.Nodes.{part_of, read_part, part_pointer}
 use Rattle.c_model.specs.Values.{Int, Ptr, Fun, Nothing, part_bytes, moved_source}
 use Rattle.run_acts.specs.Parts.{integer_part, function_part}
-use Rattle.run_acts.specs.Views.{value_in}
+use Rattle.run_values.specs.Views.{value_in}
 use Rattle.run_acts.proofs.Acts.{as_pointer, done_give, raised_give}
 
 pub seen_part : (m : Kept) (cs : List Cell) (from len : ℕ) → seen m (take len (drop from cs)) ≡ part_bytes from len (seen m cs)

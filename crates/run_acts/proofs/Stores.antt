@@ -1,6 +1,6 @@
 -- Stores as acts of nodes.
-use Rattle.std.proofs.Common.{◌≡◌, ℕ, ◌<◌, ◌^◌, Bool, true, false, not, refl, sym, ap, subst, ◌∙◌, arith, ℤ, pos, List, []}
-use Rattle.std.specs.Prelude.{Result, Ok, Err, OnOk, IfOk, IfErr}
+use Rattle.std.proofs.Common.{◌≡◌, ℕ, Bool, true, false, not, refl, sym, ap, subst, ◌∙◌, List, []}
+use Rattle.std.specs.Prelude.{Result, Ok, Err, OnOk, IfErr}
 use Rattle.std.proofs.lemmas.List.{append-nil}
 use Rattle.ub_base.specs.declared.clause.Clause.{Clause}
 use Rattle.ub_base.specs.declared.clause.Clause.TheVariants.{OverlappingAssignment}
@@ -9,7 +9,6 @@ use Rattle.ub_base.specs.declared.names.Event.{Event}
 use Rattle.addr_map.specs.declared.map.Row.{Row}
 use Rattle.c_types.specs.Types.{CType}
 use Rattle.c_typed.specs.declared.tree.Access.{Access}
-use Rattle.mem_spec.specs.Bytes.{low_bits}
 use Rattle.mem_spec.specs.Store.{Store}
 use Rattle.mem_spec.specs.Script.{Script, Act, Give, Done, Raised, run, require, ◌>>◌}
 use Rattle.prov_memory.specs.declared.answer.MemFault.{MemFault}
@@ -24,7 +23,7 @@ use Rattle.prov_memory.specs.Pieces.{IsMadeValue}
 use Rattle.prov_memory.proofs.AccessLemmas.{done_then, raised_then, raised_first}
 use Rattle.c_model.specs.Values.{Value, Nothing, Pointer, pointer_of}
 use Rattle.c_model.specs.Nodes.{load, put_whole}
-use Rattle.run_acts.specs.Views.{value_in}
+use Rattle.run_values.specs.Views.{value_in}
 
 -- ---- what holds where a call succeeds, or where it raises
 pub ok_then : {V E : Type 0} (r : Result V E) (P Q : Type 0) → (P → Q) → OnOk r P → OnOk r Q
@@ -38,10 +37,6 @@ err_then (Err e) P Q f p = f e p
 pub raise_then : (e : MemFault) (P Q : Clause → Type 0) → ((c : Clause) → P c → Q c) → IfRaise e P → IfRaise e Q
 raise_then (faults.Raise c) P Q f p = f c p
 raise_then faults.NoMemory P Q f p = tt
-
-pub given_then : {V E : Type 0} (r : Result V E) (P Q : V → Type 0) → ((v : V) → P v → Q v) → IfOk r P → IfOk r Q
-given_then (Ok v) P Q f p = f v p
-given_then (Err e) P Q f p = tt
 
 pub faults_then : {V : Type 0} (r : Result V MemFault) (P Q : Clause → Type 0) → ((c : Clause) → P c → Q c) → IfErr r (λ e. IfRaise e P)
     → IfErr r (λ e. IfRaise e Q)
@@ -103,10 +98,6 @@ overlap_raised rows p true s t items is e = raised_then rows p (λ (u : Unit {0}
 pub unstored_raised : (rows : List Row) (p : Script (Unit {0})) (b : Bool) (s : Store) (c : Clause) → run rows p s ≡ Raised c →
     run rows (p >> (require (not b) OverlappingAssignment >> Give Nothing)) s ≡ Raised c
 unstored_raised rows p b s c e = raised_first rows p (λ (u : Unit {0}). checked b) s c e
-
--- ---- the bytes of an address
-pub low_address : (z : ℤ) (a : ℕ) → z ≡ pos a → a < 2 ^ 64 → low_bits z ≡ a
-low_address z a e lt = rw e (omega arith)
 
 -- a load by an access is that of the access that it is
 pub loaded_by : (rows : List Row) (who : Event) (a b : Access) (ty : CType) (p : Pointer) (s : Store) (o : Act Value) → a ≡ b →

@@ -25,7 +25,7 @@ use Rattle.prov_memory.specs.Made.{IsMade}
 use Rattle.prov_memory.proofs.AccessLemmas.{done_then, raised_then, raised_first}
 use Rattle.c_model.specs.Nodes.{load, operated, outcome, or_zero, changed, check_change, distance, given_back, update_value}
 use Rattle.c_model.specs.Values.{Value, Int, Ptr, Pointer, pointer_of, pointer_value}
-use Rattle.run_acts.specs.Views.{value_in}
+use Rattle.run_values.specs.Views.{value_in}
 use Rattle.run_acts.proofs.Acts.{done_give, raised_give, as_pointer}
 
 -- ---- of an integer

@@ -1,15 +1,5 @@
-pub mod Views
 pub mod Loads
 pub mod Parts
-pub mod Stores
 pub mod Calls
 pub mod Updates
-pub mod Fills
 pub mod Scripts
-pub mod Kept
-pub mod Contents
-pub mod Starting
-pub mod Standing
-pub mod Outcomes
-pub mod Sums
-pub mod Viewed

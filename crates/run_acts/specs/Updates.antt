@@ -4,7 +4,7 @@ use Rattle.c_typed.specs.declared.tree.Change.{Change}
 use Rattle.c_typed.specs.declared.tree.Change.TheVariants as change
 use Rattle.prov_memory.specs.Memory.{Kept, HasCell}
 use Rattle.prov_memory.specs.Sound.{IsSound}
-use Rattle.run_acts.specs.declared.values.Pointer.{Pointer}
+use Rattle.run_values.specs.declared.values.Pointer.{Pointer}
 
 -- so many elements of this size are fewer than 2^127 bytes
 abbrev pub IsNear : (size : ℕ) → (index : ℤ) → Type 0

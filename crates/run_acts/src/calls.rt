@@ -15,14 +15,14 @@ ghost use Rattle.mem_spec.specs.Script.{run};
 ghost use Rattle.mem_spec.specs.Store.{Store};
 ghost use Rattle.prov_memory.specs.Memory.{Kept, act_of};
 ghost use Rattle.run_acts.specs.Calls.{AreFunctions, AgreesAsCompatible, call_checks, checked_call, left_of, type_by};
-ghost use Rattle.run_acts.specs.Kept.{IsOf};
-ghost use Rattle.run_acts.specs.Views.{value_in, value_result};
+ghost use Rattle.run_values.specs.Kept.{IsOf};
+ghost use Rattle.run_values.specs.Views.{value_in, value_result};
 
-use crate::values::as_integer;
 use c_typed::{Function, Program};
 use c_types::{FuncTy, Ty, compatible_functions};
 use prov_memory::Value;
 use run_objects::function_address;
+use run_values::as_integer;
 use ub_base::Clause;
 
 /// The number of the function that a call through this address and type calls: 6.5.3.2p4 where no function that is

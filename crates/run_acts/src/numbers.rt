@@ -16,14 +16,14 @@ ghost use Rattle.prov_memory.specs.Made.{IsMade};
 ghost use Rattle.prov_memory.specs.Pieces.{IsMadeValue};
 ghost use Rattle.prov_memory.specs.Memory.{Kept, AreKnown, act_of, store_of};
 ghost use Rattle.run_acts.specs.Scripts.{exposed_act, found_act, aligned_act};
-ghost use Rattle.run_acts.specs.Kept.{IsOf};
-ghost use Rattle.run_acts.specs.Views.{value_in, value_result, pointer_at};
+ghost use Rattle.run_values.specs.Kept.{IsOf};
+ghost use Rattle.run_values.specs.Views.{value_in, value_result, pointer_at};
 
-use crate::values::{Pointer, as_function, as_integer, as_pointer, truth};
 use c_arith::{apply, complement, is_operand, negate};
 use c_typed::{Conversion, EqOp, UnOp};
 use c_types::{BinOp, IntKind};
 use prov_memory::{MemFault, Memory, Touched, Value};
+use run_values::{Pointer, as_function, as_integer, as_pointer, truth};
 use ub_base::{Clause, Event, NoMemory};
 
 /// The value of a conversion (6.3), or 6.3.2.3p7.

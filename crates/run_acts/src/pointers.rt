@@ -15,16 +15,16 @@ ghost use Rattle.prov_memory.specs.Memory.{HasCell, AreKnown, act_of, store_of};
 ghost use Rattle.prov_memory.specs.Pieces.{IsMadeValue};
 ghost use Rattle.prov_memory.specs.Sound.{IsSound};
 ghost use Rattle.run_acts.specs.Scripts.{holds_in, less_act};
-ghost use Rattle.run_acts.specs.Kept.{IsOf};
+ghost use Rattle.run_values.specs.Kept.{IsOf};
 ghost use Rattle.run_acts.specs.Updates.{CanChange, IsNear, IsNearChange};
-ghost use Rattle.run_acts.specs.Views.{value_in, value_result, place_result, pointer_at};
+ghost use Rattle.run_values.specs.Views.{value_in, value_result, place_result, pointer_at};
 
 use crate::numbers::{binary, flag};
-use crate::values::{Pointer, as_integer, as_pointer};
 use c_typed::{Change, RelOp};
 use c_types::{BinOp, IntKind, Ty};
 use exposure::Prov;
 use prov_memory::{MemFault, Memory, Touched, Value};
+use run_values::{Pointer, as_integer, as_pointer};
 use std::cmp::Ordering;
 use ub_base::{Clause, Event};
 

@@ -1,10 +1,9 @@
-// Loads, stores, members of values, and constant bytes.
-ghost use Rattle.std.specs.Prelude.{◌≡◌, length, map, replicate, ◌∷◌, List, [], ◌++◌, IfOk, IfErr, OnOk};
+// Loads, stores, and members of values.
+ghost use Rattle.std.specs.Prelude.{◌≡◌, length, List, [], ◌++◌, IfOk, IfErr, OnOk};
 ghost use Rattle.c_model.specs.Nodes as nodes;
-ghost use Rattle.c_model.specs.Nodes.{content_bytes, overlap_inexactly};
+ghost use Rattle.c_model.specs.Nodes.{overlap_inexactly};
 ghost use Rattle.c_model.specs.Program.{Filling as Filled};
-ghost use Rattle.c_model.specs.Values as model;
-ghost use Rattle.c_model.specs.Values.{Nothing, address_after, int_bytes, part_bytes};
+ghost use Rattle.c_model.specs.Values.{Nothing, int_bytes, part_bytes};
 ghost use Rattle.c_types.specs.Types.{CType, type_of};
 ghost use Rattle.mem_spec.specs.Acts as acts;
 ghost use Rattle.mem_spec.specs.Acts.{Seen};
@@ -15,31 +14,27 @@ ghost use Rattle.mem_spec.specs.Streams.{Io};
 ghost use Rattle.prov_memory.specs.Loads.{IfRaise};
 ghost use Rattle.prov_memory.specs.Made.{AreNamed, IsMade};
 ghost use Rattle.prov_memory.specs.Keeps.{Keeps, IsNumbered};
-ghost use Rattle.prov_memory.specs.Memory.{Kept, HasCell, AreKnown, CellsKnown, store_of};
-ghost use Rattle.prov_memory.specs.Cells.{plain_cell};
-ghost use Rattle.prov_memory.specs.Pieces.{seen, value_bytes};
+ghost use Rattle.prov_memory.specs.Memory.{HasCell, AreKnown, CellsKnown, store_of};
+ghost use Rattle.prov_memory.specs.Pieces.{seen};
 ghost use Rattle.prov_memory.specs.Stores.{Sees};
 ghost use Rattle.prov_memory.specs.Sound.{IsSound};
 ghost use Rattle.prov_memory.specs.Tags.{AreTagged, CellsTagged};
 ghost use Rattle.exposure.specs.declared.prov.Prov.{Prov};
 ghost use Rattle.exposure.specs.declared.prov.Prov.TheVariants.{Whole};
-ghost use Rattle.run_acts.specs.Contents.{address_of, content_of, filled_by, AddsFilling, IsPlaced, CanHold, CanHoldAll};
-ghost use Rattle.run_acts.specs.Fills.{AreFillings, filling_act};
+ghost use Rattle.run_values.specs.Fills.{AreFillings, filling_act};
 ghost use Rattle.run_acts.specs.Loads.{integer_act, pointer_act, function_act, whole_act};
-ghost use Rattle.run_acts.specs.Kept.{AreOf, IsOf};
+ghost use Rattle.run_values.specs.Kept.{AreOf, IsOf};
 ghost use Rattle.run_acts.specs.Parts.{integer_part, function_part};
-ghost use Rattle.run_acts.specs.Stores.{CanStore, SeesAs};
-ghost use Rattle.run_acts.specs.Views.{value_in, pointer_at};
+ghost use Rattle.run_values.specs.Stores.{CanStore, SeesAs};
+ghost use Rattle.run_values.specs.Views.{value_in, pointer_at};
 
-use crate::initial::Places;
-use crate::values::{Pointer, as_function, as_integer, as_pointer};
-use c_typed::{Access, Constant, Content, Target};
+use c_typed::Access;
 use c_types::{IntKind, Ty};
 use exposure::Prov;
-use prov_memory::{Block, MemByte, MemFault, Memory, Touched, Value, Via};
-use run_objects::function_address;
+use prov_memory::{Block, MemFault, Memory, Touched, Value, Via};
+use run_values::{Filling, Pointer, as_function, as_integer, as_pointer};
 use std::alloc::Global;
-use ub_base::{Clause, Event, Items, NoMemory, ObjName};
+use ub_base::{Clause, Event};
 
 /// The value at a place (6.3.2.1p2). `ty` is its type where it is a pointer or a function pointer.
 pub fn load(
@@ -378,108 +373,6 @@ fn overlaps(source: Option<u64>, addr: u64, size: u64) -> bool
     }
 }
 
-/// Bytes at an offset of an object.
-#[derive(Drop)]
-pub struct Filling {
-    pub at: u64,
-    pub bytes: Block,
-}
-
-/// The bytes of constants, addresses as pieces of pointers to the objects that they name.
-pub fn fillings(
-    alloc: Global,
-    m: &Memory,
-    places: &Places,
-    constants: &[Constant],
-) -> Result<Items<Filling>, NoMemory>
-    ensures exact { AreNamed m.now → CanHoldAll m.now places.now constants.now → IfOk result (λ fs. AreFillings m.now fs (map filled_by constants.now)) }
-    ensures made { AreNamed m.now → CanHoldAll m.now places.now constants.now → IfOk result (AreOf m.now) }
-{
-    let mut all = Items::new(alloc);
-    for constant in constants {
-        add_filling(alloc, m, places, constant, &mut all)?;
-    }
-    Ok(all)
-}
-
-// Adds the bytes of a constant.
-fn add_filling(
-    alloc: Global,
-    m: &Memory,
-    places: &Places,
-    constant: &Constant,
-    all: &mut Items<Filling>,
-) -> Result<(), NoMemory>
-    ensures { OnOk result (AddsFilling m.now places.now constant.now all.old all.new) }
-{
-    let bytes = content(alloc, m, places, &constant.content)?;
-    all.push(Filling {
-        at: constant.at,
-        bytes,
-    })?;
-    Ok(())
-}
-
-fn content(alloc: Global, m: &Memory, places: &Places, content: &Content) -> Result<Block, NoMemory>
-    ensures bytes { AreNamed m.now → CanHold m.now places.now content.now →
-        IfOk result (λ b. seen m.now b.cells ≡ content_bytes m.now.rows (content_of content.now)) }
-    ensures known { AreNamed m.now → CanHold m.now places.now content.now → IfOk result (λ b. CellsKnown (length m.now.origins) b.cells) }
-    ensures tagged { AreNamed m.now → CanHold m.now places.now content.now → IfOk result (λ b. CellsTagged (length m.now.types) b.cells) }
-{
-    match content {
-        Content::Zeros(count) => zeros(alloc, *count),
-        Content::Bytes(bytes) => written(alloc, bytes.as_slice()),
-        Content::Address { target, offset } => {
-            let value = address(places, *target, *offset);
-            m.bytes_of(alloc, &value, 8)
-        }
-    }
-}
-
-// Adds a byte that is no piece of a pointer.
-fn push_plain(block: &mut Block, number: u8) -> Result<(), NoMemory>
-    ensures { OnOk result (block.new.cells ≡ block.old.cells ++ plain_cell number ∷ []) }
-{
-    block.push(MemByte::Written {
-        number,
-        piece: None,
-    })
-}
-
-/// So many zero bytes.
-pub fn zeros(alloc: Global, count: u64) -> Result<Block, NoMemory>
-    ensures { IfOk result (λ b. b.cells ≡ map plain_cell (replicate count 0)) }
-{
-    let mut block = Block::new(alloc);
-    for _turn in 0..count {
-        push_plain(&mut block, 0)?;
-    }
-    Ok(block)
-}
-
-/// These bytes, which are pieces of no pointer.
-pub fn written(alloc: Global, bytes: &[u8]) -> Result<Block, NoMemory>
-    ensures { IfOk result (λ b. b.cells ≡ map plain_cell bytes.now) }
-{
-    let mut block = Block::new(alloc);
-    for byte in bytes {
-        push_plain(&mut block, *byte)?;
-    }
-    Ok(block)
-}
-
-// The value of an address constant (6.6p9).
-fn address(places: &Places, target: Target, offset: u64) -> Value
-    ensures bytes { (m : Kept) → IsPlaced m places.now target → value_bytes m 8 result ≡ content_bytes m.rows (address_of target offset) }
-    ensures made { (m : Kept) → IsPlaced m places.now target → IsOf m result }
-{
-    match target {
-        Target::Static(object) => places.object(object, offset).value(),
-        Target::Literal(literal) => places.literal(literal, offset).value(),
-        Target::Function(function) => Value::Int(i128::from(function_address(function))),
-    }
-}
-
 /// Stores the bytes in an object as its initialization (6.7.9). `spare` is overwritten.
 pub fn fill(
     m: &mut Memory,
@@ -530,14 +423,4 @@ fn fill_one(
     )?;
     t.join(spare)?;
     Ok(())
-}
-
-/// A pointer to an object that is known by its name and its address.
-pub fn pointer_to(name: ObjName, addr: u64, offset: u64) -> Pointer
-    ensures { pointer_at result ≡ record { address = address_after addr offset; prov = Whole name } }
-{
-    Pointer {
-        addr: addr.saturating_add(offset),
-        prov: Prov::Whole(name),
-    }
 }

@@ -67,7 +67,8 @@ use Rattle.run_answers.specs.Answering.{Answers}
 use Rattle.run_answers.specs.Completing.{CompletesAfter, CompletesEvent, CompletesPick, EventCompletes}
 use Rattle.run_answers.specs.Ending.{Notes, NotesIn, NotesWay}
 use Rattle.run_answers.specs.Picks.{at_cursor, event_at}
-use Rattle.run_answers.specs.Taking.{AnswersEvent, AnswersTaken, Decides, DecidesBy, EventComes, EventStands, EventSteps, FollowsEvent, IsAt, IsPast, IsTaken, MayTake, TakesEvent, after_event, past_event, passed_stage, staged, store_after}
+use Rattle.run_answers.specs.Taking.{AnswersEvent, AnswersTaken, Decides, DecidesBy, EventComes, EventStands, EventSteps, FollowsEvent, IsAt, IsPast, IsTaken}
+use Rattle.run_answers.specs.Taking.{MayTake, TakesEvent, after_event, past_event, passed_stage, staged, store_after}
 use Rattle.run_answers.proofs.Taken.{event_seen}
 
 -- ---- the cursor
@@ -236,7 +237,8 @@ module _ (steps : EventSteps) (world : World) (meaning : Option ℕ → Meaning)
       ChangesOnly past done d.place.node d.act → (gives_value d.act ≡ false → done.values ≡ past.values) → (r : Result Pick Halt) →
       FollowsEvent now.code.now who status d done new r → AnswersTaken world meaning m st e s laid d.place r new (step world st (Ev d.place))
   performed status none done new did changes effect (Ok (pick.Event event completed ended)) f =
-      subst (λ (o : Option ℕ). AnswersTaken world meaning m st e s laid d.place (Ok (pick.Event event completed o)) new (step world st (Ev d.place))) (sym (f.1 ∙ none))
+      subst (λ (o : Option ℕ). AnswersTaken world meaning m st e s laid d.place (Ok (pick.Event event completed o)) new (step world st (Ev d.place)))
+          (sym (f.1 ∙ none))
       (λ rows. comes done f.2.noted new did.0 did.1 changes effect f.2.notes f.2.decides rows)
   performed status none done new did changes effect (Ok (pick.Starts event)) f = absurd f
   performed status none done new did changes effect (Ok (pick.Step ended)) f = absurd f

@@ -190,7 +190,8 @@ module _ (trees : TreesAreKept) (starts : StandsAtStart) (world : World) (meanin
   -- the machine is so
   opened_is : opened ≡ record before {
     below = opened.below;
-    top = started_on there t.who (Some number) starts_so.opens.code.blocks starts_so.opens.code.expressions there.above (min (there.above + starts_so.opens.code.objects) (2 ^ 64 - 1));
+    top = started_on there t.who (Some number) starts_so.opens.code.blocks starts_so.opens.code.expressions there.above
+        (min (there.above + starts_so.opens.code.objects) (2 ^ 64 - 1));
     work = opened.work;
     values = passed.values;
     locals = opened.locals;
@@ -199,7 +200,8 @@ module _ (trees : TreesAreKept) (starts : StandsAtStart) (world : World) (meanin
       starts_so.opens.rest
       ∙ ap (λ (k : Machine). record k {
         below = opened.below;
-        top = started_on k.top t.who (Some number) starts_so.opens.code.blocks starts_so.opens.code.expressions k.top.above (min (k.top.above + starts_so.opens.code.objects) (2 ^ 64 - 1));
+        top = started_on k.top t.who (Some number) starts_so.opens.code.blocks starts_so.opens.code.expressions k.top.above
+            (min (k.top.above + starts_so.opens.code.objects) (2 ^ 64 - 1));
         work = opened.work;
         locals = opened.locals;
       }) starts_so.rest

@@ -45,7 +45,7 @@ use Rattle.c_model.specs.Nodes as nodes
 use Rattle.c_model.specs.Program.{Filling}
 use Rattle.c_model.specs.Values as model
 use Rattle.c_model.specs.Values.{Value, Int, Ptr, Fun, Pointer, Nothing, pointer_value, integer_of, pointer_of, function_in, int_bytes, address_after}
-use Rattle.run_acts.specs.Contents.{filled_by}
+use Rattle.run_values.specs.Contents.{filled_by}
 use Rattle.run_layout.specs.declared.steps.Act.{Act as Node_act}
 use Rattle.run_layout.specs.declared.steps.Act.TheVariants as act
 use Rattle.run_layout.specs.declared.steps.Operand.{Operand}

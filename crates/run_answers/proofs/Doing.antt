@@ -17,10 +17,10 @@ use Rattle.prov_memory.specs.Memory.{Kept, HasCell, store_of}
 use Rattle.prov_memory.specs.Pieces.{IsMadeValue}
 use Rattle.c_model.specs.Values as model
 use Rattle.c_model.specs.Values.{Value, or_nothing, pointer_of, pointer_value}
-use Rattle.run_acts.specs.declared.values.Pointer.{Pointer}
-use Rattle.run_acts.specs.Kept.{IsOf}
-use Rattle.run_acts.specs.Views.{value_in, pointer_at}
-use Rattle.run_acts.proofs.Keeping.{seen_pointer}
+use Rattle.run_values.specs.declared.values.Pointer.{Pointer}
+use Rattle.run_values.specs.Kept.{IsOf}
+use Rattle.run_values.specs.Views.{value_in, pointer_at}
+use Rattle.run_values.proofs.Keeping.{seen_pointer}
 use Rattle.run_layout.specs.declared.steps.Act.{Act}
 use Rattle.run_layout.specs.declared.steps.Operand.{Operand}
 use Rattle.run_state.specs.declared.machine.Machine.{Machine}

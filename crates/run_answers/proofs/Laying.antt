@@ -1,5 +1,6 @@
 -- What code that is laid out says of the rooms of updates.
-use Rattle.std.proofs.Common.{◌≡◌, ℕ, zero, suc, ◌+◌, ◌-◌, ◌<◌, ◌≤◌, ◌^◌, min, Bool, true, false, refl, sym, ap, ◌∙◌, subst, arith, List, [], ◌∷◌, length, take, drop, Option, Some, slice_get, pos, ℤ, if◌then◌else◌}
+use Rattle.std.proofs.Common.{◌≡◌, ℕ, zero, suc, ◌+◌, ◌-◌, ◌<◌, ◌≤◌, ◌^◌, min, Bool, true, false, refl, sym, ap, ◌∙◌, subst, arith, List, [], ◌∷◌, length, take}
+use Rattle.std.proofs.Common.{drop, Option, Some, slice_get, pos, ℤ, if◌then◌else◌}
 use Rattle.std.specs.Borrow.{Bor}
 use Rattle.std.specs.Prelude.{◌&&◌, ◌==◌, unsigned_abs}
 use Rattle.std.proofs.lemmas.Option.{same_Some}

@@ -350,7 +350,8 @@ module _ (trees : TreesAreKept) (keeps_at : KeepsAtEvent) (gives : RoomGives) (b
     above_same old.top there st.top then_frame (reverse old.below.items) (map (λ h. (h.0, Some h.1)) st.held)
         (record { base = refl; node = refl; function = refl; locals = refl; above = refl; first_block = refl })
         (record { path = refl; home = refl; blocks = refl }) t.stood.stands.frames.1,
-    frames_under world old end there did.kept old.top.base height low chosen.others (λ j other ne at. noting.others j ne ∙ at) meaning old.top st.top (reverse old.below.items)
+    frames_under world old end there did.kept old.top.base height low chosen.others (λ j other ne at. noting.others j ne ∙ at) meaning old.top st.top
+        (reverse old.below.items)
         old.work.below st.held (let n = length-reverse old.below.items in omega (arith, n)) (omega arith) t.stood.stands.frames.1 t.stood.below
         t.stood.stands.frames.2,
   )

@@ -24,8 +24,8 @@ use Rattle.prov_memory.specs.Keeps.{RowsStay}
 use Rattle.prov_memory.specs.Memory.{Kept, store_of}
 use Rattle.prov_memory.specs.Sound.{IsSound}
 use Rattle.libc_spec.specs.Library.{LibValue, heap_name, prov_in}
-use Rattle.libc_model.specs.Answers.{ArgumentsMade}
-use Rattle.libc_model.specs.Seen.{values_seen}
+use Rattle.libc_arguments.specs.Answers.{ArgumentsMade}
+use Rattle.libc_arguments.specs.Seen.{values_seen}
 use Rattle.c_model.specs.Libraries.{passed, result}
 use Rattle.c_model.specs.Runs.{Running, State, limit_passed, step}
 use Rattle.c_model.specs.Steps.{Begun, Ev, Scene, event_of}

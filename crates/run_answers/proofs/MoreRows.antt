@@ -43,7 +43,7 @@ use Rattle.c_model.specs.Nodes as nodes
 use Rattle.c_model.specs.Program.{Filling}
 use Rattle.c_model.specs.Values as model
 use Rattle.c_model.specs.Values.{Value, Int, Ptr, Fun, Pointer, Nothing, pointer_value, integer_of, pointer_of, function_in, int_bytes, address_after}
-use Rattle.libc_model.proofs.Scripts.{then as onward, behind, run_then}
+use Rattle.libc_arguments.proofs.Scripts.{then as onward, behind, run_then}
 use Rattle.mem_laws.specs.MoreRows.{Extends, StandIn, BearsIn, AreIn}
 use Rattle.mem_laws.proofs.MoreRows.{run_same, access_same, row_same}
 use Rattle.mem_laws.proofs.MoreActs.{bears_accessed, bears_from, bears_shift}

@@ -42,10 +42,10 @@ use Rattle.c_model.proofs.Ranks.{if_true, if_false, lt_lt, ge_lt}
 use Rattle.program_view.specs.Trees as trees
 use Rattle.program_view.specs.Trees.{constant_head, expr_of, exprs_of, filling_of, is_pointer}
 use Rattle.program_view.proofs.Seen.{node_in, operands_in, own_type, head_in, expr_at, size_at, by_size, same_tree}
-use Rattle.run_acts.specs.Contents as contents
-use Rattle.run_acts.specs.Contents.{filled_by}
+use Rattle.run_values.specs.Contents as contents
+use Rattle.run_values.specs.Contents.{filled_by}
 use Rattle.run_acts.specs.Updates.{IsNear, IsNearChange}
-use Rattle.run_acts.specs.Views.{value_in}
+use Rattle.run_values.specs.Views.{value_in}
 use Rattle.run_layout.specs.declared.nodes.NodeInfo.{NodeInfo}
 use Rattle.run_layout.specs.declared.steps.Act.{Act}
 use Rattle.run_layout.specs.declared.steps.Act.TheVariants as act

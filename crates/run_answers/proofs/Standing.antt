@@ -1,5 +1,6 @@
 -- A machine stands as it stood where its memory goes on, and what else changes is of the full expression of its top frame.
-use Rattle.std.proofs.Common.{◌≡◌, ◌≢◌, ℕ, ◌+◌, ◌<◌, ◌≤◌, Bool, true, false, refl, sym, ap, ◌∙◌, subst, arith, List, [], ◌∷◌, ◌++◌, length, map, Option, Some, None, slice_get}
+use Rattle.std.proofs.Common.{◌≡◌, ◌≢◌, ℕ, ◌+◌, ◌<◌, ◌≤◌, Bool, true, false, refl, sym, ap, ◌∙◌, subst, arith, List, [], ◌∷◌, ◌++◌, length, map, Option, Some}
+use Rattle.std.proofs.Common.{None, slice_get}
 use Rattle.std.specs.Borrow.{Bor}
 use Rattle.std.specs.Prelude.{is_some}
 use Rattle.std.specs.List.{All}
@@ -32,16 +33,16 @@ use Rattle.c_model.specs.Nodes.{content_bytes}
 use Rattle.c_model.specs.Steps.{Begun, Local, Scene, auto_name}
 use Rattle.c_model.specs.Values.{Value}
 use Rattle.c_model.specs.World.{World}
-use Rattle.run_acts.specs.declared.storage.Filling.{Filling}
-use Rattle.run_acts.specs.declared.initial.Places.{Places}
-use Rattle.run_acts.specs.Contents.{address_of, content_of, filled_by, CanHold, CanHoldAll, IsPlaced}
-use Rattle.run_acts.specs.Fills.{AreFillings}
-use Rattle.run_acts.specs.Kept.{AreOf}
-use Rattle.run_acts.specs.Stores.{SeesAs}
-use Rattle.run_acts.proofs.Keeping.{fillings_stay}
-use Rattle.run_acts.specs.Starting.{ArePlaced}
-use Rattle.run_acts.proofs.Starting.{can_hold_all, placed_still}
-use Rattle.run_acts.proofs.Statics.{named_still}
+use Rattle.run_values.specs.declared.filling.Filling.{Filling}
+use Rattle.run_values.specs.declared.places.Places.{Places}
+use Rattle.run_values.specs.Contents.{address_of, content_of, filled_by, CanHold, CanHoldAll, IsPlaced}
+use Rattle.run_values.specs.Fills.{AreFillings}
+use Rattle.run_values.specs.Kept.{AreOf}
+use Rattle.run_values.specs.Stores.{SeesAs}
+use Rattle.run_values.proofs.Keeping.{fillings_stay}
+use Rattle.run_values.specs.Placed.{ArePlaced}
+use Rattle.run_values.proofs.Placed.{can_hold_all, placed_still}
+use Rattle.run_values.proofs.Placed.{named_still}
 use Rattle.run_layout.specs.declared.steps.Listed.{Listed}
 use Rattle.run_layout.specs.declared.steps.StoreCode.{StoreCode}
 use Rattle.run_layout.specs.declared.whole.Code.{Code}

@@ -19,9 +19,9 @@ use Rattle.prov_memory.specs.Pieces.{seen}
 use Rattle.prov_memory.specs.Tags.{CellsTagged}
 use Rattle.prov_memory.proofs.ProvLemmas.{prov_more}
 use Rattle.c_model.specs.Values.{Value, Whole}
-use Rattle.run_acts.specs.Kept.{IsOf}
-use Rattle.run_acts.specs.Views.{value_in}
-use Rattle.run_acts.proofs.Keeping.{values_stay}
+use Rattle.run_values.specs.Kept.{IsOf}
+use Rattle.run_values.specs.Views.{value_in}
+use Rattle.run_values.proofs.Keeping.{values_stay}
 use Rattle.run_state.specs.Stands.{Holds}
 
 -- ---- types keep their numbers

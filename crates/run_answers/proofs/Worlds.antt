@@ -31,7 +31,7 @@ use Rattle.c_typed.specs.declared.tree.Target.TheVariants as target
 use Rattle.c_model.specs.Nodes.{content_bytes}
 use Rattle.c_model.specs.Program.{Object_at}
 use Rattle.c_model.specs.Values.{Value, address_after, pointer_of}
-use Rattle.run_acts.specs.Contents.{address_of, content_of, filled_by, CanHold, CanHoldAll, IsPlaced, StandsAt}
+use Rattle.run_values.specs.Contents.{address_of, content_of, filled_by, CanHold, CanHoldAll, IsPlaced, StandsAt}
 use Rattle.run_layout.specs.declared.steps.Act.{Act}
 use Rattle.run_layout.specs.declared.steps.Act.TheVariants as act
 use Rattle.run_layout.specs.declared.steps.Operand.{Operand}

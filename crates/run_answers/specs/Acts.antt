@@ -27,10 +27,10 @@ use Rattle.c_model.specs.Nodes.{
   update_value,
 }
 use Rattle.c_model.specs.Values.{Pointer, Value, Nothing, integer_of, pointer_of, or_nothing, truth}
-use Rattle.run_acts.specs.Contents.{filled_by}
-use Rattle.run_acts.specs.Kept.{IsOf}
+use Rattle.run_values.specs.Contents.{filled_by}
+use Rattle.run_values.specs.Kept.{IsOf}
 use Rattle.run_acts.specs.Updates.{IsNear, IsNearChange}
-use Rattle.run_acts.specs.Views.{value_in}
+use Rattle.run_values.specs.Views.{value_in}
 use Rattle.run_layout.specs.declared.steps.Act.{Act}
 use Rattle.run_layout.specs.declared.steps.Act.TheVariants as act
 use Rattle.run_layout.specs.declared.steps.Operand.{Operand}

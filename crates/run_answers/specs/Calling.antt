@@ -14,7 +14,7 @@ use Rattle.c_model.specs.Program.{Function}
 use Rattle.c_model.specs.Steps.{function_of}
 use Rattle.c_model.specs.Values.{function_in}
 use Rattle.run_acts.specs.Calls.{AgreesAsCompatible, AreFunctions, type_by}
-use Rattle.run_acts.specs.Views.{value_in}
+use Rattle.run_values.specs.Views.{value_in}
 use Rattle.run_layout.specs.declared.steps.CallCode.{CallCode}
 use Rattle.run_layout.specs.declared.steps.Operand.{Operand}
 use Rattle.run_state.specs.declared.machine.Machine.{Machine}

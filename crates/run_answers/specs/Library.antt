@@ -11,7 +11,7 @@ use Rattle.c_typed.specs.declared.tree.Place.{Place}
 use Rattle.mem_laws.specs.MoreRows.{Extends}
 use Rattle.prov_memory.specs.declared.value.Value.{Value as Kept_value}
 use Rattle.libc_spec.specs.Library.{LibValue, heap_name}
-use Rattle.libc_model.specs.Seen.{values_seen}
+use Rattle.libc_arguments.specs.Seen.{values_seen}
 use Rattle.c_model.specs.Libraries.{passed, result}
 use Rattle.c_model.specs.Program.{Call, expr, Exprs}
 use Rattle.c_model.specs.Runs.{Entry, Outcome, Raises, Over, No_row, Ends, Running, State, canonical_pick, library_of, step}

@@ -15,8 +15,8 @@ use Rattle.prov_memory.specs.Keeps.{AreBare, Keeps}
 use Rattle.prov_memory.specs.Sound.{IsSound}
 use Rattle.prov_memory.specs.Tags.{AreTagged}
 use Rattle.libc_spec.specs.Library.{LibValue, argument_at, integer_in}
-use Rattle.libc_model.specs.Answers.{Answers, ArgumentsMade, GivesMade, are_sizes, is_size, size_places}
-use Rattle.libc_model.specs.Seen.{values_seen}
+use Rattle.libc_arguments.specs.Answers.{Answers, ArgumentsMade, GivesMade, are_sizes, is_size, size_places}
+use Rattle.libc_arguments.specs.Seen.{values_seen}
 use Rattle.c_model.specs.Libraries.{result}
 use Rattle.library_laws.specs.Called.{called_with}
 use Rattle.run_layout.specs.declared.steps.Operand.{Operand}

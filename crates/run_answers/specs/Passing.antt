@@ -22,8 +22,8 @@ use Rattle.c_model.specs.Nodes.{overlap_inexactly}
 use Rattle.c_model.specs.Program.{Decl}
 use Rattle.c_model.specs.Values as model
 use Rattle.c_model.specs.Values.{Pointer, Value, Nothing, address_after}
-use Rattle.run_acts.specs.Kept.{IsOf}
-use Rattle.run_acts.specs.Views.{value_in}
+use Rattle.run_values.specs.Kept.{IsOf}
+use Rattle.run_values.specs.Views.{value_in}
 use Rattle.run_layout.specs.declared.steps.ObjectCode.{ObjectCode}
 use Rattle.run_state.specs.declared.machine.Local.{Local}
 use Rattle.run_state.specs.declared.machine.Machine.{Machine}

@@ -18,8 +18,8 @@ use Rattle.prov_memory.specs.Sound.{IsSound}
 use Rattle.prov_memory.specs.Tags.{AreTagged}
 use Rattle.c_model.specs.Nodes.{changed}
 use Rattle.c_model.specs.Values.{Value, Nothing, integer_of}
-use Rattle.run_acts.specs.declared.values.Pointer.{Pointer as Place}
-use Rattle.run_acts.specs.Kept.{IsOf}
+use Rattle.run_values.specs.declared.values.Pointer.{Pointer as Place}
+use Rattle.run_values.specs.Kept.{IsOf}
 use Rattle.run_layout.specs.declared.steps.Act.{Act}
 use Rattle.run_layout.specs.declared.steps.Act.TheVariants as act
 use Rattle.run_state.specs.declared.machine.Machine.{Machine}

@@ -12,7 +12,7 @@ use Rattle.c_model.specs.Values.{integer_of, truth}
 use Rattle.c_model.specs.World.{World}
 use Rattle.c_typed.specs.Tree.{is_quiet}
 use Rattle.program_view.specs.Trees.{expr_of}
-use Rattle.run_acts.specs.Views.{value_in}
+use Rattle.run_values.specs.Views.{value_in}
 use Rattle.run_control.specs.declared.statement.Statement.{Statement}
 use Rattle.run_control.specs.declared.work.Use.{Use}
 use Rattle.run_control.specs.declared.work.Use.TheVariants as for_use

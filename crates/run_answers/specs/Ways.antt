@@ -2,7 +2,7 @@
 use Rattle.std.specs.Prelude.{◌≡◌, ℕ, Bool, List, Some, slice_get}
 use Rattle.prov_memory.specs.declared.value.Value.{Value as Kept_value}
 use Rattle.c_model.specs.Values.{truth}
-use Rattle.run_acts.specs.Views.{value_in}
+use Rattle.run_values.specs.Views.{value_in}
 use Rattle.run_layout.specs.declared.steps.Choice.{Choice}
 use Rattle.run_layout.specs.declared.tables.Tables.{Tables}
 use Rattle.run_layout.specs.declared.whole.Code.{Code}

@@ -67,7 +67,8 @@ impl<'p> Draft<'p> {
         ensures fit { (p : ProgramOf) → TreeFits p root.now → AreFit p self.old.expressions.tables → OnOk result (AreFit p self.new.expressions.tables) }
         ensures grown { OnOk result (AreGrown self.old.expressions.tables self.new.expressions.tables) }
         ensures objects { OnOk result (self.new.function.objects.first.items ≡ self.old.function.objects.first.items) }
-        ensures added { OnOk result (AddsExpression self.old.function.objects.first.items root.now self.new.expressions.tables self.old.expressions.laid self.new.expressions.laid) }
+        ensures added { OnOk result
+            (AddsExpression self.old.function.objects.first.items root.now self.new.expressions.tables self.old.expressions.laid self.new.expressions.laid) }
     {
         let mut nodes = Vec::new(self.alloc);
         let mut counts = Counts {

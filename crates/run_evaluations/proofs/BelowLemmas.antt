@@ -1,5 +1,6 @@
 -- The first conflict of events with those of a list.
-use Rattle.std.proofs.Common.{◌≡◌, ◌⊎◌, ⊎_elim, ℕ, ◌≤◌, ◌<◌, ◌+◌, ◌^◌, Bool, true, false, List, length, refl, sym, ap, ◌∙◌, arith, below_more, Option, Some, None, Result, Ok, Err, subst}
+use Rattle.std.proofs.Common.{◌≡◌, ◌⊎◌, ⊎_elim, ℕ, ◌≤◌, ◌<◌, ◌+◌, ◌^◌, Bool, true, false, List, length, refl, sym, ap, ◌∙◌, arith, below_more, Option, Some}
+use Rattle.std.proofs.Common.{None, Result, Ok, Err, subst}
 use Rattle.std.specs.Prelude.{slice_get, IfNone, IfOk}
 use Rattle.std.proofs.lemmas.Option.{slice_get_past, slice_get_within, same_Some}
 use Rattle.ub_base.specs.declared.names.ObjName.{ObjName}
@@ -31,7 +32,8 @@ abbrev pub Within : (ℕ → Found → Type 0) → (from n : ℕ) → Found → 
 Within Q from n f = (i : ℕ) × (from ≤ i) × (i < n) × Q i f
 
 -- accesses that race conflict, wherever objects stand
-access_conflict : (stands other : ObjName → ℕ → Bool) (i j : Item) → is_access i ≡ true → is_access j ≡ true → items_conflict stands i j ≡ items_conflict other i j
+access_conflict : (stands other : ObjName → ℕ → Bool) (i j : Item) → is_access i ≡ true → is_access j ≡ true →
+    items_conflict stands i j ≡ items_conflict other i j
 access_conflict stands other (Read x a n) (Read y b m) h k = refl
 access_conflict stands other (Read x a n) (Write y b m) h k = refl
 access_conflict stands other (Write x a n) (Read y b m) h k = refl

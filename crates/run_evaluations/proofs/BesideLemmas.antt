@@ -1,5 +1,6 @@
 -- Beside an end of the run: the first conflict of the last evaluation with another event, done or still to come.
-use Rattle.std.proofs.Common.{◌≡◌, ◌⊎◌, inl, inr, ⊎_elim, ℕ, zero, suc, ◌≤◌, ◌<◌, ◌+◌, ◌-◌, nat_lt, ◌==◌, Bool, true, false, not, ◌&&◌, ◌||◌, List, [], ◌∷◌, length}
+use Rattle.std.proofs.Common.{◌≡◌, ◌⊎◌, inl, inr, ⊎_elim, ℕ, zero, suc, ◌≤◌, ◌<◌, ◌+◌, ◌-◌, nat_lt, ◌==◌, Bool, true, false, not, ◌&&◌, ◌||◌, List, [], ◌∷◌}
+use Rattle.std.proofs.Common.{length}
 use Rattle.std.proofs.Common.{refl, sym, ap, ◌∙◌, arith, Option, Some, None, subst, if◌then◌else◌}
 use Rattle.std.specs.Prelude.{slice_get}
 use Rattle.std.specs.Option.{option_or}
@@ -9,7 +10,8 @@ use Rattle.std.specs.Ordering.{nat_cmp, ordering_then, MatchOrdering}
 use Rattle.std.proofs.lemmas.Cmp.{ranked, tied_itself, nat_cmp_total}
 use Rattle.std.proofs.lemmas.Option.{slice_get_within, same_Some}
 use Rattle.ub_base.proofs.NameLemmas.{same_kind_is, same_kind_refl}
-use Rattle.ub_base.proofs.Tests.{false_from, if_true, if_false, less_test, not_less_test, number_other, number_equal, number_self, and_both, and_parts, or_left, or_right, or_cases}
+use Rattle.ub_base.proofs.Tests.{false_from, if_true, if_false, less_test, not_less_test, number_other, number_equal, number_self, and_both, and_parts, or_left}
+use Rattle.ub_base.proofs.Tests.{or_right, or_cases}
 use Rattle.ub_base.specs.declared.clause.Kind.{Kind}
 use Rattle.ub_base.specs.declared.clause.Kind.TheVariants.{Val, Eff, Body}
 use Rattle.ub_base.specs.declared.names.Event.{Event}
@@ -46,7 +48,8 @@ use Rattle.evaluation_search.specs.First.{IsFirst, IsFirstOf, sought_of}
 use Rattle.evaluation_search.proofs.BetweenFirst.{least_like}
 use Rattle.evaluation_search.proofs.FirstLemmas.{alike, both, counts_same, event_itself}
 use Rattle.run_evaluations.specs.declared.open.Evaluations.{Evaluations}
-use Rattle.run_evaluations.specs.Ends.{begin_of, events_from, is_value, is_value_kind, HasValue, IsBeside, IsBesideSome, IsDependence, IsDone, IsInValue, last_has}
+use Rattle.run_evaluations.specs.Ends.{begin_of, events_from, is_value, is_value_kind, HasValue, IsBeside, IsBesideSome, IsDependence, IsDone, IsInValue}
+use Rattle.run_evaluations.specs.Ends.{last_has}
 use Rattle.run_evaluations.specs.Ends.{top_event}
 use Rattle.run_evaluations.specs.First.{IsConflictIn, IsConflictOf, IsOnce, SequencesNone, event_by, event_in, expression_in}
 use Rattle.run_evaluations.specs.FirstAtEnd.{AllSequenceNone, AreOfWay, IsConflictAtEnd, IsConflictBeside, done_has, has_at_end}
@@ -57,7 +60,8 @@ use Rattle.run_evaluations.specs.Told.{Evaluation, Opened, has, IsOperandIn, IsU
 use Rattle.run_evaluations.proofs.FirstLemmas.{apart_two, expression_is, from_log, once_log}
 use Rattle.run_evaluations.proofs.FrameLemmas.{named_all, top_there}
 use Rattle.run_evaluations.proofs.PartLemmas.{by_test, among_range, due_at, number_is, part_range, root_part, side_at, side_part, size_some}
-use Rattle.run_evaluations.proofs.PendingLemmas.{Fork, LoudFork, due_high, fork, lefts_nearest, lefts_there, logged_last, operand_due, rights_nearest, rights_there}
+use Rattle.run_evaluations.proofs.PendingLemmas.{Fork, LoudFork, due_high, fork, lefts_nearest, lefts_there, logged_last, operand_due, rights_nearest}
+use Rattle.run_evaluations.proofs.PendingLemmas.{rights_there}
 use Rattle.run_evaluations.proofs.ShowLemmas.{InLog, in_log, side_order}
 use Rattle.run_evaluations.proofs.ToldLemmas.{due_part}
 
@@ -162,7 +166,8 @@ module _ (s : Scope) (rules : Rules) (free_is : (n : ℕ) → SequencesNone s n 
       due_up s.taken 0 s.tree l.top value last (node l.class l.operands) l.here (omega (arith, b)) within_top (omega (arith, low)) l.high due due_top
 
   operand_value : IsOperandOf s l.top l.class l.operands l.loud.index own.number
-  operand_value = record { side = own; there = l.loud.there; number = refl; goes = goes_on l.class (s.taken l.top) l.loud.index open_here.0; loud = l.loud.loud }
+  operand_value = record { side = own; there = l.loud.there; number = refl; goes = goes_on l.class (s.taken l.top) l.loud.index open_here.0; loud =
+      l.loud.loud }
 
   operand_last : IsOperandOf s l.top l.class l.operands l.index l.second.number
   operand_last = operand_due s still last due l.top l.class l.operands l.here l.index l.second l.at l.low_second l.high_second
@@ -508,7 +513,8 @@ module _ (frames : List FrameRow) (rows : List Row) (a : Evaluations) (t : Opene
         let high = last_due in
         ⊎_elim
         (λ less.
-        let r = lefts_nearest t.scope rules g.other last.place forked less (size t.scope.tree) 0 t.scope.tree (omega arith) (root_part 0 t.scope.tree) (omega arith)
+        let r = lefts_nearest t.scope rules g.other last.place forked less (size t.scope.tree) 0 t.scope.tree (omega arith) (root_part 0 t.scope.tree)
+            (omega arith)
         (omega (arith, top, high)) in
         let le = r.2 in
         inl ((fork_left t.scope rules g.other last.place forked less).0, (r.0, r.1, omega (arith, le, first))))
@@ -648,7 +654,8 @@ module _ (frames : List FrameRow) (rows : List Row) (a : Evaluations) (t : Opene
       left_some z h =
           let less = stands_before.0 in
           let m = same_node in
-          let dep = dependence_like frames rows (top_event a x Val) (event_in t (place x Val)) (top_event a e.node e.kind) (event_in t last.place) (holds h.foot)
+          let dep = dependence_like frames rows (top_event a x Val) (event_in t (place x Val)) (top_event a e.node e.kind) (event_in t last.place)
+              (holds h.foot)
           (has_at_end t (place x Val)) (last_has a) (has last) z (named_top x Val) last_name (foot_is x h.foot h.has) last_is
           (h.before (omega (arith, less, m))) in (
             record {

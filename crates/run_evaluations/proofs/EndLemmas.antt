@@ -83,7 +83,8 @@ depends_by frames rows d v e u f h g k p (Some x) dv eu fh gk least none some = 
 }
 
 -- where nothing is logged
-pub none_there : (rows : List Row) (o : Evaluations) (node : ℕ) → None ≡ place_of (slice_get o.events.items (length o.events.items - 1)) → NoneBeside rows o node
+pub none_there : (rows : List Row) (o : Evaluations) (node : ℕ) → None ≡ place_of (slice_get o.events.items (length o.events.items - 1)) →
+    NoneBeside rows o node
 none_there rows o node h = record {
   any = λ i j c. no_event j c.1;
   done = λ k d i j c. no_event j c.1;

@@ -1,11 +1,13 @@
 -- What doesn't clash at an end of the run: evaluations of operands on the way, and what may still come beside the last one.
-use Rattle.std.proofs.Common.{◌≡◌, ◌⊎◌, inl, inr, ⊎_elim, ℕ, zero, suc, ◌≤◌, ◌<◌, ◌+◌, ◌-◌, nat_lt, ◌==◌, Bool, true, false, not, ◌&&◌, ◌||◌, List, [], ◌∷◌, ◌++◌, length}
+use Rattle.std.proofs.Common.{◌≡◌, ◌⊎◌, inl, inr, ⊎_elim, ℕ, zero, suc, ◌≤◌, ◌<◌, ◌+◌, ◌-◌, nat_lt, ◌==◌, Bool, true, false, not, ◌&&◌, ◌||◌, List, [], ◌∷◌}
+use Rattle.std.proofs.Common.{◌++◌, length}
 use Rattle.std.proofs.Common.{refl, sym, ap, ◌∙◌, arith, Option, Some, None, subst, if◌then◌else◌, length-append}
 use Rattle.std.specs.Prelude.{slice_get}
 use Rattle.std.specs.Option.{option_or}
 use Rattle.std.proofs.lemmas.Bool.Decides.{nat_tests}
 use Rattle.std.proofs.lemmas.Option.{slice_get_within, same_Some}
-use Rattle.ub_base.proofs.Tests.{if_true, if_false, less_test, not_less_test, less_is, number_other, number_equal, number_self, and_both, and_parts, or_left, or_right}
+use Rattle.ub_base.proofs.Tests.{if_true, if_false, less_test, not_less_test, less_is, number_other, number_equal, number_self, and_both, and_parts, or_left}
+use Rattle.ub_base.proofs.Tests.{or_right}
 use Rattle.ub_base.specs.declared.clause.Kind.{Kind}
 use Rattle.ub_base.specs.declared.clause.Kind.TheVariants.{Val, Eff, Body}
 use Rattle.ub_base.specs.declared.names.Item.{Item}
@@ -39,7 +41,8 @@ use Rattle.run_evaluations.specs.Follows.{all_done, Follows}
 use Rattle.run_evaluations.specs.Ends.{last_has}
 use Rattle.run_evaluations.specs.Ways.{IsNearest, NoneAtEnd}
 use Rattle.run_evaluations.proofs.FullLemmas.{node_some}
-use Rattle.run_evaluations.proofs.PartLemmas.{by_test, not_less_is, number_is, part_before, part_part, part_range, among_range, rise_at, due_at, is_last_at, side_at, side_part, size_some}
+use Rattle.run_evaluations.proofs.PartLemmas.{by_test, not_less_is, number_is, part_before, part_part, part_range, among_range, rise_at, due_at, is_last_at}
+use Rattle.run_evaluations.proofs.PartLemmas.{side_at, side_part, size_some}
 use Rattle.run_evaluations.proofs.ShowLemmas.{InLog, in_log, between_kept, same_operand, side_order, sequenced_rule, comma_before, choice_before}
 use Rattle.run_evaluations.proofs.ToldLemmas.{beside_at, due_part, operand_at, operand_part, part_at}
 

@@ -1,5 +1,6 @@
 -- A conflict of events of the log is one of evaluations that were told, and the other way round.
-use Rattle.std.proofs.Common.{◌≡◌, ◌⊎◌, inl, inr, ⊎_elim, ℕ, zero, suc, ◌≤◌, ◌<◌, ◌+◌, ◌-◌, nat_lt, ◌==◌, Bool, true, false, not, ◌&&◌, ◌||◌, List, [], ◌∷◌, ◌++◌, length}
+use Rattle.std.proofs.Common.{◌≡◌, ◌⊎◌, inl, inr, ⊎_elim, ℕ, zero, suc, ◌≤◌, ◌<◌, ◌+◌, ◌-◌, nat_lt, ◌==◌, Bool, true, false, not, ◌&&◌, ◌||◌, List, [], ◌∷◌}
+use Rattle.std.proofs.Common.{◌++◌, length}
 use Rattle.std.proofs.Common.{refl, sym, ap, ◌∙◌, arith, Option, Some, None, Result, subst, if◌then◌else◌, length-append}
 use Rattle.std.specs.Prelude.{slice_get, IfOk, IfSome}
 use Rattle.std.proofs.lemmas.Option.{slice_get_within, same_Some}
@@ -352,8 +353,10 @@ module _ (a : Evaluations) (t : Opened) (ts : List Opened) (f : Follows (t ∷ t
         let Q = in_log a t ts _ f.holds f.all e q.other_done.0 q.other_done.1 in
         let op = operand_of rows a t ts f n rule chosen tell fresh d _ P (behind_first two.first d.place.node two.of_first two.in_first) in
         let oq = operand_of rows a t ts f n rule chosen tell fresh e _ Q (behind_first two.second e.place.node two.of_second two.in_second) in
-        let first = same_operand t.scope n two.first P.of d.place.node two.of_first (operand_of_this P.of op.0 op.1) two.in_first (in_part P.of d.place P.below) in
-        let second = same_operand t.scope n two.second Q.of e.place.node two.of_second (operand_of_this Q.of oq.0 oq.1) two.in_second (in_part Q.of e.place Q.below) in
+        let first = same_operand t.scope n two.first P.of d.place.node two.of_first (operand_of_this P.of op.0 op.1) two.in_first (in_part P.of d.place P.below)
+            in
+        let second = same_operand t.scope n two.second Q.of e.place.node two.of_second (operand_of_this Q.of oq.0 oq.1) two.in_second
+            (in_part Q.of e.place Q.below) in
         let less = two.rise in
         let rise : P.of < Q.of = omega (arith, first, second, less) in (
           length (all_done ts) + q.one_done.0,
@@ -364,7 +367,8 @@ module _ (a : Evaluations) (t : Opened) (ts : List Opened) (f : Follows (t ∷ t
             low = least P.segment (operand_at a t ts f n P.segment P.of P.low P.own (operand_less P.of op.0 op.1));
             rise = ⊎_elim (λ z. z)
                 (λ le. absurd (⊎_elim
-                (λ back. let b = beside_less t.scope Q.of P.of (beside_at a t ts f Q.segment P.segment Q.of P.of Q.low back Q.own P.own) in omega (arith, b, rise))
+                (λ back. let b = beside_less t.scope Q.of P.of (beside_at a t ts f Q.segment P.segment Q.of P.of Q.low back Q.own P.own) in
+                    omega (arith, b, rise))
                 (λ ge. let z = same_Some P.of Q.of (sym P.own ∙ (ap (λ g. node_of (slice_get a.segments.items g)) (omega (arith, le, ge)) ∙ Q.own)) in
                 omega (arith, z, rise))
                 (before_or_past Q.segment P.segment)))
@@ -408,7 +412,8 @@ abbrev Gives : {E : Type 0} → Result (Option Found) E → ℕ → List FrameRo
 Gives r at frames rows p es is ss = AreSorted ss es at → AreRising ss es at → AreOnce es (start_of ss es at) →
     IfOk r (IsFirstOf frames (IsOfPair frames rows p es is (AreBetween ss es at)))
 
-pub between_moved : {E : Type 0} (r : Result (Option Found) E) (at : ℕ) (frames gf : List FrameRow) (rows gr : List Row) (p gp : Expression) (es ge : List Logged)
+pub between_moved : {E : Type 0} (r : Result (Option Found) E) (at : ℕ) (frames gf : List FrameRow) (rows gr : List Row) (p gp : Expression)
+    (es ge : List Logged)
     (is gi : List Item) (ss gs : List Segment) → gf ≡ frames → gr ≡ rows → gp ≡ p → ge ≡ es → gi ≡ is → gs ≡ ss → Gives r at gf gr gp ge gi gs →
     Gives r at frames rows p es is ss
 between_moved r at frames gf rows gr p gp es ge is gi ss gs ef er ep ee ei eg h =
@@ -446,7 +451,8 @@ module _ (ss gs : List Segment) (es ge : List Logged) (at : ℕ) (alike : (g : �
   pub once_alike : AreOnce es (start_of ss es at) → AreOnce ge (start_of gs ge at)
   once_alike once k l d e low_k low_l at_k at_l =
       let a = starts at in
-      once k l d e (omega (arith, a, low_k)) (omega (arith, a, low_l)) (ap (λ es. slice_get es k) (sym same) ∙ at_k) (ap (λ es. slice_get es l) (sym same) ∙ at_l)
+      once k l d e (omega (arith, a, low_k)) (omega (arith, a, low_l)) (ap (λ es. slice_get es k) (sym same) ∙ at_k)
+          (ap (λ es. slice_get es l) (sym same) ∙ at_l)
 
   pub between_there : (a b : ℕ) → AreBetween gs ge at a b → AreBetween ss es at a b
   between_there a b w =
@@ -541,7 +547,8 @@ pub operands_first : (a : Evaluations) (t : Opened) (ts : List Opened) (f : Foll
     (least : (g : ℕ) → IsOperand a.segments.items a.levels.items n g → at ≤ g)
     (behind : (g m : ℕ) → at ≤ g → node_of (slice_get a.segments.items g) ≡ Some m → n < m) (frames : List FrameRow) (rows : List Row) (r : Option Found) →
     IfSome r (λ x. (is_unsequenced rule ≡ true) × IsFirst frames (IsOfPair frames rows (expression_in (slice_get a.levels.items (length a.levels.items - 1)))
-    a.events.items a.items.items (AreBetween a.segments.items a.events.items at)) x) → IfSome r (IsFirst frames (IsConflictIn frames rows t (AreOfOperands t n)))
+    a.events.items a.items.items (AreBetween a.segments.items a.events.items at)) x) →
+        IfSome r (IsFirst frames (IsConflictIn frames rows t (AreOfOperands t n)))
 operands_first a t ts f n rule chosen tell fresh loose at low least behind frames rows None h = tt
 operands_first a t ts f n rule chosen tell fresh loose at low least behind frames rows (Some x) h =
     let p = expression_in (slice_get a.levels.items (length a.levels.items - 1)) in

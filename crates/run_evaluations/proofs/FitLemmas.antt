@@ -1,5 +1,6 @@
 -- The rules of a typed tree's nodes fit its tree.
-use Rattle.std.proofs.Common.{◌≡◌, ◌⊎◌, inl, inr, ⊎_elim, ℕ, zero, suc, ◌≤◌, ◌<◌, ◌+◌, ◌-◌, ◌^◌, min, nat_lt, ◌==◌, Bool, true, false, not, ◌&&◌, ◌||◌, List, [], ◌∷◌, ◌++◌}
+use Rattle.std.proofs.Common.{◌≡◌, ◌⊎◌, inl, inr, ⊎_elim, ℕ, zero, suc, ◌≤◌, ◌<◌, ◌+◌, ◌-◌, ◌^◌, min, nat_lt, ◌==◌, Bool, true, false, not, ◌&&◌, ◌||◌, List}
+use Rattle.std.proofs.Common.{[], ◌∷◌, ◌++◌}
 use Rattle.std.proofs.Common.{length, map, refl, sym, ap, ◌∙◌, arith, Option, Some, None, subst, if◌then◌else◌, length-append}
 use Rattle.std.specs.Prelude.{slice_get, is_some}
 use Rattle.std.specs.List.{list_all}
@@ -13,7 +14,8 @@ use Rattle.c_typed.specs.declared.tree.Node.TheOpen.{Node-F, Typed-F}
 use Rattle.c_typed.specs.declared.tree.Typed.{Typed, out-Typed, fold-Typed, fold_out-Typed}
 use Rattle.c_typed.specs.declared.class.Class.{Class}
 use Rattle.c_typed.specs.declared.class.Class.TheVariants as class
-use Rattle.c_typed.specs.Tree.{Tree, Trees, node, none, more, size, sizes, class_of, operands, tree_of, trees_of, first_class, class_over, conversion_class, is_quiet_class, member_class, node_class, typed_tree}
+use Rattle.c_typed.specs.Tree.{Tree, Trees, node, none, more, size, sizes, class_of, operands, tree_of, trees_of, first_class, class_over, conversion_class}
+use Rattle.c_typed.specs.Tree.{is_quiet_class, member_class, node_class, typed_tree}
 use Rattle.c_typed.specs.Order.{Taken}
 use Rattle.evaluation_log.specs.declared.rules.Rule.{Rule}
 use Rattle.evaluation_log.specs.declared.rules.Rule.TheVariants as rules
@@ -226,7 +228,8 @@ root_fits (shape.Isolated tree) ts last = record {
 }
 root_fits (shape.Conv c) ts last = open_fits (conversion_class c (first_class ts)) no_listing last (conversion_other c (first_class ts))
     (conversion_plain c (first_class ts))
-root_fits (shape.Member offset) ts last = open_fits (member_class (first_class ts)) no_listing last (member_other (first_class ts)) (member_plain (first_class ts))
+root_fits (shape.Member offset) ts last = open_fits (member_class (first_class ts)) no_listing last (member_other (first_class ts))
+    (member_plain (first_class ts))
 root_fits z ts last = open_fits (class_in z ts) (listing_in z) last (λ h. absurd (cc)) (λ h. absurd (cc), λ h. absurd (cc))
 
 -- ---- lists and their initializers
@@ -284,7 +287,8 @@ fits_among (u ∷ us) m each small all n c ts h =
     by_test (nat_lt n (m + size (tree_of u)))
     (λ less.
     let r = each u (omega arith) m (omega (arith, small)) p.0 n c ts (sym (if_true _ _ _ less) ∙ h) in
-    (r.0, get_left (rules_of u m) (rules_among (map rules_of us) (m + length (rules_of u m))) (n - m) (slice_get_within (rules_of u m) (n - m) r.0 r.1) ∙ r.1, r.2))
+    (r.0, get_left (rules_of u m) (rules_among (map rules_of us) (m + length (rules_of u m))) (n - m) (slice_get_within (rules_of u m) (n - m) r.0 r.1) ∙ r.1,
+        r.2))
     (λ past.
     let low = not_less_is n (m + size (tree_of u)) past in
     let r = fits_among us (m + size (tree_of u)) (λ v e. each v (omega (arith, e))) (omega (arith, small)) p.1 n c ts (sym (if_false _ _ _ past) ∙ h) in (

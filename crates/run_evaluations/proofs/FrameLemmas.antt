@@ -1,5 +1,6 @@
 -- What was told is followed, as frames and full expressions begin and end.
-use Rattle.std.proofs.Common.{◌≡◌, ◌≢◌, ◌⊎◌, inl, inr, ⊎_elim, ℕ, zero, suc, ◌≤◌, ◌<◌, ◌+◌, ◌-◌, ◌==◌, Bool, true, false, ◌||◌, List, [], ◌∷◌, ◌++◌, length, take}
+use Rattle.std.proofs.Common.{◌≡◌, ◌≢◌, ◌⊎◌, inl, inr, ⊎_elim, ℕ, zero, suc, ◌≤◌, ◌<◌, ◌+◌, ◌-◌, ◌==◌, Bool, true, false, ◌||◌, List, [], ◌∷◌, ◌++◌, length}
+use Rattle.std.proofs.Common.{take}
 use Rattle.std.proofs.Common.{refl, sym, ap, ◌∙◌, arith, Option, Some, None, subst, length-append, length-take}
 use Rattle.std.specs.Prelude.{slice_get}
 use Rattle.std.proofs.lemmas.Bool.Decides.{nat_tests}
@@ -18,7 +19,8 @@ use Rattle.evaluation_log.specs.Ways.{node_of}
 use Rattle.evaluation_log.proofs.BetweenLemmas.{rises_to}
 use Rattle.evaluation_log.proofs.KeptLemmas.{before_or_past}
 use Rattle.evaluation_log.proofs.LooseWholeLemmas.{looses_past, right_moved}
-use Rattle.evaluation_log.proofs.WholeLemmas.{get_left, get_right, get_seam, get_take, take_part, cut_start, items_top, starts_past, starts_rise, starts_top, whole_moved}
+use Rattle.evaluation_log.proofs.WholeLemmas.{get_left, get_right, get_seam, get_take, take_part, cut_start, items_top, starts_past, starts_rise, starts_top}
+use Rattle.evaluation_log.proofs.WholeLemmas.{whole_moved}
 use Rattle.run_evaluations.specs.declared.open.Evaluations.{Evaluations}
 use Rattle.run_evaluations.specs.Ends.{begin_of, events_from}
 use Rattle.run_evaluations.specs.Kept.{IsKept, IsSameRest, IsSameOpen}

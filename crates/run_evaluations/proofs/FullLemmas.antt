@@ -1,5 +1,6 @@
 -- The list of side effects has all that it must, as the evaluations go on.
-use Rattle.std.proofs.Common.{◌≡◌, ◌⊎◌, inl, inr, ⊎_elim, ℕ, zero, suc, ◌≤◌, ◌<◌, ◌+◌, ◌-◌, Bool, true, false, List, [], ◌∷◌, ◌++◌, length, refl, sym, ap, ◌∙◌, arith}
+use Rattle.std.proofs.Common.{◌≡◌, ◌⊎◌, inl, inr, ⊎_elim, ℕ, zero, suc, ◌≤◌, ◌<◌, ◌+◌, ◌-◌, Bool, true, false, List, [], ◌∷◌, ◌++◌, length, refl, sym, ap, ◌∙◌}
+use Rattle.std.proofs.Common.{arith}
 use Rattle.std.proofs.Common.{Option, Some, None, subst}
 use Rattle.std.specs.Prelude.{Box, slice_get, IfNone}
 use Rattle.std.proofs.lemmas.List.{length_push}
@@ -147,7 +148,8 @@ pub full_join : (a b t d : Evaluations) (at node : ℕ) (rule : Rule) (chosen : 
     loose_start_of (slice_get d.segments.items at) ≡ loose_start_of (slice_get t.segments.items at) →
     node_of (slice_get d.segments.items at) ≡ Some node → AllBelow a.levels.items at → IsLooseKept a → IsFull scopes a → base_of a.levels.items ≤ at →
     ((g m : ℕ) → at ≤ g → node_of (slice_get a.segments.items g) ≡ Some m → node < m) → IsOver (top_scope scopes a) a node rule chosen → IsFull scopes d
-full_join a b t d at node rule chosen scopes within seg rest1 thin stays rest2 loose2 like2 lows2 others2 rest3 loose3 count others3 begins3 low3 own below r full
+full_join a b t d at node rule chosen scopes within seg rest1 thin stays rest2 loose2 like2 lows2 others2 rest3 loose3 count others3 begins3 low3 own below r
+    full
     base behind over =
     let ss = a.segments.items in
     let ds = d.segments.items in

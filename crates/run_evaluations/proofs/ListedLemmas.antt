@@ -1,5 +1,6 @@
 -- Each evaluation below a node that doesn't come before its value stays listed, as the log goes on.
-use Rattle.std.proofs.Common.{◌≡◌, ◌⊎◌, inl, inr, ⊎_elim, ℕ, zero, suc, ◌≤◌, ◌<◌, ◌+◌, ◌-◌, ◌^◌, min, ◌==◌, Bool, true, false, List, [], ◌∷◌, ◌++◌, length, take, refl}
+use Rattle.std.proofs.Common.{◌≡◌, ◌⊎◌, inl, inr, ⊎_elim, ℕ, zero, suc, ◌≤◌, ◌<◌, ◌+◌, ◌-◌, ◌^◌, min, ◌==◌, Bool, true, false, List, [], ◌∷◌, ◌++◌, length}
+use Rattle.std.proofs.Common.{take, refl}
 use Rattle.std.proofs.Common.{sym, ap, ◌∙◌, arith, Option, Some, None, subst, if◌then◌else◌}
 use Rattle.std.specs.Prelude.{slice_get, is_some}
 use Rattle.std.proofs.lemmas.Bool.Decides.{nat_tests}
@@ -31,7 +32,8 @@ use Rattle.evaluation_log.proofs.KeptLemmas.{before_or_past}
 use Rattle.evaluation_log.proofs.WholeLemmas.{get_left, get_seam, starts_past, not_none}
 use Rattle.run_evaluations.specs.Scopes.{Scope, IsBelow, ComesTo, IsRuled, IsOperandOf, part_of, place_of, last_number}
 use Rattle.run_evaluations.specs.Listed.{IsOpenIn, IsListed, AllListed, AnyEvent, NotLastEffect, AreOperands, is_node, stays_from, Stays}
-use Rattle.run_evaluations.proofs.PartLemmas.{own_comes, before_own, below_up, comes_up, lift_up, side_at, side_part, side_due, is_last_at, last_at, last_high, first_at, first_number}
+use Rattle.run_evaluations.proofs.PartLemmas.{own_comes, before_own, below_up, comes_up, lift_up, side_at, side_part, side_due, is_last_at, last_at, last_high}
+use Rattle.run_evaluations.proofs.PartLemmas.{first_at, first_number}
 
 below_or_at : (k n : ℕ) → k < suc n → (k < n) ⊎ (k ≡ n)
 below_or_at k n less = grind arith
@@ -165,7 +167,8 @@ module _ (segments : List Segment) (events : List Logged) (loose : List ℕ) (le
       let u_is : place e.node e.kind ≡ u =
       same_Some (place e.node e.kind) u (sym (ap place_of (ap (slice_get (events ++ (e ∷ []))) k_is ∙ get_seam events e)) ∙ there) in
       let m_is : n ≡ m = same_Some n m (sym own ∙ sym (ap (λ x. node_of (slice_get ts x)) g_is) ∙ at) in
-      let b = subst (λ x. IsBelow (scopes d) x u) m_is (subst (λ (x : Place). IsBelow (scopes d) n x) u_is (new d (subst (λ x. IsOpenIn levels d x) g_is opens))) in
+      let b = subst (λ x. IsBelow (scopes d) x u) m_is (subst (λ (x : Place). IsBelow (scopes d) n x) u_is
+          (new d (subst (λ x. IsOpenIn levels d x) g_is opens))) in
       (b, λ ask. inl (own_comes (scopes d) m u (sym (ap (λ (x : Place). x.node) u_is) ∙ same ∙ m_is) (ask (omega (arith, k_is, size))))))
       (before_or_past k (length events)))
       (before_or_past g last)
@@ -196,12 +199,14 @@ module _ (segments : List Segment) (events : List Logged) (loose : List ℕ) (le
         r.0,
         λ ask. ⊎_elim
             (λ earlier. ⊎_elim inl
-            (λ l. let x = l.1 in let y = l.2 in inr (l.0, omega (arith, lg, x), after l.0 y, get_left loose ((length events - 1) ∷ []) l.0 (omega (arith, y, t)) ∙ l.3))
+            (λ l. let x = l.1 in let y = l.2 in inr (l.0, omega (arith, lg, x), after l.0 y,
+                get_left loose ((length events - 1) ∷ []) l.0 (omega (arith, y, t)) ∙ l.3))
             (r.1 (λ e. absurd (omega (arith, e, earlier)))))
             (λ newest.
             let k_is : length events - 1 ≡ k = omega (arith, newest, v) in
             let g_is : g ≡ last =
-            ⊎_elim (λ before. absurd (let s = rises (suc g) last before in omega (arith, s, filled, end, b, to, newest))) (λ past. omega (arith, past, w, count))
+            ⊎_elim (λ before. absurd (let s = rises (suc g) last before in omega (arith, s, filled, end, b, to, newest)))
+                (λ past. omega (arith, past, w, count))
             (before_or_past g last) in
             let q = ap (first_loose ms) (slice_get_past ts (suc g) (omega (arith, count, g_is))) in
             let z = tops g in
@@ -299,7 +304,8 @@ module _ (segments : List Segment) (events : List Logged) (loose : List ℕ) (le
       (λ comes. absurd (let b = before_own s n u v r.0 t.0 (omega (arith, behind, node_is)) own_is alone comes in
       let z : false ≡ true = sym not_before ∙ b in cc))
       (λ l. l)
-      (r.1 (λ one. absurd (let z = last u (ap (λ q. place_of (slice_get events q)) (omega (arith, one)) ∙ ap place_of there ∙ u_is) in omega (arith, z, node_is, behind))))
+      (r.1 (λ one. absurd (let z = last u (ap (λ q. place_of (slice_get events q)) (omega (arith, one)) ∙ ap place_of there ∙ u_is) in
+          omega (arith, z, node_is, behind))))
 
 -- ---- what a rule takes from the list
 number_same : (x y : ℕ) → (x == y) ≡ true → x ≡ y

@@ -1,5 +1,6 @@
 -- The listing of a full expression's events: each stands there once, is due, and those of a node stand together.
-use Rattle.std.proofs.Common.{◌≡◌, ◌⊎◌, inl, inr, ⊎_elim, ℕ, zero, suc, ◌≤◌, ◌<◌, ◌+◌, ◌-◌, nat_lt, ◌==◌, Bool, true, false, List, [], ◌∷◌, ◌++◌, length, refl, sym, ap}
+use Rattle.std.proofs.Common.{◌≡◌, ◌⊎◌, inl, inr, ⊎_elim, ℕ, zero, suc, ◌≤◌, ◌<◌, ◌+◌, ◌-◌, nat_lt, ◌==◌, Bool, true, false, List, [], ◌∷◌, ◌++◌, length, refl}
+use Rattle.std.proofs.Common.{sym, ap}
 use Rattle.std.proofs.Common.{◌∙◌, arith, subst, Option, Some, None, if◌then◌else◌}
 use Rattle.std.specs.Prelude.{slice_get}
 use Rattle.std.proofs.lemmas.Option.{slice_get_within, same_Some}
@@ -34,21 +35,27 @@ own_node : (k : ℕ) (c : Class) (i : ℕ) (u : Place) → slice_get (own_events
     (u.node ≡ k) × (has_kind (kinds_of c) u.kind ≡ true) × (i < 2)
 own_node k class.Object i u h = absurd (cc)
 own_node k class.Constant i u h = absurd (cc)
-own_node k class.Plain zero u h = let e = same_Some _ u h in (sym (ap (λ (z : Place). z.node) e), (λ t. has_kind (kinds_of class.Plain) (sym e t).kind), omega arith)
+own_node k class.Plain zero u h = let e = same_Some _ u h in
+    (sym (ap (λ (z : Place). z.node) e), (λ t. has_kind (kinds_of class.Plain) (sym e t).kind), omega arith)
 own_node k class.Plain (suc i) u h = absurd (cc)
-own_node k class.Store zero u h = let e = same_Some _ u h in (sym (ap (λ (z : Place). z.node) e), (λ t. has_kind (kinds_of class.Store) (sym e t).kind), omega arith)
+own_node k class.Store zero u h = let e = same_Some _ u h in
+    (sym (ap (λ (z : Place). z.node) e), (λ t. has_kind (kinds_of class.Store) (sym e t).kind), omega arith)
 own_node k class.Store (suc zero) u h = let e = same_Some _ u h in
     (sym (ap (λ (z : Place). z.node) e), (λ t. has_kind (kinds_of class.Store) (sym e t).kind), omega arith)
 own_node k class.Store (suc (suc i)) u h = absurd (cc)
-own_node k class.Update zero u h = let e = same_Some _ u h in (sym (ap (λ (z : Place). z.node) e), (λ t. has_kind (kinds_of class.Update) (sym e t).kind), omega arith)
+own_node k class.Update zero u h = let e = same_Some _ u h in
+    (sym (ap (λ (z : Place). z.node) e), (λ t. has_kind (kinds_of class.Update) (sym e t).kind), omega arith)
 own_node k class.Update (suc zero) u h = let e = same_Some _ u h in
     (sym (ap (λ (z : Place). z.node) e), (λ t. has_kind (kinds_of class.Update) (sym e t).kind), omega arith)
 own_node k class.Update (suc (suc i)) u h = absurd (cc)
-own_node k class.Choice zero u h = let e = same_Some _ u h in (sym (ap (λ (z : Place). z.node) e), (λ t. has_kind (kinds_of class.Choice) (sym e t).kind), omega arith)
+own_node k class.Choice zero u h = let e = same_Some _ u h in
+    (sym (ap (λ (z : Place). z.node) e), (λ t. has_kind (kinds_of class.Choice) (sym e t).kind), omega arith)
 own_node k class.Choice (suc i) u h = absurd (cc)
-own_node k class.Comma zero u h = let e = same_Some _ u h in (sym (ap (λ (z : Place). z.node) e), (λ t. has_kind (kinds_of class.Comma) (sym e t).kind), omega arith)
+own_node k class.Comma zero u h = let e = same_Some _ u h in
+    (sym (ap (λ (z : Place). z.node) e), (λ t. has_kind (kinds_of class.Comma) (sym e t).kind), omega arith)
 own_node k class.Comma (suc i) u h = absurd (cc)
-own_node k class.Call zero u h = let e = same_Some _ u h in (sym (ap (λ (z : Place). z.node) e), (λ t. has_kind (kinds_of class.Call) (sym e t).kind), omega arith)
+own_node k class.Call zero u h = let e = same_Some _ u h in
+    (sym (ap (λ (z : Place). z.node) e), (λ t. has_kind (kinds_of class.Call) (sym e t).kind), omega arith)
 own_node k class.Call (suc zero) u h = let e = same_Some _ u h in
     (sym (ap (λ (z : Place). z.node) e), (λ t. has_kind (kinds_of class.Call) (sym e t).kind), omega arith)
 own_node k class.Call (suc (suc i)) u h = absurd (cc)

@@ -1,5 +1,6 @@
 -- A node's own evaluations and those below it: what is found in the log is what was told.
-use Rattle.std.proofs.Common.{◌≡◌, ◌≢◌, ◌⊎◌, inl, inr, ⊎_elim, ℕ, suc, ◌≤◌, ◌<◌, ◌+◌, ◌-◌, nat_lt, Bool, true, false, not, ◌&&◌, List, [], ◌∷◌, length, refl, sym, ap, ◌∙◌}
+use Rattle.std.proofs.Common.{◌≡◌, ◌≢◌, ◌⊎◌, inl, inr, ⊎_elim, ℕ, suc, ◌≤◌, ◌<◌, ◌+◌, ◌-◌, nat_lt, Bool, true, false, not, ◌&&◌, List, [], ◌∷◌, length, refl}
+use Rattle.std.proofs.Common.{sym, ap, ◌∙◌}
 use Rattle.std.proofs.Common.{arith, Option, Some, None, subst, length-append}
 use Rattle.std.specs.Prelude.{slice_get, IfNone, IfSome}
 use Rattle.std.proofs.lemmas.Option.{slice_get_within, same_Some}
@@ -237,7 +238,8 @@ module _ (a : Evaluations) (t : Opened) (ts : List Opened) (n : ℕ) (f : Follow
             (before_or_past (suc k) (length a.events.items))
 
         last_end : (i : ℕ) → i < length a.loose.items → i < loose_of a.segments.items a.loose.items (suc last)
-        last_end i less = let w = last_within in let z = looses_past a.segments.items a.events.items a.items.items a.loose.items a.levels.items f.holds.loose (suc last)
+        last_end i less = let w = last_within in let z = looses_past a.segments.items a.events.items a.items.items a.loose.items a.levels.items f.holds.loose
+            (suc last)
             (omega (arith, w)) in omega (arith, z, less)
 
         before_last : (l : ℕ) (e : Logged) → slice_get a.events.items l ≡ Some e → (e.node ≡ n → ⊥) → suc l < length a.events.items
@@ -250,15 +252,20 @@ module _ (a : Evaluations) (t : Opened) (ts : List Opened) (n : ℕ) (f : Follow
         reaches k l d e le at_k at_l less other = omega (arith, le, less, low)
 
 -- ---- where the lists are the same
-pub node_moved : (frames : List FrameRow) (rows : List Row) (es ge : List Logged) (is gi : List Item) (ls gl : List ℕ) (vs gv : List Level) → ge ≡ es → gi ≡ is →
+pub node_moved : (frames : List FrameRow) (rows : List Row) (es ge : List Logged) (is gi : List Item) (ls gl : List ℕ) (vs gv : List Level) → ge ≡ es →
+    gi ≡ is →
     gl ≡ ls → gv ≡ vs → (taken : Taken) (root : Tree) (begin from : ℕ) (r : Option Found) →
     IsFirstOf frames (IsOfPair frames rows (expression_in (slice_get gv (length gv - 1))) ge gi (AreListed taken root ge gl begin from)) r →
     IsFirstOf frames (IsOfPair frames rows (expression_in (slice_get vs (length vs - 1))) es is (AreListed taken root es ls begin from)) r
 node_moved frames rows es ge is gi ls gl vs gv ee ei el ev taken root begin from r h =
-    subst (λ (x : List Logged). IsFirstOf frames (IsOfPair frames rows (expression_in (slice_get vs (length vs - 1))) x is (AreListed taken root x ls begin from)) r) ee
-    (subst (λ (x : List Item). IsFirstOf frames (IsOfPair frames rows (expression_in (slice_get vs (length vs - 1))) ge x (AreListed taken root ge ls begin from)) r) ei
-    (subst (λ (x : List ℕ). IsFirstOf frames (IsOfPair frames rows (expression_in (slice_get vs (length vs - 1))) ge gi (AreListed taken root ge x begin from)) r) el
-    (subst (λ (x : List Level). IsFirstOf frames (IsOfPair frames rows (expression_in (slice_get x (length x - 1))) ge gi (AreListed taken root ge gl begin from)) r)
+    subst (λ (x : List Logged). IsFirstOf frames (IsOfPair frames rows (expression_in (slice_get vs (length vs - 1))) x is
+        (AreListed taken root x ls begin from)) r) ee
+    (subst (λ (x : List Item). IsFirstOf frames (IsOfPair frames rows (expression_in (slice_get vs (length vs - 1))) ge x
+        (AreListed taken root ge ls begin from)) r) ei
+    (subst (λ (x : List ℕ). IsFirstOf frames (IsOfPair frames rows (expression_in (slice_get vs (length vs - 1))) ge gi (AreListed taken root ge x begin from))
+        r) el
+    (subst (λ (x : List Level). IsFirstOf frames (IsOfPair frames rows (expression_in (slice_get x (length x - 1))) ge gi
+        (AreListed taken root ge gl begin from)) r)
     ev h)))
 
 pub clean_moved : (rows : List Row) (es ge : List Logged) (is gi : List Item) (ls gl : List ℕ) → ge ≡ es → gi ≡ is → gl ≡ ls → (taken : Taken) (root : Tree)

@@ -1,5 +1,6 @@
 -- The first conflict between operands of the nodes on a way.
-use Rattle.std.proofs.Common.{◌≡◌, ◌⊎◌, inl, inr, ⊎_elim, ℕ, zero, suc, ◌≤◌, ◌<◌, ◌+◌, ◌-◌, Bool, true, false, List, length, refl, sym, ap, ◌∙◌, arith, Option, Some}
+use Rattle.std.proofs.Common.{◌≡◌, ◌⊎◌, inl, inr, ⊎_elim, ℕ, zero, suc, ◌≤◌, ◌<◌, ◌+◌, ◌-◌, Bool, true, false, List, length, refl, sym, ap, ◌∙◌, arith, Option}
+use Rattle.std.proofs.Common.{Some}
 use Rattle.std.proofs.Common.{None, subst}
 use Rattle.std.specs.Prelude.{slice_get}
 use Rattle.std.proofs.lemmas.Option.{slice_get_within, same_Some}
@@ -225,7 +226,8 @@ module _ (old cur : Evaluations) (above : List ℕ) (p c n : ℕ) (shape : Shape
             λ k m more at of. shape.front g k m under (omega (arith, more)) at of,
           );
           free = ap is_unsequenced (sym is_rule) ∙ w.free;
-          events = record { from = omega (arith, sg, from); to = omega (arith, ssg, to); behind = omega (arith, ssg, next); within = omega (arith, inside, all) };
+          events = record { from = omega (arith, sg, from); to = omega (arith, ssg, to); behind = omega (arith, ssg, next); within =
+              omega (arith, inside, all) };
         }
 
     from_way : (a b : ℕ) (w : AreOnWay rules above old p a b) → (w.place ≡ p) → AreBehindOperand cur n rule a b
@@ -250,7 +252,8 @@ module _ (old cur : Evaluations) (above : List ℕ) (p c n : ℕ) (shape : Shape
           free = ap is_unsequenced is_rule ∙ (ap (λ x. is_unsequenced (rule_in rules x)) (sym m_is) ∙ w.free);
           segment = g;
           operand = stands old cur above p c n shape rising here g of under;
-          events = record { from = omega (arith, sg, from); to = omega (arith, ssg, to); behind = omega (arith, ssg, next); within = omega (arith, inside, all) };
+          events = record { from = omega (arith, sg, from); to = omega (arith, ssg, to); behind = omega (arith, ssg, next); within =
+              omega (arith, inside, all) };
         }
 
     -- with this node the first conflict of those from here on
@@ -269,14 +272,16 @@ module _ (old cur : Evaluations) (above : List ℕ) (p c n : ℕ) (shape : Shape
         (λ more. inl (q.0, q.1, raise q.0 q.1 q.2 more, q.3))
         (λ same. inr (q.0, q.1, from_way q.0 q.1 q.2 (let l = q.2.low in omega (arith, same, l)), of_cur q.0 q.1 f q.3))
         (before_or_past p q.2.place))
-        (both frames (IsTopPair frames rows old (AreOnWay rules above old (suc p))) (IsTopPair frames rows cur (AreBehindOperand cur n rule)) best found before now))
+        (both frames (IsTopPair frames rows old (AreOnWay rules above old (suc p))) (IsTopPair frames rows cur (AreBehindOperand cur n rule)) best found before
+            now))
       where
         lower : (a b : ℕ) → AreOnWay rules above old (suc p) a b → AreOnWay rules above old p a b
         lower a b w = let l = w.low in
             record { place = w.place; low = omega (arith, l); node = w.node; segment = w.segment; near = w.near; free = w.free; events = w.events }
 
         raise : (a b : ℕ) (w : AreOnWay rules above old p a b) → p < w.place → AreOnWay rules above old (suc p) a b
-        raise a b w more = record { place = w.place; low = omega (arith, more); node = w.node; segment = w.segment; near = w.near; free = w.free; events = w.events }
+        raise a b w more = record { place = w.place; low = omega (arith, more); node = w.node; segment = w.segment; near = w.near; free = w.free; events =
+            w.events }
 
         -- the log and the frame on top are the same
         moved : (a b : ℕ) (f : Found) (ls gs : List Level) (es xs : List Logged) (js ys : List Item) → ls ≡ gs → es ≡ xs → js ≡ ys →

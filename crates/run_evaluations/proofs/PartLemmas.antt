@@ -1,5 +1,6 @@
 -- The tree of a node, and what comes before the node's value.
-use Rattle.std.proofs.Common.{◌≡◌, ◌⊎◌, inl, inr, ⊎_elim, ℕ, zero, suc, ◌≤◌, ◌<◌, ◌+◌, nat_lt, ◌==◌, Bool, true, false, not, ◌&&◌, ◌||◌, List, [], ◌∷◌, refl, sym, ap}
+use Rattle.std.proofs.Common.{◌≡◌, ◌⊎◌, inl, inr, ⊎_elim, ℕ, zero, suc, ◌≤◌, ◌<◌, ◌+◌, nat_lt, ◌==◌, Bool, true, false, not, ◌&&◌, ◌||◌, List, [], ◌∷◌, refl}
+use Rattle.std.proofs.Common.{sym, ap}
 use Rattle.std.proofs.Common.{◌∙◌, arith, Option, Some, None, if◌then◌else◌, subst}
 use Rattle.std.specs.Prelude.{slice_get, is_some}
 use Rattle.std.proofs.lemmas.Bool.Decides.{nat_tests}
@@ -154,7 +155,8 @@ last_at m (more t ts) (suc i) n s h l = last_at (m + size t) ts i m s h l
 -- the last one has the greatest number
 pub last_high : (m : ℕ) (ts : Trees) (i n : ℕ) (s : Side) → slice_get (sides_from m ts) i ≡ Some s → s.number ≤ last_number m ts n
 last_high m none i n s h = absurd (cc)
-last_high m (more t ts) zero n s h = let e = ap (λ (q : Side). q.number) (some_is (side m t) s h) in let g = last_low ts (m + size t) m (omega arith) in omega (arith, e, g)
+last_high m (more t ts) zero n s h = let e = ap (λ (q : Side). q.number) (some_is (side m t) s h) in let g = last_low ts (m + size t) m (omega arith) in
+    omega (arith, e, g)
   where
     last_low : (ts : Trees) (m n : ℕ) → n ≤ m → n ≤ last_number m ts n
     last_low none m n le = omega arith

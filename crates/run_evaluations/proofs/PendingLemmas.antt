@@ -1,5 +1,6 @@
 -- Beside an end of the run: if something is due that isn't sequenced with it, then an operand beside the way to it has a value.
-use Rattle.std.proofs.Common.{◌≡◌, ◌⊎◌, inl, inr, ⊎_elim, ℕ, zero, suc, ◌≤◌, ◌<◌, ◌+◌, ◌-◌, nat_lt, ◌==◌, Bool, true, false, not, ◌&&◌, ◌||◌, List, [], ◌∷◌, ◌++◌, length}
+use Rattle.std.proofs.Common.{◌≡◌, ◌⊎◌, inl, inr, ⊎_elim, ℕ, zero, suc, ◌≤◌, ◌<◌, ◌+◌, ◌-◌, nat_lt, ◌==◌, Bool, true, false, not, ◌&&◌, ◌||◌, List, [], ◌∷◌}
+use Rattle.std.proofs.Common.{◌++◌, length}
 use Rattle.std.proofs.Common.{refl, sym, ap, ◌∙◌, arith, Option, Some, None, subst, if◌then◌else◌}
 use Rattle.std.specs.Prelude.{slice_get, IfSome}
 use Rattle.std.specs.Option.{option_or}
@@ -34,7 +35,8 @@ use Rattle.run_evaluations.specs.Follows.{Follows}
 use Rattle.run_evaluations.specs.Told.{Evaluation, Opened, has}
 use Rattle.run_evaluations.specs.Ways.{NoneAtEnd}
 use Rattle.run_evaluations.proofs.EndShowLemmas.{end_logged, holder, none_of_way, side_holds}
-use Rattle.run_evaluations.proofs.PartLemmas.{by_test, number_is, root_part, part_before, part_range, rise_at, due_at, is_last_at, side_at, side_part, size_some, val_kind}
+use Rattle.run_evaluations.proofs.PartLemmas.{by_test, number_is, root_part, part_before, part_range, rise_at, due_at, is_last_at, side_at, side_part}
+use Rattle.run_evaluations.proofs.PartLemmas.{size_some, val_kind}
 use Rattle.run_evaluations.proofs.ShowLemmas.{none_sub, side_order, comma_before, choice_before}
 use Rattle.run_evaluations.proofs.ToldLemmas.{due_part}
 
@@ -163,7 +165,8 @@ rights_loud m (more t ts) n zero r x k low high h =
     let e = same_Some (side m t) r k in
     let a = ap (λ (z : Side). z.number) e in
     let b = ap (λ (z : Side). size z.tree) e in
-    (loud_on m t ts x (sides_loud (m + size t) ts x (sym (ap first_loud (if_true _ _ _ (less_test n (m + size t) (omega (arith, a, b, high))))) ∙ h)), omega arith)
+    (loud_on m t ts x (sides_loud (m + size t) ts x (sym (ap first_loud (if_true _ _ _ (less_test n (m + size t) (omega (arith, a, b, high))))) ∙ h)),
+        omega arith)
 rights_loud m (more t ts) n (suc j) r x k low high h =
     let l = (side_at (m + size t) ts j r k).low in
     let q = rights_loud (m + size t) ts n j r x k low high (sym (ap first_loud (if_false _ _ _ (not_less_test n (m + size t) (omega (arith, l, low))))) ∙ h) in
@@ -377,7 +380,8 @@ module _ (s : Scope) (rules : Rules) (fits : FitsRules s rules) (still : IsStill
           (λ is. sequenced_back (comma_before s k c ts here r.number d.number j i of_e of_w rise e w in_e in_w is))
 
   -- of a node the events are of two operands
-  pub fork : (fuel k : ℕ) (t : Tree) → size t ≤ fuel → part_of s k ≡ Some t → k ≤ e.node → e.node < k + size t → k ≤ w.node → w.node < k + size t → Fork s rules w e
+  pub fork : (fuel k : ℕ) (t : Tree) → size t ≤ fuel → part_of s k ≡ Some t → k ≤ e.node → e.node < k + size t → k ≤ w.node → w.node < k + size t →
+      Fork s rules w e
   fork zero k (node c ts) small here el eh wl wh = absurd (omega (arith, small))
   fork (suc fuel) k (node c ts) small here el eh wl wh =
       ⊎_elim

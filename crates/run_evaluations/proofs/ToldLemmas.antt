@@ -1,5 +1,6 @@
 -- What was told is followed, as events are told and operands gathered.
-use Rattle.std.proofs.Common.{◌≡◌, ◌⊎◌, inl, inr, ⊎_elim, ℕ, zero, suc, ◌≤◌, ◌<◌, ◌+◌, ◌-◌, ◌==◌, nat_lt, Bool, true, false, ◌&&◌, ◌||◌, List, [], ◌∷◌, ◌++◌, length}
+use Rattle.std.proofs.Common.{◌≡◌, ◌⊎◌, inl, inr, ⊎_elim, ℕ, zero, suc, ◌≤◌, ◌<◌, ◌+◌, ◌-◌, ◌==◌, nat_lt, Bool, true, false, ◌&&◌, ◌||◌, List, [], ◌∷◌, ◌++◌}
+use Rattle.std.proofs.Common.{length}
 use Rattle.std.proofs.Common.{refl, sym, ap, ◌∙◌, arith, Option, Some, None, subst, if◌then◌else◌, append_assoc}
 use Rattle.std.specs.Prelude.{slice_get, ◌≢◌}
 use Rattle.std.proofs.lemmas.List.{length_push}
@@ -218,7 +219,8 @@ module _ (a : Evaluations) (t : Opened) (ts : List Opened) (f : Follows (t ∷ t
         let low = made.low in
         ⊎_elim
         (λ same. absurd (no_beside m last.0 same (beside_at g at m last.0 base less old last.1) (omega (arith, behind, own)) (next_at at last.0 low last.1)))
-        (⊎_elim (λ o. absurd (let q = made.least g (operand_at n g m base old (operand_behind t.scope n m tell.class tell.operands o.0 o.1)) in omega (arith, q, less)))
+        (⊎_elim (λ o. absurd (let q = made.least g (operand_at n g m base old (operand_behind t.scope n m tell.class tell.operands o.0 o.1)) in
+            omega (arith, q, less)))
         (λ b. inl (old, beside_less t.scope m n b)))
         (tell.next m (part_at g m base old)))
         (λ past. let g_is : g ≡ at = omega (arith, past, w, count) in

@@ -47,7 +47,7 @@ use Rattle.c_model.specs.Program.{Function}
 use Rattle.c_model.specs.Steps.{function_of}
 use Rattle.c_model.specs.Values.{function_address, function_in}
 use Rattle.run_acts.specs.Calls.{AreFunctions, IsFunction, checked_call, type_by}
-use Rattle.run_acts.specs.Views.{value_in}
+use Rattle.run_values.specs.Views.{value_in}
 use Rattle.run_layout.specs.declared.steps.CallCode.{CallCode}
 use Rattle.run_layout.specs.declared.steps.Operand.{Operand}
 use Rattle.run_layout.specs.declared.steps.Operand.TheVariants as operand
@@ -187,7 +187,8 @@ no_type old os ts event agree None found none = (refl, refl)
 no_type old os ts event agree (Some ty) found none = absurd (none ty refl)
 
 -- by its type and the address that its designator gives
-pub by_type : (old : Machine) (os : List Operand) (ts : List Qual) (event : Event) (new : Machine) (result : Result Outcome Fault) (agree : CType → CType → Bool)
+pub by_type : (old : Machine) (os : List Operand) (ts : List Qual) (event : Event) (new : Machine) (result : Result Outcome Fault)
+    (agree : CType → CType → Bool)
     (o : Option (Bor FuncTy)) (ty : Bor FuncTy) (fs : List Function) (a b : ℕ) → o ≡ Some ty → a ≡ b →
     CallsFound old os ts event new result agree (Some (type_by (signature_of ty.now))) (function_of fs 0 a) →
     CallsFound old os ts event new result agree (type_of_call o) (function_of fs 0 b)

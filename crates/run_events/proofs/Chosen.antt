@@ -10,7 +10,7 @@ use Rattle.prov_memory.specs.declared.value.Value.{Value as Kept_value}
 use Rattle.prov_memory.specs.Memory.{Kept}
 use Rattle.c_model.specs.Values.{truth}
 use Rattle.seq_order.specs.Marked.{taken_in}
-use Rattle.run_acts.specs.Views.{value_in}
+use Rattle.run_values.specs.Views.{value_in}
 use Rattle.run_layout.specs.declared.steps.Choice.{Choice}
 use Rattle.run_layout.specs.declared.steps.Way.{Way}
 use Rattle.run_layout.specs.declared.whole.Code.{Code}

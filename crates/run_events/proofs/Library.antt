@@ -1,5 +1,6 @@
 -- Calls of the library: their arguments, what is answered, and what is done with it.
-use Rattle.std.proofs.Common.{◌≡◌, ◌≢◌, ℕ, zero, suc, ◌+◌, ◌<◌, ◌≤◌, true, false, refl, sym, ap, ap₂, ◌∙◌, subst, arith, List, [], ◌∷◌, ◌++◌, length, take, drop, IsTrue, Some, None, Result, Ok, Err, slice_get}
+use Rattle.std.proofs.Common.{◌≡◌, ◌≢◌, ℕ, zero, suc, ◌+◌, ◌<◌, ◌≤◌, true, false, refl, sym, ap, ap₂, ◌∙◌, subst, arith, List, [], ◌∷◌, ◌++◌, length, take}
+use Rattle.std.proofs.Common.{drop, IsTrue, Some, None, Result, Ok, Err, slice_get}
 use Rattle.std.specs.Prelude.{OnErr}
 use Rattle.ub_base.specs.declared.clause.Clause.{Clause}
 use Rattle.ub_base.specs.declared.clause.Cause.{Cause}
@@ -25,14 +26,14 @@ use Rattle.prov_memory.proofs.KeepLemmas.{keeps_none}
 use Rattle.libc_spec.specs.Formatted.{printed_to_by, stored_by}
 use Rattle.libc_spec.specs.Library.{LibValue, number, pointer, nothing, argument_at, called, integer_in, prov_in, size_of_value}
 use Rattle.libc_spec.specs.Print.{Argument, printed_by}
-use Rattle.libc_model.specs.Answers.{Answers, AreTyped, AreWithin, ArgumentsMade, GivesMade, HaveCells, IsCall, StandHigh}
-use Rattle.libc_model.specs.Answers.{are_sizes, given_value, gives_value, is_size, size_places}
-use Rattle.libc_model.specs.Seen.{value_seen, values_seen}
+use Rattle.libc_arguments.specs.Answers.{Answers, AreTyped, AreWithin, ArgumentsMade, GivesMade, HaveCells, IsCall, StandHigh}
+use Rattle.libc_arguments.specs.Answers.{are_sizes, given_value, gives_value, is_size, size_places}
+use Rattle.libc_arguments.specs.Seen.{value_seen, values_seen}
 use Rattle.libc_print.specs.Seen as printing
 use Rattle.c_model.specs.Libraries.{result, typed}
 use Rattle.library_laws.specs.Called.{called_with}
-use Rattle.run_acts.specs.Kept.{IsOf}
-use Rattle.run_acts.specs.Views.{value_in}
+use Rattle.run_values.specs.Kept.{IsOf}
+use Rattle.run_values.specs.Views.{value_in}
 use Rattle.run_layout.specs.declared.steps.Operand.{Operand}
 use Rattle.run_state.specs.declared.machine.Machine.{Machine}
 use Rattle.run_state.specs.Operands.{operand_in}
@@ -41,7 +42,8 @@ use Rattle.run_answers.specs.declared.outcome.Outcome.{Outcome}
 use Rattle.run_answers.specs.declared.outcome.Outcome.TheVariants as outcome
 use Rattle.run_answers.specs.declared.fault.Fault.{Fault}
 use Rattle.run_answers.specs.declared.fault.Fault.TheVariants as fault
-use Rattle.run_answers.specs.LibraryCalls.{Arguments, AreArguments, CallsLibrary, CanCall, ChangesByCall, DoesCall, IsAnswered, TakesAnswer, TouchesStreams, call_in, types_seen}
+use Rattle.run_answers.specs.LibraryCalls.{Arguments, AreArguments, CallsLibrary, CanCall, ChangesByCall, DoesCall, IsAnswered, TakesAnswer, TouchesStreams}
+use Rattle.run_answers.specs.LibraryCalls.{call_in, types_seen}
 use Rattle.run_answers.specs.Performs.{store_in}
 use Rattle.run_answers.proofs.Doing.{cell_of}
 use Rattle.run_events.proofs.Rooms.{no_fewer}

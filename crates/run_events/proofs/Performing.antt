@@ -11,8 +11,8 @@ use Rattle.c_typed.specs.Lawful.{ContentIsLawful}
 use Rattle.c_typed.specs.declared.program.Constant.{Constant}
 use Rattle.mem_spec.specs.Script.{Script, run}
 use Rattle.c_model.specs.Values.{Value, Nothing, pointer_of}
-use Rattle.run_acts.specs.Contents.{CanHoldAll}
-use Rattle.run_acts.proofs.Starting.{can_hold_all}
+use Rattle.run_values.specs.Contents.{CanHoldAll}
+use Rattle.run_values.proofs.Placed.{can_hold_all}
 use Rattle.run_layout.specs.declared.steps.Act.{Act}
 use Rattle.run_layout.specs.declared.steps.Act.TheVariants as act
 use Rattle.run_layout.specs.declared.steps.Operand.{Operand}

@@ -14,10 +14,10 @@ use Rattle.prov_memory.specs.Memory.{Kept, store_of}
 use Rattle.prov_memory.specs.Sound.{IsSound}
 use Rattle.c_model.specs.Nodes.{put}
 use Rattle.c_model.specs.Values.{Nothing}
-use Rattle.run_acts.specs.declared.values.Pointer.{Pointer}
-use Rattle.run_acts.specs.Kept.{IsOf}
-use Rattle.run_acts.specs.Stores.{CanStore, SeesAs}
-use Rattle.run_acts.specs.Views.{value_in, pointer_at}
+use Rattle.run_values.specs.declared.values.Pointer.{Pointer}
+use Rattle.run_values.specs.Kept.{IsOf}
+use Rattle.run_values.specs.Stores.{CanStore, SeesAs}
+use Rattle.run_values.specs.Views.{value_in, pointer_at}
 use Rattle.run_layout.specs.declared.steps.StoreCode.{StoreCode}
 use Rattle.run_state.specs.declared.machine.Machine.{Machine}
 use Rattle.run_state.specs.Stands.{IsVia, StandsTables}

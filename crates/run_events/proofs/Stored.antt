@@ -21,13 +21,13 @@ use Rattle.c_model.specs.Nodes.{fill, put}
 use Rattle.c_model.specs.Program.{Filling as Filled}
 use Rattle.c_model.specs.Values as model
 use Rattle.c_model.specs.Values.{Value, Nothing, pointer_of}
-use Rattle.run_acts.specs.declared.storage.Filling.{Filling}
-use Rattle.run_acts.specs.declared.values.Pointer.{Pointer}
-use Rattle.run_acts.specs.Contents.{filled_by}
-use Rattle.run_acts.specs.Fills.{AreFillings}
-use Rattle.run_acts.specs.Kept.{IsOf, AreOf}
-use Rattle.run_acts.specs.Stores.{CanStore, SeesAs}
-use Rattle.run_acts.specs.Views.{value_in, pointer_at}
+use Rattle.run_values.specs.declared.filling.Filling.{Filling}
+use Rattle.run_values.specs.declared.values.Pointer.{Pointer}
+use Rattle.run_values.specs.Contents.{filled_by}
+use Rattle.run_values.specs.Fills.{AreFillings}
+use Rattle.run_values.specs.Kept.{IsOf, AreOf}
+use Rattle.run_values.specs.Stores.{CanStore, SeesAs}
+use Rattle.run_values.specs.Views.{value_in, pointer_at}
 use Rattle.run_layout.specs.declared.steps.Operand.{Operand}
 use Rattle.run_layout.specs.declared.steps.StoreCode.{StoreCode}
 use Rattle.run_state.specs.declared.machine.Machine.{Machine}

@@ -35,10 +35,10 @@ use Rattle.c_model.specs.Nodes.{bool_value, changed, given_back, int_outcome, un
 use Rattle.c_model.specs.Nodes as nodes
 use Rattle.c_model.specs.Values as model
 use Rattle.c_model.specs.Values.{Value, Nothing, integer_of, pointer_of, truth}
-use Rattle.run_acts.specs.declared.values.Pointer.{Pointer}
-use Rattle.run_acts.specs.Kept.{IsOf}
+use Rattle.run_values.specs.declared.values.Pointer.{Pointer}
+use Rattle.run_values.specs.Kept.{IsOf}
 use Rattle.run_acts.specs.Updates.{CanChange, IsNearChange}
-use Rattle.run_acts.specs.Views.{value_in, pointer_at}
+use Rattle.run_values.specs.Views.{value_in, pointer_at}
 use Rattle.run_layout.specs.declared.steps.Act.{Act}
 use Rattle.run_layout.specs.declared.steps.Act.TheVariants as act
 use Rattle.run_layout.specs.declared.steps.Operand.{Operand}

@@ -5,8 +5,8 @@ use Rattle.exposure.specs.declared.prov.Prov.TheVariants.{Whole}
 use Rattle.prov_memory.specs.declared.value.Value.{Value as Kept_value}
 use Rattle.prov_memory.specs.Memory.{Kept}
 use Rattle.c_model.specs.Values.{pointer_of}
-use Rattle.run_acts.specs.declared.values.Pointer.{Pointer}
-use Rattle.run_acts.specs.Views.{value_in, pointer_at}
+use Rattle.run_values.specs.declared.values.Pointer.{Pointer}
+use Rattle.run_values.specs.Views.{value_in, pointer_at}
 use Rattle.run_layout.specs.declared.steps.Operand.{Operand}
 use Rattle.run_state.specs.declared.machine.Machine.{Machine}
 use Rattle.run_state.specs.Operands.{operand_in}

@@ -7,8 +7,8 @@ ghost use Rattle.prov_memory.specs.Made.{IsMade};
 ghost use Rattle.prov_memory.specs.Keeps.{Keeps, RowsStay};
 ghost use Rattle.prov_memory.specs.Memory.{HasCell, Kept};
 ghost use Rattle.prov_memory.specs.Sound.{IsSound};
-ghost use Rattle.run_acts.specs.Kept.{IsOf};
-ghost use Rattle.run_acts.specs.Views.{value_in, pointer_at};
+ghost use Rattle.run_values.specs.Kept.{IsOf};
+ghost use Rattle.run_values.specs.Views.{value_in, pointer_at};
 ghost use Rattle.run_layout.specs.Named.{IsNamed};
 ghost use Rattle.c_typed.specs.declared.tree.Access.TheVariants as accesses;
 ghost use Rattle.c_typed.specs.declared.tree.Conversion.TheVariants as conversions;
@@ -30,9 +30,10 @@ use crate::updates::update;
 use c_typed::{Access, Conversion, EqOp, RelOp, UnOp};
 use c_types::{BinOp, IntKind, Ty};
 use prov_memory::{Value, Via};
+use run_values::{Filling, Pointer};
 use run_acts::{
-    Filling, Pointer, answer, binary, convert, distance, equal, fill, load, member, moved, part,
-    related, store, unary,
+    answer, binary, convert, distance, equal, fill, load, member, moved, part, related, store,
+    unary,
 };
 use run_answers::{Fault, Outcome};
 use run_layout::{Act, Operand, StoreCode};

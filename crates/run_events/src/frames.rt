@@ -1,10 +1,10 @@
 // The bodies of calls, and the frames that they start.
 ghost use Rattle.std.specs.Prelude.{◌≡◌, false, OnErr, OnOk, IfOk, Some, slice_get};
 ghost use Rattle.c_model.specs.Values.{function_in};
-ghost use Rattle.libc_model.specs.Answers.{gives_value};
+ghost use Rattle.libc_arguments.specs.Answers.{gives_value};
 ghost use Rattle.prov_memory.specs.Memory.{Kept};
 ghost use Rattle.prov_memory.specs.declared.value.Value.{Value as Kept_value};
-ghost use Rattle.run_acts.specs.Views.{value_in};
+ghost use Rattle.run_values.specs.Views.{value_in};
 ghost use Rattle.run_state.specs.Operands.{operand_in};
 ghost use Rattle.run_answers.specs.Calling.{library_in, Calls};
 ghost use Rattle.run_answers.specs.Depth.{StartsWithin};
@@ -15,11 +15,12 @@ use crate::places::value_in_room;
 use c_typed::Program;
 use c_types::LibFunc;
 use prov_memory::{LibAnswer, Values};
-use run_acts::{as_function, callee};
+use run_acts::callee;
 use run_answers::{Fault, Outcome};
 use run_control::Use;
 use run_layout::{CallCode, FunctionCode, Operand, Range};
 use run_state::{Machine, Open};
+use run_values::as_function;
 use ub_base::{Cause, Clause, Event, Items, NoMemory};
 
 // How many frames of functions may be open at once (own).

@@ -5,7 +5,7 @@ ghost use Rattle.run_events.specs.Places.{into_object, LeadsTo};
 
 use exposure::Prov;
 use prov_memory::Value;
-use run_acts::{Pointer, pointer_to};
+use run_values::{Pointer, pointer_to};
 use run_layout::Operand;
 use run_state::Machine;
 use ub_base::ObjName;

@@ -8,7 +8,7 @@ use Rattle.run_layout.specs.Functions.{HaveBlocks, HaveExpressions, laid_in}
 use Rattle.run_layout.specs.OfTrees.{ListsTrees}
 use Rattle.run_layout.specs.Roots.{AreInBlocks, HaveCode}
 use Rattle.run_answers.specs.Passing.{RowsAreLawful}
-use Rattle.run_state.specs.Begins.{KeepsLabels}
+use Rattle.run_start.specs.Begins.{KeepsLabels}
 use Rattle.run_state.specs.Meaning.{StandsProgram}
 use Rattle.run_state.specs.Operands.{AreAddresses}
 use Rattle.run_statements.specs.declared.jumps.Jumps.{Jumps}

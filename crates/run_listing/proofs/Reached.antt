@@ -1,5 +1,6 @@
 -- Where an event is reached, nothing is passed over behind it.
-use Rattle.std.proofs.Common.{◌≡◌, ℕ, zero, suc, Bool, true, false, ◌||◌, if◌then◌else◌, List, [], ◌∷◌, ◌++◌, append_assoc, refl, sym, ap, subst, ◌∙◌, inl, inr, true≢false}
+use Rattle.std.proofs.Common.{◌≡◌, ℕ, zero, suc, Bool, true, false, ◌||◌, if◌then◌else◌, List, [], ◌∷◌, ◌++◌, append_assoc, refl, sym, ap, subst, ◌∙◌, inl, inr}
+use Rattle.std.proofs.Common.{true≢false}
 use Rattle.c_typed.specs.declared.tree.Place.{Place}
 use Rattle.c_typed.specs.Order.{Taken, same_place, has, is_number}
 use Rattle.elaborate.proofs.Once.{Unique, unique_once}
@@ -14,7 +15,8 @@ left_over taken (suc skip) (e ∷ es) = left_over taken skip es
 left_over taken zero (event p ∷ es) = left_over taken 0 es
 left_over taken zero (operand node index count ∷ es) = left_over taken (if is_number (taken node) index then 0 else count) es
 
-passed_append : (taken : Taken) (skip : ℕ) (xs ys : List Entry) → passed taken skip (xs ++ ys) ≡ passed taken skip xs ++ passed taken (left_over taken skip xs) ys
+passed_append : (taken : Taken) (skip : ℕ) (xs ys : List Entry) →
+    passed taken skip (xs ++ ys) ≡ passed taken skip xs ++ passed taken (left_over taken skip xs) ys
 passed_append taken skip [] ys = refl
 passed_append taken (suc skip) (e ∷ xs) ys = passed_append taken skip xs ys
 passed_append taken zero (event p ∷ xs) ys = ap (λ z. p ∷ z) (passed_append taken 0 xs ys)

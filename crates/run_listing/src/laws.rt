@@ -20,8 +20,8 @@ pub fn law_listed_tree()
 }
 
 /// Along a run the cursor stands where the canonical order of the definitions does: the next event that is listed is the canonical pick, and
-/// the control step is where none is; what was passed is what is done, and an event may come next by it exactly where it may by the definitions. So it stands as a
-/// full expression begins, behind the next event as that is done or its body starts, and where it stood as the body ends.
+/// the control step is where none is; what was passed is what is done, and an event may come next by it exactly where it may by the definitions.
+/// So it stands as a full expression begins, behind the next event as that is done or its body starts, and where it stood as the body ends.
 pub fn law_cursor()
     ensures next { NextIsCanonical }
     ensures permits { PermitsPicks }

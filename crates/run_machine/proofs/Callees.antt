@@ -86,7 +86,7 @@ use Rattle.program_view.specs.Laws.{TreesAreKept}
 use Rattle.program_view.specs.Statements.{defined, definition}
 use Rattle.program_view.specs.View as view
 use Rattle.run_acts.specs.Calls.{AgreesAsCompatible, AreFunctions}
-use Rattle.run_acts.specs.Views.{value_in}
+use Rattle.run_values.specs.Views.{value_in}
 use Rattle.run_control.specs.View.{Meaning}
 use Rattle.run_layout.specs.declared.steps.Act.TheVariants as act
 use Rattle.run_layout.specs.declared.steps.Due.{Due}
@@ -411,7 +411,8 @@ module _ (trees : TreesAreKept) (starts : StandsAtStart) (d : Due) (now start do
     )
 
     -- with what was started
-    function_called : (o : Opening) → StartsFunction past o.number passed who done → CallsFunction world meaning m st e s d.place done (step world st (Ev d.place))
+    function_called : (o : Opening) → StartsFunction past o.number passed who done →
+        CallsFunction world meaning m st e s d.place done (step world st (Ev d.place))
     function_called o opens = record {
       due = d;
       place = refl;

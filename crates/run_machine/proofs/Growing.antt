@@ -65,17 +65,17 @@ use Rattle.c_model.specs.Nodes.{content_bytes}
 use Rattle.c_model.specs.Steps.{Begun, Local, Scene, auto_name}
 use Rattle.c_model.specs.Values.{Value, Whole as Block_value}
 use Rattle.c_model.specs.World.{World}
-use Rattle.run_acts.specs.declared.initial.Places.{Places}
-use Rattle.run_acts.specs.declared.storage.Filling.{Filling}
-use Rattle.run_acts.specs.Contents.{CanHold, CanHoldAll, IsPlaced, address_of, content_of, filled_by}
-use Rattle.run_acts.specs.Fills.{AreFillings}
-use Rattle.run_acts.specs.Kept.{AreOf, IsOf}
-use Rattle.run_acts.specs.Starting.{ArePlaced}
-use Rattle.run_acts.specs.Stores.{SeesAs}
-use Rattle.run_acts.specs.Views.{value_in}
-use Rattle.run_acts.proofs.Keeping.{fillings_stay, values_stay}
-use Rattle.run_acts.proofs.Starting.{can_hold_all, placed_still}
-use Rattle.run_acts.proofs.Statics.{named_still}
+use Rattle.run_values.specs.declared.places.Places.{Places}
+use Rattle.run_values.specs.declared.filling.Filling.{Filling}
+use Rattle.run_values.specs.Contents.{CanHold, CanHoldAll, IsPlaced, address_of, content_of, filled_by}
+use Rattle.run_values.specs.Fills.{AreFillings}
+use Rattle.run_values.specs.Kept.{AreOf, IsOf}
+use Rattle.run_values.specs.Placed.{ArePlaced}
+use Rattle.run_values.specs.Stores.{SeesAs}
+use Rattle.run_values.specs.Views.{value_in}
+use Rattle.run_values.proofs.Keeping.{fillings_stay, values_stay}
+use Rattle.run_values.proofs.Placed.{can_hold_all, placed_still}
+use Rattle.run_values.proofs.Placed.{named_still}
 use Rattle.run_layout.specs.declared.steps.StoreCode.{StoreCode}
 use Rattle.run_control.specs.declared.work.Work.{Work}
 use Rattle.run_control.specs.View.{Meaning}

@@ -1,5 +1,6 @@
 -- What a control step does to the machine, by the calls of which it consists.
-use Rattle.std.proofs.Common.{◌≡◌, inl, inr, ℕ, ◌+◌, ◌-◌, ◌≤◌, ◌^◌, min, Bool, true, false, refl, sym, ap, ◌∙◌, subst, arith, List, [], ◌∷◌, ◌++◌, length, Option, Some, None, Result, Ok, Err, IfOk, slice_get}
+use Rattle.std.proofs.Common.{◌≡◌, inl, inr, ℕ, ◌+◌, ◌-◌, ◌≤◌, ◌^◌, min, Bool, true, false, refl, sym, ap, ◌∙◌, subst, arith, List, [], ◌∷◌, ◌++◌, length}
+use Rattle.std.proofs.Common.{Option, Some, None, Result, Ok, Err, IfOk, slice_get}
 use Rattle.std.proofs.lemmas.Result.{on_ok_weaker}
 use Rattle.std.specs.Borrow.{Bor}
 use Rattle.std.specs.Prelude.{OnOk}
@@ -23,7 +24,8 @@ use Rattle.run_state.specs.Operands.{operand_in}
 use Rattle.run_answers.specs.declared.pick.Pick.{Pick}
 use Rattle.run_answers.specs.declared.pick.Pick.TheVariants as pick
 use Rattle.run_answers.specs.Ending.{EndsFrame, GoesBack, NotesIn, NotesWay, depth_without}
-use Rattle.run_answers.specs.Keeping.{EndsTop, FillsObjects, GoesFurther, KeepsControl, KeepsFrames, KeepsPick, KeepsStep, ResultAfter, ResultBehind, StaysClosed, StaysSo, begins, ends, machine_with, stays}
+use Rattle.run_answers.specs.Keeping.{EndsTop, FillsObjects, GoesFurther, KeepsControl, KeepsFrames, KeepsPick, KeepsStep, ResultAfter, ResultBehind}
+use Rattle.run_answers.specs.Keeping.{StaysClosed, StaysSo, begins, ends, machine_with, stays}
 use Rattle.run_answers.specs.Picks.{IsOfEvent}
 use Rattle.run_answers.specs.Settling.{HasSelected, HasUsed}
 use Rattle.run_machine.proofs.Aside.{operand_aside}

@@ -51,8 +51,8 @@ use Rattle.prov_memory.specs.Made.{IsMade}
 use Rattle.prov_memory.specs.Memory.{Kept}
 use Rattle.prov_memory.specs.Pieces.{IsMadeValue}
 use Rattle.libc_spec.specs.Library.{LibValue, heap_name, prov_in}
-use Rattle.libc_model.specs.Answers.{ArgumentsMade}
-use Rattle.libc_model.specs.Seen.{value_seen, values_seen}
+use Rattle.libc_arguments.specs.Answers.{ArgumentsMade}
+use Rattle.libc_arguments.specs.Seen.{value_seen, values_seen}
 use Rattle.c_model.specs.Libraries.{passed}
 use Rattle.c_model.specs.Program.{Function}
 use Rattle.c_model.specs.Runs.{Entry, Ends, Raises, State, depth_of, entry_of, library_of, limit_passed, step}
@@ -77,7 +77,7 @@ use Rattle.c_model.specs.Values.{Value, function_in, later_values}
 use Rattle.c_model.specs.World.{World}
 use Rattle.library_laws.specs.Calls.{CallsMoreRows, ComesToAct, HasLibrary, IsLibraryCall, LibraryCallSteps}
 use Rattle.run_acts.specs.Calls.{AreFunctions}
-use Rattle.run_acts.specs.Views.{value_in}
+use Rattle.run_values.specs.Views.{value_in}
 use Rattle.run_control.specs.View.{Meaning}
 use Rattle.run_layout.specs.declared.steps.Act.TheVariants as act
 use Rattle.run_layout.specs.declared.steps.Due.{Due}

@@ -21,13 +21,13 @@ use Rattle.c_model.specs.Runs.{State}
 use Rattle.c_model.specs.Steps.{Scene, Local, Begun, auto_name}
 use Rattle.c_model.specs.Values.{Value}
 use Rattle.c_model.specs.World.{World}
-use Rattle.run_acts.specs.declared.storage.Filling.{Filling}
-use Rattle.run_acts.specs.Contents.{filled_by}
-use Rattle.run_acts.specs.Fills.{AreFillings}
-use Rattle.run_acts.specs.Stores.{SeesAs}
-use Rattle.run_acts.specs.Views.{value_in}
-use Rattle.run_acts.proofs.Keeping.{values_stay, fillings_stay}
-use Rattle.run_acts.proofs.Starting.{placed_still}
+use Rattle.run_values.specs.declared.filling.Filling.{Filling}
+use Rattle.run_values.specs.Contents.{filled_by}
+use Rattle.run_values.specs.Fills.{AreFillings}
+use Rattle.run_values.specs.Stores.{SeesAs}
+use Rattle.run_values.specs.Views.{value_in}
+use Rattle.run_values.proofs.Keeping.{values_stay, fillings_stay}
+use Rattle.run_values.proofs.Placed.{placed_still}
 use Rattle.run_layout.specs.declared.steps.StoreCode.{StoreCode}
 use Rattle.run_control.specs.declared.work.Work.{Work}
 use Rattle.run_control.specs.View.{Meaning}

@@ -69,7 +69,8 @@ pub record Comes (world : World) (meaning : Option ℕ → Meaning) (old : Machi
   pub same : due.now.place ≡ u
   pub may : MayTake world meaning (record old { items = [] }) st e s laid due.now (record mid { items = is })
 
-pub comes : NextIsPermitted → (old mid : Machine) (is : List Item) (next : Option (Bor Due)) (due : Bor Due) → Follows old mid next → next ≡ Some due → is ≡ [] →
+pub comes : NextIsPermitted → (old mid : Machine) (is : List Item) (next : Option (Bor Due)) (due : Bor Due) → Follows old mid next → next ≡ Some due →
+    is ≡ [] →
     TakesCanonical old (place_of next) → (world : World) (meaning : Option ℕ → Meaning) (st : State) (e : Begun) (s : Stage) (laid : Expression) (u : Place) →
     MayTakeNext world meaning old st e s laid → canonical_pick world st.top st.top.begun ≡ Ev u → Comes world meaning old is st e s laid due mid u
 comes permits old mid is next due f some none canonical world meaning st e s laid u asks picks =

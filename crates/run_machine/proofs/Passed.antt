@@ -1,5 +1,6 @@
 -- Parameters take their arguments: what the definitions do, and what the machine then stands for.
-use Rattle.std.proofs.Common.{◌≡◌, ℕ, zero, suc, ◌+◌, ◌<◌, ◌≤◌, ◌^◌, min, Bool, true, refl, sym, ap, ◌∙◌, subst, arith, List, [], ◌∷◌, ◌++◌, length, reverse, Option, Some, None, slice_get}
+use Rattle.std.proofs.Common.{◌≡◌, ℕ, zero, suc, ◌+◌, ◌<◌, ◌≤◌, ◌^◌, min, Bool, true, refl, sym, ap, ◌∙◌, subst, arith, List, [], ◌∷◌, ◌++◌, length, reverse}
+use Rattle.std.proofs.Common.{Option, Some, None, slice_get}
 use Rattle.std.specs.Prelude.{take, Result, Ok, Err}
 use Rattle.std.proofs.lemmas.List.{length-reverse, length-take-le}
 use Rattle.std.proofs.lemmas.Option.{same_Some}
@@ -25,7 +26,7 @@ use Rattle.c_model.specs.Runs.{Entry, State}
 use Rattle.c_model.specs.Steps.{Begun, Scene, auto_name, object_at, pass_all}
 use Rattle.c_model.specs.Values.{Value, Nothing, address_after}
 use Rattle.c_model.specs.World.{World}
-use Rattle.run_acts.specs.Views.{value_in}
+use Rattle.run_values.specs.Views.{value_in}
 use Rattle.run_layout.specs.declared.steps.ObjectCode.{ObjectCode}
 use Rattle.run_layout.specs.declared.steps.StoreCode.{StoreCode}
 use Rattle.run_control.specs.View.{Meaning}
@@ -222,7 +223,8 @@ passed_stands world meaning m n st trace s none closed to is keeps rows rooms =
           begun = begun_closed world mg m k (length os) m.top m.top.stage st.top.scene st.top.begun None closed frame.begun;
         },
         s.frames.1,
-        frames_under world m k m.top keeps m.top.base (length m.below.items) rooms (λ j b ne e. e) (λ j other ne e. e) meaning m.top st.top os m.work.below st.held
+        frames_under world m k m.top keeps m.top.base (length m.below.items) rooms (λ j b ne e. e) (λ j other ne e. e) meaning m.top st.top os m.work.below
+            st.held
             high (omega arith) s.frames.1 to s.frames.2,
       );
       result = result_stays m.memory n.memory m.left keeps s.result;

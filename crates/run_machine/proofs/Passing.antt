@@ -1,5 +1,6 @@
 -- Parameters take their arguments: what the code does, one after the other.
-use Rattle.std.proofs.Common.{◌≡◌, ◌≢◌, ℕ, zero, suc, ◌+◌, ◌-◌, ◌<◌, ◌^◌, ◌==◌, min, Bool, true, false, refl, sym, ap, ◌∙◌, subst, arith, append_assoc, get_or, not, List, [], ◌∷◌, ◌++◌, length, Option, Some, None, slice_get}
+use Rattle.std.proofs.Common.{◌≡◌, ◌≢◌, ℕ, zero, suc, ◌+◌, ◌-◌, ◌<◌, ◌^◌, ◌==◌, min, Bool, true, false, refl, sym, ap, ◌∙◌, subst, arith, append_assoc, get_or}
+use Rattle.std.proofs.Common.{not, List, [], ◌∷◌, ◌++◌, length, Option, Some, None, slice_get}
 use Rattle.std.specs.Prelude.{is_some, option_map, Result, Ok, Err}
 use Rattle.ub_base.specs.declared.clause.Clause.{Clause}
 use Rattle.ub_base.specs.declared.clause.Clause.TheVariants.{DeadObject, EffectiveType, InvalidPointer, OutOfBounds, OverlappingAssignment}
@@ -30,10 +31,10 @@ use Rattle.prov_memory.proofs.KeepLemmas.{keeps_none, keeps_then}
 use Rattle.c_model.specs.Nodes.{overlap_inexactly, put, put_whole}
 use Rattle.c_model.specs.Values as model
 use Rattle.c_model.specs.Values.{Fun, Int, Nothing, Pointer, Ptr, Value, address_after, function_in, int_bytes, integer_of, pointer_of}
-use Rattle.run_acts.specs.declared.values.Pointer.{Pointer as Place}
-use Rattle.run_acts.specs.Kept.{IsOf}
-use Rattle.run_acts.specs.Views.{pointer_at, value_in}
-use Rattle.run_acts.proofs.Keeping.{values_stay}
+use Rattle.run_values.specs.declared.values.Pointer.{Pointer as Place}
+use Rattle.run_values.specs.Kept.{IsOf}
+use Rattle.run_values.specs.Views.{pointer_at, value_in}
+use Rattle.run_values.proofs.Keeping.{values_stay}
 use Rattle.run_layout.specs.declared.steps.ObjectCode.{ObjectCode}
 use Rattle.run_layout.specs.declared.steps.Operand.TheVariants as operand
 use Rattle.run_layout.specs.declared.steps.StoreCode.{StoreCode}

@@ -54,7 +54,8 @@ raised_next old mid due next now follows some canonical frame turn event line is
       event_is = is ∙ event_seen world meaning old now st due.now.place stands frame turn ∙ ap (λ (v : Place). event_of world st.top.scene v) same;
       line_is = at;
       next = λ s stage straight.
-          let came = came_next old mid s due old.top.stage (top_of old) straight stage refl (subst (λ (o : Option (Bor Due)). Follows old mid o) some follows) in
+          let came = came_next old mid s due old.top.stage (top_of old) straight stage refl (subst (λ (o : Option (Bor Due)). Follows old mid o) some follows)
+              in
           ((came.count, due), came.comes, refl);
     }
 

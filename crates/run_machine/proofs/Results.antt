@@ -15,9 +15,9 @@ use Rattle.c_model.specs.Values.{Value, Int, Missing, Nothing}
 use Rattle.c_model.specs.World.{World}
 use Rattle.program_view.specs.View.{function_of, is_void}
 use Rattle.run_acts.specs.Calls.{left_of}
-use Rattle.run_acts.specs.Kept.{IsOf}
-use Rattle.run_acts.specs.Views.{value_in}
-use Rattle.run_acts.proofs.Keeping.{int_of, nothing_of}
+use Rattle.run_values.specs.Kept.{IsOf}
+use Rattle.run_values.specs.Views.{value_in}
+use Rattle.run_values.proofs.Keeping.{int_of, nothing_of}
 use Rattle.run_state.specs.Meaning.{StandsProgram}
 use Rattle.run_state.specs.Stands.{IsResultOf, result_seen}
 use Rattle.run_answers.specs.Ending.{IsFunctionIn, LeavesNone, LeavesValue, depth_without}

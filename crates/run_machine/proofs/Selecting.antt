@@ -11,7 +11,7 @@ use Rattle.c_model.specs.Program.{Stmt}
 use Rattle.c_model.specs.Values.{integer_of, truth}
 use Rattle.c_model.specs.World.{World}
 use Rattle.c_typed.specs.declared.program.Program.{Program}
-use Rattle.run_acts.specs.Views.{value_in}
+use Rattle.run_values.specs.Views.{value_in}
 use Rattle.run_control.specs.declared.links.Link.{Link}
 use Rattle.run_control.specs.declared.links.Place.{Place}
 use Rattle.run_control.specs.declared.statement.Statement.{Statement}

@@ -50,8 +50,8 @@ use Rattle.c_model.specs.Runs.{
 use Rattle.c_model.specs.Steps.{Begun, Control, Local, MayPick, Scene, does, ends_with, is_result, move, next, result_of, root_value, settled}
 use Rattle.c_model.specs.Values.{Value, integer_of, truth}
 use Rattle.c_model.specs.World.{World}
-use Rattle.run_acts.specs.Kept.{IsOf}
-use Rattle.run_acts.specs.Views.{value_in}
+use Rattle.run_values.specs.Kept.{IsOf}
+use Rattle.run_values.specs.Views.{value_in}
 use Rattle.run_control.specs.declared.statement.Switch.{Switch}
 use Rattle.run_control.specs.declared.work.Use.{Use}
 use Rattle.run_control.specs.declared.work.Use.TheVariants as for_use

@@ -11,4 +11,5 @@ pub use picks::{canonical, single};
 pub use run_answers::{Completed, Pick};
 pub use run_code::code_of;
 pub use run_layout::Code;
-pub use run_state::{Begun, Halt, Machine, View, prepare};
+pub use run_start::prepare;
+pub use run_state::{Begun, Halt, Machine, View};

@@ -239,7 +239,8 @@ module _ (tags : List Tag) (o : Open) (t : Tag) (m : Member) (at : slice_get tag
   inner = member_forms (forms_by o.depth tags) tags o.tag (o.next + 1) (left_in tags (after o))
 
   pub contribution_is : (rest : Forms) →
-      contribution tags o rest ≡ moved o.offset (placed (member_offset tags o.tag o.next) (form_with (forms_by o.depth tags) tags (type_of_member m)) inner) rest
+      contribution tags o rest ≡ moved o.offset (placed (member_offset tags o.tag o.next) (form_with (forms_by o.depth tags) tags (type_of_member m)) inner)
+          rest
   contribution_is rest =
       ap (λ (ms : List Member). moved o.offset (member_forms (forms_by o.depth tags) tags o.tag o.next ms) rest) left_is
 

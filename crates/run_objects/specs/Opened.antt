@@ -1,5 +1,6 @@
 -- Structures and unions some of whose members are still to be placed, the innermost last.
-use Rattle.std.specs.Prelude.{◌≡◌, ℕ, zero, suc, ◌+◌, ◌^◌, ◌≤◌, ◌==◌, Bool, true, false, List, [], ◌∷◌, ◌++◌, drop, slice_get, Option, Some, None, if◌then◌else◌}
+use Rattle.std.specs.Prelude.{◌≡◌, ℕ, zero, suc, ◌+◌, ◌^◌, ◌≤◌, ◌==◌, Bool, true, false, List, [], ◌∷◌, ◌++◌, drop, slice_get, Option, Some, None}
+use Rattle.std.specs.Prelude.{if◌then◌else◌}
 use Rattle.c_types.specs.Types.{CType, int, enumeration, pointer, array, struct, union}
 use Rattle.c_types.specs.Layout.{extents, number_in, size_of, type_of_member}
 use Rattle.c_types.specs.Shapes.{Form, Forms, Put, repeat, place}

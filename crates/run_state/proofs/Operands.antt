@@ -33,14 +33,15 @@ use Rattle.c_model.specs.Values.{Value, Int, Ptr, address_after, integer_of}
 use Rattle.c_model.specs.World.{World}
 use Rattle.program_view.specs.Trees.{expr_of, exprs_of, is_pointer, constant_head}
 use Rattle.program_view.proofs.Seen.{node_in, operands_in, own_type, head_in, expr_at, by_size}
-use Rattle.run_acts.specs.Contents.{StandsAt}
-use Rattle.run_acts.specs.Kept.{IsOf}
-use Rattle.run_acts.specs.Views.{value_in}
-use Rattle.run_acts.proofs.Starting.{all_at}
+use Rattle.run_values.specs.Contents.{StandsAt}
+use Rattle.run_values.specs.Kept.{IsOf}
+use Rattle.run_values.specs.Views.{value_in}
+use Rattle.run_values.proofs.Placed.{all_at}
 use Rattle.run_layout.specs.declared.steps.BlockCode.{BlockCode}
 use Rattle.run_layout.specs.declared.steps.Operand.{Operand}
 use Rattle.run_layout.specs.declared.steps.Operand.TheVariants as operand
-use Rattle.run_layout.specs.Resolved.{NodeResolved, node_resolved, tree_resolved, resolved, first_resolved, converted, member_of, constant_of, local_number, object_of}
+use Rattle.run_layout.specs.Resolved.{NodeResolved, node_resolved, tree_resolved, resolved, first_resolved, converted, member_of, constant_of, local_number}
+use Rattle.run_layout.specs.Resolved.{object_of}
 use Rattle.run_state.specs.declared.machine.Local.{Local}
 use Rattle.run_state.specs.declared.machine.Machine.{Machine}
 use Rattle.run_state.specs.Stands.{StandsLocal, StandLocals}
@@ -110,7 +111,8 @@ module _ (world : World) (m : Machine) (f : Scene) (block k : ℕ) (code : Block
 -- a pointer into an object, as it is resolved and as the definitions have it
 abbrev Points : Machine → Operand → Value → Type 0
 Points m (operand.Local number offset) v =
-    (x : Local) × (slice_get m.locals.items (m.top.locals + number) ≡ Some x) × IsMade m.memory (Whole x.name) × (v ≡ Ptr (address_after x.addr offset) (Whole x.name))
+    (x : Local) × (slice_get m.locals.items (m.top.locals + number) ≡ Some x) × IsMade m.memory (Whole x.name) ×
+        (v ≡ Ptr (address_after x.addr offset) (Whole x.name))
 Points m (operand.Static number offset) v =
     (a : ℕ) × (slice_get m.places.objects number ≡ Some a) × IsMade m.memory (Whole (object.Static number))
     × (v ≡ Ptr (address_after a offset) (Whole (object.Static number)))
@@ -157,7 +159,8 @@ module _ (world : World) (m : Machine) (f : Scene) (firsts : List ℕ) (stands :
       go (Some r) e = stands.addresses x r e
 
   placed : (x : ObjName) (addresses : List ℕ) (k : ℕ) → StandsAt m.memory x addresses k
-      → (a : ℕ) × (slice_get addresses k ≡ Some a) × IsMade m.memory (Whole x) × (Ptr (base_in (row_of world.rows x)) (Whole x) ≡ Ptr (address_after a 0) (Whole x))
+      → (a : ℕ) × (slice_get addresses k ≡ Some a) × IsMade m.memory (Whole x) ×
+          (Ptr (base_in (row_of world.rows x)) (Whole x) ≡ Ptr (address_after a 0) (Whole x))
   placed x addresses k there =
       let a = there.0 in
       let s = there.2 in
@@ -169,7 +172,8 @@ module _ (world : World) (m : Machine) (f : Scene) (firsts : List ℕ) (stands :
   object_points : (s : Slot) → IsThere m firsts f.blocks s → Points m (object_of firsts s) (pointer_to world (name_of world f s))
   object_points (slot.Static k) there =
       placed (object.Static k) m.places.objects k
-      (all_at m.memory (λ j. object.Static j) 0 k m.places.objects k (omega arith) (omega (arith, stands.places.objects.count, there)) stands.places.objects.stand)
+      (all_at m.memory (λ j. object.Static j) 0 k m.places.objects k (omega arith) (omega (arith, stands.places.objects.count, there))
+          stands.places.objects.stand)
   object_points (slot.Auto block decl) there =
       let code = there.0 in
       let x = auto_name world f (turn_of f.blocks block) decl in
@@ -293,7 +297,8 @@ module _ (world : World) (m : Machine) (f : Scene) (firsts : List ℕ) (stands :
   quiet_opened (shape.Func k) ty line ts n q named = (kept.Func _, refl, record { made = tt; known = tt; tagged = tt }, refl)
   quiet_opened (shape.Str k) ty line ts n q named =
       let p = placed (object.Lit k) m.places.literals k
-      (all_at m.memory (λ j. object.Lit j) 0 k m.places.literals k (omega arith) (omega (arith, stands.places.literals.count, named)) stands.places.literals.stand) in
+      (all_at m.memory (λ j. object.Lit j) 0 k m.places.literals k (omega arith) (omega (arith, stands.places.literals.count, named))
+          stands.places.literals.stand) in
       (pointer_into (object.Lit k) 0 p.0, ap (option_map (pointer_into (object.Lit k) 0)) p.1, pointer_of m (object.Lit k) 0 p.0 p.2, sym p.3)
   quiet_opened (shape.Member offset) ty line ts n q named =
       points_give m (open_node firsts (shape.Member offset) ty (map (resolved firsts) ts) n) _

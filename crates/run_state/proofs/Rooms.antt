@@ -8,8 +8,8 @@ use Rattle.prov_memory.specs.declared.value.Value.{Value as Kept_value}
 use Rattle.prov_memory.specs.declared.value.Value.TheVariants as kept
 use Rattle.prov_memory.specs.Memory.{Kept}
 use Rattle.c_model.specs.Values.{Ptr, pointer_of, pointer_value}
-use Rattle.run_acts.specs.declared.values.Pointer.{Pointer}
-use Rattle.run_acts.specs.Views.{value_in, pointer_at}
+use Rattle.run_values.specs.declared.values.Pointer.{Pointer}
+use Rattle.run_values.specs.Views.{value_in, pointer_at}
 use Rattle.run_layout.specs.declared.steps.Operand.{Operand}
 use Rattle.run_layout.specs.declared.steps.Operand.TheVariants as operand
 use Rattle.run_state.specs.declared.machine.Machine.{Machine}

@@ -18,9 +18,9 @@ use Rattle.c_model.specs.Steps.{Scene, quiet_value}
 use Rattle.c_model.specs.Values.{Value, address_after}
 use Rattle.c_model.specs.World.{World}
 use Rattle.program_view.specs.Trees.{expr_of, is_pointer}
-use Rattle.run_acts.specs.Kept.{IsOf}
-use Rattle.run_acts.specs.Starting.{ArePlaced}
-use Rattle.run_acts.specs.Views.{value_in}
+use Rattle.run_values.specs.Kept.{IsOf}
+use Rattle.run_values.specs.Placed.{ArePlaced}
+use Rattle.run_values.specs.Views.{value_in}
 use Rattle.run_layout.specs.declared.steps.BlockCode.{BlockCode}
 use Rattle.run_layout.specs.declared.steps.Operand.{Operand}
 use Rattle.run_layout.specs.declared.steps.Operand.TheVariants as operand

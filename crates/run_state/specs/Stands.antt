@@ -49,13 +49,13 @@ use Rattle.c_model.specs.Steps.{Scene, Local, Begun, auto_name, at_node, values_
 use Rattle.c_model.specs.Runs.{State, depth_of}
 use Rattle.seq_order.specs.declared.done.Marks.{Marks}
 use Rattle.seq_order.specs.Marked.{taken_in, done_in}
-use Rattle.run_acts.specs.declared.storage.Filling.{Filling}
-use Rattle.run_acts.specs.Contents.{filled_by}
-use Rattle.run_acts.specs.Fills.{AreFillings}
-use Rattle.run_acts.specs.Kept.{IsOf, AreOf}
-use Rattle.run_acts.specs.Starting.{ArePlaced}
-use Rattle.run_acts.specs.Stores.{SeesAs}
-use Rattle.run_acts.specs.Views.{value_in}
+use Rattle.run_values.specs.declared.filling.Filling.{Filling}
+use Rattle.run_values.specs.Contents.{filled_by}
+use Rattle.run_values.specs.Fills.{AreFillings}
+use Rattle.run_values.specs.Kept.{IsOf, AreOf}
+use Rattle.run_values.specs.Placed.{ArePlaced}
+use Rattle.run_values.specs.Stores.{SeesAs}
+use Rattle.run_values.specs.Views.{value_in}
 use Rattle.program_view.specs.Trees.{expr_of}
 use Rattle.run_control.specs.declared.work.Work.{Work}
 use Rattle.run_control.specs.View.{Meaning, todo_of, use_of}

@@ -1,14 +1,12 @@
-//! The state of a run: a machine with its open frames, the values of their full expressions, and memory; and how it begins.
+//! The state of a run: a machine with its open frames, the values of their full expressions, and memory.
 #![tactic(auto)]
 
 mod halt;
-mod initial;
 mod laws;
 mod machine;
 mod watch;
 
 pub use halt::Halt;
-pub use initial::prepare;
 pub use laws::law_operands;
 pub use machine::{Local, Machine, Open, Stage};
 pub use watch::{Begun, View};

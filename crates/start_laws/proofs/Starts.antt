@@ -19,12 +19,12 @@ use Rattle.c_model.specs.Steps.{Local}
 use Rattle.c_model.specs.Values.{Value}
 use Rattle.c_model.specs.World.{World, Limits}
 use Rattle.program_view.specs.View.{main_values, standing_of, world_of}
-use Rattle.run_acts.specs.Viewed.{StandsAsViewed, ViewStands}
+use Rattle.run_standing.specs.Viewed.{StandsAsViewed, ViewStands}
 use Rattle.run_statements.specs.declared.numbers.Numbers.{Numbers}
 use Rattle.run_state.specs.declared.machine.Machine.{Machine}
 use Rattle.run_state.specs.declared.machine.Open.{Open}
 use Rattle.run_state.specs.declared.machine.Stage.{Stage}
-use Rattle.run_state.specs.Begins.{IsUnstarted, StartIsWithin, StartsAs}
+use Rattle.run_start.specs.Begins.{IsUnstarted, StartIsWithin, StartsAs}
 use Rattle.run_state.specs.Meaning.{StandsProgram, world_with}
 use Rattle.value_facts.specs.Limits.{StartsWithin}
 use Rattle.frame_laws.specs.Laws.{StartsOrdered}

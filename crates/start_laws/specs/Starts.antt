@@ -10,10 +10,10 @@ use Rattle.c_model.specs.Runs.{State, Over, Running, created_after, start}
 use Rattle.c_model.specs.Values.{Value}
 use Rattle.c_model.specs.World.{World, Limits}
 use Rattle.program_view.specs.View.{main_values, world_of}
-use Rattle.run_acts.specs.Standing.{Stand, program_name}
+use Rattle.run_standing.specs.Standing.{Stand, program_name}
 use Rattle.run_statements.specs.declared.numbers.Numbers.{Numbers}
 use Rattle.run_state.specs.declared.machine.Machine.{Machine}
-use Rattle.run_state.specs.Begins.{CountsAsDefined, IsUnstarted}
+use Rattle.run_start.specs.Begins.{CountsAsDefined, IsUnstarted}
 use Rattle.code_view.specs.Starting.{IsPrepared}
 use Rattle.run_facts.specs.Going.{IsGoing}
 use Rattle.run_facts.specs.SetUp.{IsProfile, IsSetUp}

@@ -8,7 +8,7 @@ ghost use Rattle.start_laws.specs.Starts.{StartsGoing, StartsOver};
 
 use code_view::law_code;
 use frame_laws::{law_ordered, law_reached, law_scoped};
-use run_acts::law_standing;
+use run_standing::law_standing;
 use value_facts::law_within;
 
 /// Before the first pick of a run of a lawful program (5.1.2.2.1): where the objects that stand before it count no more bytes than the limit, the definitions

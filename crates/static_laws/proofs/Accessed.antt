@@ -240,7 +240,8 @@ module _ (p : Program) (function : ℕ) where
         → ◌≡◌ {A = Option Site} (Some (name_of world f slot, 0)) (Some (site_in p function world f s))
     list_spot slot s h = (let k : ◌≡◌ {A = Spot} (base.Slot slot, 0) s = cc in ap (λ z. Some (site_in p function world f z)) k)
 
-    link_by : (d : Node-F Node Typed) (n : ℕ) (t : Typed) (ty : CType) (a : MemoryAccess) → FirstLink t → IsAmong (accesses_by p function n t d) a → Links d n t ty a
+    link_by : (d : Node-F Node Typed) (n : ℕ) (t : Typed) (ty : CType) (a : MemoryAccess) → FirstLink t → IsAmong (accesses_by p function n t d) a →
+        Links d n t ty a
     link_by (shape.Load how) n t ty a k (inl e) =
         subst (Links (shape.Load how) n t ty) e (
           reach false (first_site world f (exprs_of (operands_in t))) (Some (width_of how)),
@@ -300,7 +301,8 @@ module _ (p : Program) (function : ℕ) where
     access_by _ n t ty s x Eff r h = absurd (cc)
     access_by _ n t ty s x Body r h = absurd (cc)
 
-    first_link : (ty : Typed) (cs : List Typed) → all_low p function (joined (map nodes_of cs)) ≡ true → (s : Spot) → spot_of p function (slice_get cs 0) ≡ Some s
+    first_link : (ty : Typed) (cs : List Typed) → all_low p function (joined (map nodes_of cs)) ≡ true → (s : Spot) →
+        spot_of p function (slice_get cs 0) ≡ Some s
         → first_site world f (exprs_of cs) ≡ Some (site_in p function world f s)
     first_link t [] lo s h = absurd (cc)
     first_link t (c ∷ cs) lo s h = site_is p function world f c (left (nodes_of c) (joined (map nodes_of cs)) lo) s h

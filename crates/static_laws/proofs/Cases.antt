@@ -1,5 +1,6 @@
 -- Case by case, two events of a full expression whose accesses are apart don't race.
-use Rattle.std.proofs.Common.{◌≡◌, ℕ, zero, suc, ◌+◌, ◌-◌, ◌<◌, ◌≤◌, min, max, Bool, true, false, not, ◌&&◌, ◌||◌, nat_lt, if◌then◌else◌, List, [], ◌∷◌, length, slice_get}
+use Rattle.std.proofs.Common.{◌≡◌, ℕ, zero, suc, ◌+◌, ◌-◌, ◌<◌, ◌≤◌, min, max, Bool, true, false, not, ◌&&◌, ◌||◌, nat_lt, if◌then◌else◌, List, [], ◌∷◌, length}
+use Rattle.std.proofs.Common.{slice_get}
 use Rattle.std.proofs.Common.{Option, Some, None, is_some, refl, sym, ap, ◌∙◌, subst, ◌⊎◌, inl, inr, arith, true≢false}
 use Rattle.std.proofs.lemmas.Bool.Decides.{nat_tests}
 use Rattle.std.specs.Prelude.{◌^◌, ◌==◌, nat_le}
@@ -552,7 +553,8 @@ module _ (world : World) (f : Scene) (b : Begun) (root : Typed) (is : b.root ≡
       go (Some t) q =
           let at = node_there root n ∙ ap seen q in
           let same : expr_of t ≡ expr h ty line (more a es) = (let k : Some (expr_of t) ≡ Some (expr h ty line (more a es)) = sym at ∙ et in cc) in
-          let hs = heads (head_in (node_in t) (own_type t)) h (own_type t) ty (out-Typed t).line line (exprs_of (operands_in t)) (more a es) (sym (expr_at t) ∙ same) in
+          let hs = heads (head_in (node_in t) (own_type t)) h (own_type t) ty (out-Typed t).line line (exprs_of (operands_in t)) (more a es)
+              (sym (expr_at t) ∙ same) in
           let fit = (all_small root n t few q).0 in
           fact_by n t (node_in t) (operands_in t) h ty line a es (omega (arith, fit, few)) e same refl hs.0 hs.1
           (subst (λ o. is_some (spared_where o n u v) ≡ true) q s)

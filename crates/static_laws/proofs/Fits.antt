@@ -27,7 +27,8 @@ use Rattle.c_model.specs.Program.{Expr, expr, Exprs, none, more, Function, Decl,
 use Rattle.c_model.specs.Program.{Continue, Break, Return, Return_none, Label, Case, Default, Stmts, end, and_then}
 use Rattle.c_model.specs.World.{World}
 use Rattle.c_model.specs.Steps.{target, first_type}
-use Rattle.value_laws.specs.Sizes.{StatementsFit, FunctionFits, StatementFits, Sizes, Keeps, IsUpTo, type_of, size_at, last_size, result_size, LoadFits, PartFits, StoreFits, NodeFits, ExprFits, ExprsFit, PerhapsFits}
+use Rattle.value_laws.specs.Sizes.{StatementsFit, FunctionFits, StatementFits, Sizes, Keeps, IsUpTo, type_of, size_at, last_size, result_size, LoadFits}
+use Rattle.value_laws.specs.Sizes.{PartFits, StoreFits, NodeFits, ExprFits, ExprsFit, PerhapsFits}
 use Rattle.value_laws.specs.Sizes.{InnerFits, ArgumentsFit, ArePassed}
 use Rattle.value_laws.specs.Layouts.{size_in, laid_out}
 use Rattle.value_laws.proofs.Frames.{keeps_itself}

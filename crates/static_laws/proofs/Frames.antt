@@ -149,7 +149,8 @@ module _ (world : World) where
   control_moves f (Enter k ds ∷ rest) n = record { path = refl; turn = omega arith; fresh = λ b h. absurd (not_none f n b h) }
   control_moves f (Leave k ds ∷ rest) n = record { path = refl; turn = omega arith; fresh = λ b h. absurd (not_none f n b h) }
   control_moves f (Begin e what ∷ rest) n =
-      record { path = refl; turn = omega arith; fresh = λ b h. (omega arith, λ u. (let k : record { root = e; given = λ u. None; what = what } ≡ b = cc in ap (λ z. z.given u) (sym k))) }
+      record { path = refl; turn = omega arith; fresh = λ b h.
+          (omega arith, λ u. (let k : record { root = e; given = λ u. None; what = what } ≡ b = cc in ap (λ z. z.given u) (sym k))) }
   control_moves f (Go_to k ∷ rest) n = record { path = refl; turn = omega arith; fresh = λ b h. absurd (not_none f n b h) }
   control_moves f (Go_out ∷ rest) n = record { path = refl; turn = omega arith; fresh = λ b h. absurd (not_none f n b h) }
   control_moves f (Go_on ∷ rest) n = record { path = refl; turn = omega arith; fresh = λ b h. absurd (not_none f n b h) }
@@ -217,7 +218,8 @@ module _ (world : World) where
     old = λ e v h s. (let a = k.old e v (earlier e v h) (sym m.path ∙ s) in let b = m.turn in omega (arith, a, b));
     here = λ b r e v h s t. absurd (let a = k.old e v (earlier e v h) (sym m.path ∙ s) in let c = (m.fresh b r).0 in omega (arith, a, c, t));
     above = λ e v h t n un. (let a = k.above e v (earlier e v h) t n (along_path e t n un) in let b = m.turn in omega (arith, a, b));
-    bodies = λ b r e v h n un. absurd (let a = k.above e v (earlier e v h) g.scene.turn n (along_path e g.scene.turn n un) in let c = (m.fresh b r).0 in omega (arith, a, c));
+    bodies = λ b r e v h n un. absurd (let a = k.above e v (earlier e v h) g.scene.turn n (along_path e g.scene.turn n un) in let c = (m.fresh b r).0 in
+        omega (arith, a, c));
     sound = none_given g.scene g.begun (λ b r. (m.fresh b r).1);
     scoped = sc;
   }
@@ -259,7 +261,8 @@ module _ (world : World) where
       go true = refl
       go false = h
 
-  picked_on : (b : Begun) (u v : Place) (w : Value) (waits : Option Place) → (waits ≡ None) ⊎ (waits ≡ Some u) → IsPicked b waits v → IsPicked (with_given b u w) None v
+  picked_on : (b : Begun) (u v : Place) (w : Value) (waits : Option Place) → (waits ≡ None) ⊎ (waits ≡ Some u) → IsPicked b waits v →
+      IsPicked (with_given b u w) None v
   picked_on b u v w waits o (inl h) = inl (given_on b u v w h)
   picked_on b u v w waits (inl n) (inr h) = absurd (cc)
   picked_on b u v w waits (inr s) (inr h) = (let k : u ≡ v = cc in inl (subst (λ z. is_some ((with_given b u w).given z) ≡ true) k (given_now b u w)))
@@ -399,7 +402,8 @@ module _ (world : World) where
       ]
 
   -- a frame below, as frames above it go on
-  pub kept_below : (trace : List Entry) (x : Entry) (f : Local) (u : Place) → u ≡ place u.node Body → is_under x.path ((f.scene.turn, u.node) ∷ f.scene.path) ≡ true
+  pub kept_below : (trace : List Entry) (x : Entry) (f : Local) (u : Place) → u ≡ place u.node Body →
+      is_under x.path ((f.scene.turn, u.node) ∷ f.scene.path) ≡ true
       → Kept trace f (Some u) → Kept (x ∷ trace) f (Some u)
   kept_below trace x f u body way k = record {
     old = λ e v h s. elim (has_cases x trace e v h) [
@@ -423,7 +427,8 @@ module _ (world : World) where
   }
     where
       longer : (e : Entry) → x ≡ e → f.scene.path ≡ e.path → ⊥
-      longer e q s = (let l = under_length x.path ((f.scene.turn, u.node) ∷ f.scene.path) way in let n = ap length (s ∙ ap (λ z. z.path) (sym q)) in omega (arith, l, n))
+      longer e q s = (let l = under_length x.path ((f.scene.turn, u.node) ∷ f.scene.path) way in let n = ap length (s ∙ ap (λ z. z.path) (sym q)) in
+          omega (arith, l, n))
 
       head_is : (a b : ℕ × ℕ) (p q : Path) → a ∷ p ≡ b ∷ q → a ≡ b
       head_is a b p q e = cc

@@ -132,7 +132,8 @@ goes_is o i h = choice_is o (suc i) (goes_number o i h)
 pub later_chosen : (taken : Taken) (ts : Trees) (choice : Option ℕ) (i m : ℕ) (z : Place) → due_among taken Choice choice (suc i) m ts z ≡ true
     → is_some choice ≡ true
 later_chosen taken Rattle.c_typed.specs.Tree.none choice i m z d = absurd (true≢false (sym d))
-later_chosen taken (Rattle.c_typed.specs.Tree.more t ts) choice i m z d = go (nat_lt z.node (m + size t)) d (later_chosen taken ts choice (suc i) (m + size t) z)
+later_chosen taken (Rattle.c_typed.specs.Tree.more t ts) choice i m z d =
+    go (nat_lt z.node (m + size t)) d (later_chosen taken ts choice (suc i) (m + size t) z)
   where
     go : (b : Bool) → (if b then goes Choice choice (suc i) && due_in taken m t z else due_among taken Choice choice (suc (suc i)) (m + size t) ts z) ≡ true
         → (due_among taken Choice choice (suc (suc i)) (m + size t) ts z ≡ true → is_some choice ≡ true) → is_some choice ≡ true
@@ -165,7 +166,8 @@ module _ (taken later : Taken) (kept : (n j : ℕ) → taken n ≡ Some j → la
     pub due_kept_among : (ts : Trees) (class : Class) (k i m : ℕ) → due_among taken class (taken k) i m ts z ≡ true
         → due_among later class (later k) i m ts z ≡ true
     due_kept_among Rattle.c_typed.specs.Tree.none class k i m d = d
-    due_kept_among (Rattle.c_typed.specs.Tree.more t ts) class k i m d = go (nat_lt z.node (m + size t)) d (due_kept t m) (due_kept_among ts class k (suc i) (m + size t))
+    due_kept_among (Rattle.c_typed.specs.Tree.more t ts) class k i m d =
+        go (nat_lt z.node (m + size t)) d (due_kept t m) (due_kept_among ts class k (suc i) (m + size t))
       where
         go : (b : Bool) → (if b then goes class (taken k) i && due_in taken m t z else due_among taken class (taken k) (suc i) (m + size t) ts z) ≡ true
             → (due_in taken m t z ≡ true → due_in later m t z ≡ true)

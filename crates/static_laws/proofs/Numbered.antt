@@ -82,7 +82,8 @@ at_each = by_size AtEach (λ t f k i.
     ∙ (at_root t k i (among (sizes (trees_of (operands_in t))) f (operands_in t) (omega arith) (suc k))
     ∙ ap (λ z. seen (slice_get z i)) (sym (nodes_at t))))
   where
-    at_root : (t : Typed) (k i : ℕ) → ((j : ℕ) → at_node_among (suc k) (exprs_of (operands_in t)) (suc k + j) ≡ seen (slice_get (joined (map nodes_of (operands_in t))) j))
+    at_root : (t : Typed) (k i : ℕ) → ((j : ℕ) → at_node_among (suc k) (exprs_of (operands_in t)) (suc k + j) ≡ seen
+        (slice_get (joined (map nodes_of (operands_in t))) j))
         → at_node k (expr (head_in (node_in t) (own_type t)) (own_type t) (out-Typed t).line (exprs_of (operands_in t))) (k + i)
         ≡ seen (slice_get (t ∷ joined (map nodes_of (operands_in t))) i)
     at_root t k zero f = if_true (k == (k + zero)) _ _ (grind (arith, nat_tests)) ∙ ap Some (sym (expr_at t))

@@ -26,7 +26,8 @@ use Rattle.c_model.specs.Nodes.{act_of}
 use Rattle.c_model.specs.Moves.{Move, Stay, Start, End}
 use Rattle.c_model.specs.Control.{ready_work}
 use Rattle.c_model.specs.Steps.{Scene, Local, Begun, Pick, Control, Ev, MayPick, taken_by, at_node, name_of, pointer_to, event_of, event_act}
-use Rattle.c_model.specs.Steps.{call_act, operand_values, values_of, own_kind, first_type, target, own_body, body_frame, start_call, started, called_by, move_of}
+use Rattle.c_model.specs.Steps.{call_act, operand_values, values_of, own_kind, first_type, target, own_body, body_frame, start_call, started, called_by}
+use Rattle.c_model.specs.Steps.{move_of}
 use Rattle.c_model.specs.Steps.{does, move, next, control_move, control_next, settled, root_value, ends_with}
 use Rattle.c_model.specs.Runs.{Entry, State, Outcome, Refused, Raises, Over, No_row, Ends, Running, entry_of, back, moved, acted, step, within, limited}
 use Rattle.c_model.specs.Runs.{limit_passed, depth_of, enter_passes, without_row}
@@ -143,7 +144,8 @@ module _ (world : World) (lo : AreLow world.rows) where
   event_moves f b u scoped None = stays
   event_moves f b u scoped (Some (expr h ty line es)) = go (is_body u.kind) refl
     where
-      go : (c : Bool) → is_body u.kind ≡ c → EventMove f u (if c then started world f.scene u.node h (values_of world f.scene b.given (suc u.node) es) else Stay)
+      go : (c : Bool) → is_body u.kind ≡ c → EventMove f u
+          (if c then started world f.scene u.node h (values_of world f.scene b.given (suc u.node) es) else Stay)
       go true e = head_moves f u (body_is u e) scoped h (values_of world f.scene b.given (suc u.node) es)
       go false e = stays
 
@@ -152,7 +154,8 @@ module _ (world : World) (lo : AreLow world.rows) where
   next_is f b u p = record {
     due = sym (has_due (taken_by world f b) (tree_of b.root) 0 u) ∙ p.ready.due;
     left = none_of (b.given u) p.ready.left;
-    earlier = λ v d h. p.ready.earlier v (found_before (tree_of b.root) (taken_by world f b) v u (has_due (taken_by world f b) (tree_of b.root) 0 v ∙ d) p.ready.due h);
+    earlier = λ v d h. p.ready.earlier v (found_before (tree_of b.root) (taken_by world f b) v u (has_due (taken_by world f b) (tree_of b.root) 0 v ∙ d)
+        p.ready.due h);
   }
     where
       none_of : (o : Option Value) → is_some o ≡ false → o ≡ None
@@ -213,7 +216,8 @@ module _ (world : World) (lo : AreLow world.rows) where
         go Stay =
             subst (λ z. OutcomeOk (Running (record { top = next world st.top z Control v; held = st.held; store = s; trace = x ∷ st.trace }))) (sym e)
             (record {
-              kept = kept_control world st.trace x st.top (control_next world st.top (ready_work st.top.todo)) bare moves (scoped_next world st.top inv.kept.scoped e)
+              kept = kept_control world st.trace x st.top (control_next world st.top (ready_work st.top.todo)) bare moves
+                  (scoped_next world st.top inv.kept.scoped e)
                   inv.kept;
               held = subst (λ z. HeldOk world (x ∷ st.trace) z st.held) (sym moves.path) (held_next world st.trace x st.top.scene.path st.held un inv.held);
             })
@@ -254,7 +258,8 @@ module _ (world : World) (lo : AreLow world.rows) where
           subst (λ z. OutcomeOk (Running (record { top = next world st.top z (Ev u) v; held = st.held; store = s; trace = x ∷ st.trace }))) (sym e)
           (record {
             kept = kept_event world st.trace x st.top b u v at path turn e told n site inv.kept;
-            held = held_next world st.trace x st.top.scene.path st.held (subst (λ z. is_under z st.top.scene.path ≡ true) path (under_refl st.top.scene.path)) inv.held;
+            held = held_next world st.trace x st.top.scene.path st.held (subst (λ z. is_under z st.top.scene.path ≡ true) path (under_refl st.top.scene.path))
+                inv.held;
           })
       event_moved _ (starts g body new) x at path turn told v site s = record {
         kept = kept_new world st.trace x st.top g b u at path e body n.left new inv.kept;

@@ -114,7 +114,8 @@ module _ (p : Program) (function : ℕ) where
     member_by offset c None s l e k h = absurd (cc)
     member_by offset c (Some t) s l e k h = go (nat_lt (t.1 + offset) (2 ^ 64)) h
       where
-        go : (b : Bool) → ◌≡◌ {A = Option Spot} (if b then Some (t.0, t.1 + offset) else None) (Some s) → on_by offset (site_of world f (expr_of c)) ≡ Some (site_in s)
+        go : (b : Bool) → ◌≡◌ {A = Option Spot} (if b then Some (t.0, t.1 + offset) else None) (Some s) →
+            on_by offset (site_of world f (expr_of c)) ≡ Some (site_in s)
         go true h =
             ap (on_by offset) (k t e)
             ∙ low_site (base_name t.0) (t.1 + offset) s l (ap site_in (some_is {A = Spot} (t.0, t.1 + offset) s h))

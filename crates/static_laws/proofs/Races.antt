@@ -322,7 +322,8 @@ module _ (world : World) where
         nowhere e v h = (let l = no_event [] e v h in omega (arith, l))
 
     started_ok : (a : Act Value) (vs : List Value) → StartOk (started_run world a vs)
-    started_ok (Done v is s) vs = start_limited world.limits (record { top = main_frame world vs; held = []; store = s; trace = [] }) (refl, record { kept = main_kept vs; held = tt })
+    started_ok (Done v is s) vs = start_limited world.limits (record { top = main_frame world vs; held = []; store = s; trace = [] })
+        (refl, record { kept = main_kept vs; held = tt })
     started_ok (Outside c n) vs = refl
     started_ok (Raised c) vs = refl
     started_ok (Ended n is s) vs = refl

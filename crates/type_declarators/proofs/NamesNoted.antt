@@ -119,7 +119,8 @@ clash_is t tags before m symbols others named brings apart kind number behind en
     ∙ clash_by (not (has_members (slice_get env.tags number))) (is_complete now (tagged kind number)) (are_distinct (names now number))
     (plain (tagged kind number), record env { tags = now })
     (λ none whole.
-    let kept : Keeps tags now = keeps_both tags env.tags now keeps (completed_keeps env.tags number ms (not_true (has_members (slice_get env.tags number)) none)) in
+    let kept : Keeps tags now = keeps_both tags env.tags now keeps
+        (completed_keeps env.tags number ms (not_true (has_members (slice_get env.tags number)) none)) in
     not_distinct t (symbols ++ others) (all_brought f before ++ brought_by f m) (all_brought f behind) (names now number)
     (symbols_more t symbols others (all_brought f before) (brought_by f m) (named now kept) (brings now kept)) apart
     (names_completed env.tags number ms (sym (complete_number now kind number) ∙ whole)
@@ -143,7 +144,8 @@ completed_noted t tags number ms symbols named none whole later keeps =
     subst (λ xs. AreSymbols t symbols xs) (sym (names_stay now later keeps number whole ∙ names_completed tags number ms whole))
     (named now (completed_keeps tags number ms none))
 
-pub closed_noted : (t : TokenText) (s now : State) (number : ℕ) (ms : List SeenMember) (symbols : List ℕ) → map tag_seen now.tags ≡ completed (map tag_seen s.tags) number ms
+pub closed_noted : (t : TokenText) (s now : State) (number : ℕ) (ms : List SeenMember) (symbols : List ℕ) →
+    map tag_seen now.tags ≡ completed (map tag_seen s.tags) number ms
     → AreNamed t (map tag_seen s.tags) ms symbols → has_members (slice_get (map tag_seen s.tags) number) ≡ false
     → is_some (extents (completed (map tag_seen s.tags) number ms) number) ≡ true
     → length (now.tag_rows).items ≡ length (s.tag_rows).items → symbols_in now number ≡ symbols

@@ -42,7 +42,8 @@ nothing index (Some r) true name q env = refl
 nothing index (Some r) false name q env = refl
 
 -- another storage class
-pub class_refused : (index : ℕ) (ws : Words) (name : Option ℕ) (q : Qualified) (env : Env) → is_register ws.storage ≡ None → parameter index ws name q env ≡ None
+pub class_refused : (index : ℕ) (ws : Words) (name : Option ℕ) (q : Qualified) (env : Env) → is_register ws.storage ≡ None →
+    parameter index ws name q env ≡ None
 class_refused index ws name q env e =
     parameter_is index ws name q env ∙ ap (λ r. parameter_by index r ws.is_function (is_void q.ty) name (adjusted q) env) e
 

@@ -96,7 +96,8 @@ fn further_object(
 fn bind_object(state: &mut State, symbol: u32, number: u32, seen: Qual) -> Result<(), NoMemory>
     ensures known { OnOk result ((n : Naming) (t : TokenText) (env : Env) →
         known_by n t state.new env ≡ names.bound symbol (an_object (slot.Static (n number)) (qualified_of seen) false) (known_by n t state.old env)) }
-    ensures rest { state.new ≡ record state.old { names = state.new.names } }
+    ensures rest { state.new
+        ≡ record state.old { names = state.new.names } }
 {
     let meaning = Meaning::Object {
         slot: Slot::Static(number),
@@ -121,7 +122,8 @@ fn object_number(
         Follows n (HasObjects n state.new) (names.declare_object at (qualified_of qual.now) (given_of linkage) env) result }
     ensures uses { OnOk result ((n : Naming) → IsNamed n source.now at state.old result → (us : List Use) → HasPlaces state.old →
         is_used (target.Static at) us ≡ false → HasUses n state.old us → HasUses n state.new us) }
-    ensures rest { state.new ≡ record state.old { names = state.new.names; linked = state.new.linked; objects = state.new.objects; declared = state.new.declared } }
+    ensures rest { state.new
+        ≡ record state.old { names = state.new.names; linked = state.new.linked; objects = state.new.objects; declared = state.new.declared } }
 {
     let found = match redeclared(state, source, at, qual, linkage) {
         Ok(found) => found,
@@ -160,7 +162,8 @@ pub fn declare_object(
         Follows n (HasObjects n state.new) (names.declare_object at (qualified_of qual) (given_of linkage) env) result }
     ensures uses { OnOk result ((n : Naming) → IsNamed n source.now at state.old result → (us : List Use) → HasPlaces state.old →
         is_used (target.Static at) us ≡ false → HasUses n state.old us → HasUses n state.new us) }
-    ensures rest { state.new ≡ record state.old { names = state.new.names; linked = state.new.linked; objects = state.new.objects; declared = state.new.declared } }
+    ensures rest { state.new
+        ≡ record state.old { names = state.new.names; linked = state.new.linked; objects = state.new.objects; declared = state.new.declared } }
 {
     object_number(state, source, at, &qual, linkage)
 }
@@ -203,7 +206,8 @@ pub fn complete_object(
     ensures rows { OnOk result ((n : Naming) → IsOneToOne n → (env : Env) → HasObjects n state.old env →
         HasObjects n state.new (names.changing_object (n number) (λ o. record o { qual = qualified_of qual.now }) env)) }
     ensures uses { OnOk result ((n : Naming) (us : List Use) → HasUses n state.old us → HasUses n state.new us) }
-    ensures rest { state.new ≡ record state.old { names = state.new.names; linked = state.new.linked; objects = state.new.objects } }
+    ensures rest { state.new
+        ≡ record state.old { names = state.new.names; linked = state.new.linked; objects = state.new.objects } }
 {
     let alloc = state.alloc;
     set_object_type(state, number, copied_qual(alloc, qual)?);
@@ -230,7 +234,8 @@ pub fn declare_local_static(
         names.object_named at env.objects ≡ None → Follows (λ number. tt) (HasObjects n state.new) (static_declared at (qualified_of qual) env) result }
     ensures uses { OnOk result ((n : Naming) → IsNamedOk n at result → (us : List Use) → HasPlaces state.old → is_used (target.Static at) us ≡ false →
         HasUses n state.old us → HasUses n state.new us) }
-    ensures rest { state.new ≡ record state.old { names = state.new.names; objects = state.new.objects; declared = state.new.declared; defined = state.new.defined } }
+    ensures rest { state.new
+        ≡ record state.old { names = state.new.names; objects = state.new.objects; declared = state.new.declared; defined = state.new.defined } }
 {
     let alloc = state.alloc;
     let copy = copied_qual(alloc, &qual)?;

@@ -159,7 +159,8 @@ module _ (size : Sizes) (world : World) where
     library_fits who ts vs None = tt
     library_fits who ts vs (Some g) = ok.library g who ts vs
 
-    by_fits : (d : Bool) (es : Exprs) (all : List Value) (who : Event) (ty : CType) → target (first_type es) ≡ ty → IsFunction (target (first_type es)) → (ts : List CType)
+    by_fits : (d : Bool) (es : Exprs) (all : List Value) (who : Event) (ty : CType) → target (first_type es) ≡ ty → IsFunction (target (first_type es)) →
+        (ts : List CType)
         (vs : List Value) → (o : Option (ℕ × Function)) → called_by world all ≡ o → Gives world.rows (IsCalled (Call d) es all) (call_by world who ty ts vs o)
     by_fits d es all who ty e i ts vs None q = tt
     by_fits d es all who ty e i ts vs (Some c) q =
@@ -178,7 +179,8 @@ module _ (size : Sizes) (world : World) where
         → Gives world.rows (IsCalled (Call d) es all) (call_through world who o ts all)
     through_fits d es all who None e ts = tt
     through_fits d es all who (Some ty) e ts =
-        by_fits d es all who ty (function_is (target (first_type es)) ty e) (is_function (target (first_type es)) ty e) ts (later_values all) (called_by world all) refl
+        by_fits d es all who ty (function_is (target (first_type es)) ty e) (is_function (target (first_type es)) ty e) ts (later_values all)
+            (called_by world all) refl
 
     pub call_fits : (who : Event) (h : Head) (es : Exprs) (vs : List Value) → Gives world.rows (IsCalled h es vs) (call_act world who h es vs)
     call_fits who (Call d) es vs = through_fits d es vs who (function_type (target (first_type es))) refl (argument_types es)

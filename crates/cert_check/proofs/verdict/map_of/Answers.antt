@@ -15,4 +15,5 @@ loop-row-preserved c =
     let row = slice_index_or c.args.rows.now c.loop-row.row-index none_there in
     let keeps : breaks c.loop-row.map row ≡ false = search rules in
     let is : c.add.new.self ≡ insert_row row c.loop-row.map = search rules in
-    one_more c.loop-row.map c.add.new.self row _ _ _ keeps is (from_row c.args.rows.now c.loop-row.row-index none_there c.loop-row-test.true) c.loop-row.invariant
+    one_more c.loop-row.map c.add.new.self row _ _ _ keeps is (from_row c.args.rows.now c.loop-row.row-index none_there c.loop-row-test.true)
+        c.loop-row.invariant

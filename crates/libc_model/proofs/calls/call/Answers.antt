@@ -3,9 +3,9 @@ use Rattle.prov_memory.specs.declared.answer.LibAnswer.TheVariants as answers
 use Rattle.prov_memory.specs.declared.value.Value.{Value}
 use Rattle.prov_memory.specs.Memory.{store_of}
 use Rattle.prov_memory.specs.Tags.{AreTagged}
-use Rattle.libc_model.specs.Answers.{ArgumentsMade, GivesMade, IsCall, allocates}
-use Rattle.libc_model.specs.Seen.{values_seen}
-use Rattle.libc_model.proofs.Keeping.{value_made}
+use Rattle.libc_arguments.specs.Answers.{ArgumentsMade, GivesMade, IsCall, allocates}
+use Rattle.libc_arguments.specs.Seen.{values_seen}
+use Rattle.libc_arguments.proofs.Keeping.{value_made}
 use Rattle.libc_model.proofs.calls.call.Goals as goal
 
 pub returns-in-Ok-clause-made : goal.returns-in-Ok-clause-made

@@ -1,5 +1,5 @@
 use Rattle.std.proofs.Common.{◌≡◌, ◌-◌, ◌∙◌, ℕ, ap, take, length, vec_len}
-use Rattle.libc_model.proofs.Printing.{line_is}
+use Rattle.libc_arguments.proofs.Printing.{line_is}
 use Rattle.libc_model.proofs.calls.end_line.Goals as goal
 
 pub returns : goal.returns

@@ -1,6 +1,6 @@
 use Rattle.prov_memory.specs.Memory.{store_of}
-use Rattle.libc_model.specs.Seen.{values_seen}
-use Rattle.libc_model.proofs.Answering.{free_called, free_refused, first_cell}
+use Rattle.libc_arguments.specs.Seen.{values_seen}
+use Rattle.libc_arguments.proofs.Answering.{free_called, free_refused, first_cell}
 use Rattle.libc_model.proofs.calls.free.Goals as goal
 
 pub returns-in-Ok-clause-exact : goal.returns-in-Ok-clause-exact

@@ -1,8 +1,8 @@
 use Rattle.std.proofs.Common.{false, ℕ, List, Vec, Global, sym, subst}
 use Rattle.std.proofs.lemmas.Result.{err_from_is_err_and}
-use Rattle.libc_model.specs.Parts.{Gives, line_at}
-use Rattle.libc_model.proofs.Printing.{line_value}
-use Rattle.libc_model.proofs.Finishing.{no_text, no_numbers, text_read}
+use Rattle.libc_arguments.specs.Parts.{Gives, line_at}
+use Rattle.libc_arguments.proofs.Printing.{line_value}
+use Rattle.libc_arguments.proofs.Finishing.{no_text, no_numbers, text_read}
 use Rattle.libc_model.proofs.calls.line_of.Goals as goal
 
 pub returns-in_err-range : goal.returns-in_err-range

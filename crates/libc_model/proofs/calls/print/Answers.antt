@@ -1,7 +1,7 @@
 use Rattle.std.proofs.Common.{◌+◌, ◌<◌, ◌^◌, length, arith}
 use Rattle.std.proofs.lemmas.Result.{err_from_is_err_and}
 use Rattle.mem_spec.specs.Streams.{total}
-use Rattle.libc_model.proofs.Printing.{print_past, print_gives}
+use Rattle.libc_arguments.proofs.Printing.{print_past, print_gives}
 use Rattle.libc_model.proofs.calls.print.Goals as goal
 
 pub returns-in_err-check_output-clause-exact : goal.returns-in_err-check_output-clause-exact

@@ -3,11 +3,11 @@ use Rattle.std.proofs.Common.{false, ℕ, List, [], Vec, Global, sym, subst}
 use Rattle.std.proofs.lemmas.Result.{err_from_is_err_and}
 use Rattle.ub_base.specs.declared.names.Item.{Item}
 use Rattle.prov_memory.specs.Memory.{store_of}
-use Rattle.libc_model.specs.Seen.{values_seen}
-use Rattle.libc_model.specs.Answers.{answer_in}
-use Rattle.libc_model.specs.Parts.{Gives, Follows, line_at}
-use Rattle.libc_model.proofs.Finishing.{cell_of}
-use Rattle.libc_model.proofs.Printing.{puts_called, puts_fails}
+use Rattle.libc_arguments.specs.Seen.{values_seen}
+use Rattle.libc_arguments.specs.Answers.{answer_in}
+use Rattle.libc_arguments.specs.Parts.{Gives, Follows, line_at}
+use Rattle.libc_arguments.proofs.Finishing.{cell_of}
+use Rattle.libc_arguments.proofs.Printing.{puts_called, puts_fails}
 use Rattle.libc_model.proofs.calls.puts.Goals as goal
 
 pub returns-in_err-line-clause-exact : goal.returns-in_err-line-clause-exact

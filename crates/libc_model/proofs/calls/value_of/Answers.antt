@@ -20,13 +20,13 @@ use Rattle.c_types.specs.declared.library.LibFunc.TheVariants.{
   Abort,
 }
 use Rattle.prov_memory.specs.Memory.{store_of}
-use Rattle.libc_model.specs.Seen.{values_seen}
-use Rattle.libc_model.specs.Answers.{answer_in}
-use Rattle.libc_model.proofs.Answering.{arm, malloc_called, calloc_called, realloc_called, first_size}
+use Rattle.libc_arguments.specs.Seen.{values_seen}
+use Rattle.libc_arguments.specs.Answers.{answer_in}
+use Rattle.libc_arguments.proofs.Answering.{arm, malloc_called, calloc_called, realloc_called, first_size}
 use Rattle.std.proofs.Common.{subst}
 use Rattle.c_types.specs.declared.library.LibFunc.{LibFunc}
-use Rattle.libc_model.specs.Answers.{IsCall}
-use Rattle.libc_model.proofs.Keeping.{does_made}
+use Rattle.libc_arguments.specs.Answers.{IsCall}
+use Rattle.libc_arguments.proofs.Keeping.{does_made}
 use Rattle.libc_model.proofs.calls.value_of.Goals as goal
 
 pub returns-in-Malloc-clause-exact : goal.returns-in-Malloc-clause-exact
@@ -137,7 +137,8 @@ returns-in-Realloc-clause-exact c =
 
 pub returns-in-Malloc-clause-made : goal.returns-in-Malloc-clause-made
 returns-in-Malloc-clause-made c = λ is call.
-    does_made c.allocate.new.m c.allocate.result c.allocate.new.t (store_of c.allocate.new.m c.args.io.now) _ (c.allocate.ensures.exact c.args.io.now call.known)
+    does_made c.allocate.new.m c.allocate.result c.allocate.new.t (store_of c.allocate.new.m c.args.io.now) _
+        (c.allocate.ensures.exact c.args.io.now call.known)
     c.allocate.ensures.made
 
 pub returns-in-Calloc-clause-made : goal.returns-in-Calloc-clause-made

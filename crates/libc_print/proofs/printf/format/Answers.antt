@@ -4,8 +4,8 @@ use Rattle.libc_print.proofs.Keeping.{printed_gives}
 use Rattle.std.proofs.Common.{List, drop, subst}
 use Rattle.prov_memory.specs.declared.value.Value.{Value}
 use Rattle.libc_spec.specs.Library.{argument_at}
-use Rattle.libc_model.specs.Answers.{AreWithin, HaveCells, GivesMade}
-use Rattle.libc_model.specs.Seen.{values_seen}
+use Rattle.libc_arguments.specs.Answers.{AreWithin, HaveCells, GivesMade}
+use Rattle.libc_arguments.specs.Seen.{values_seen}
 use Rattle.libc_print.specs.Seen.{typed}
 use Rattle.libc_print.proofs.printf.format.Goals as goal
 

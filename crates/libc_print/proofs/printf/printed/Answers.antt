@@ -3,10 +3,10 @@ use Rattle.std.proofs.Common.{false, ℕ, List, [], Vec, Global, drop, sym, subs
 use Rattle.std.proofs.lemmas.Result.{err_from_is_err_and}
 use Rattle.ub_base.specs.declared.names.Item.{Item}
 use Rattle.prov_memory.specs.Memory.{store_of}
-use Rattle.libc_model.specs.Seen.{values_seen}
-use Rattle.libc_model.specs.Answers.{answer_in}
-use Rattle.libc_model.specs.Parts.{Gives}
-use Rattle.libc_model.proofs.Finishing.{cell_of}
+use Rattle.libc_arguments.specs.Seen.{values_seen}
+use Rattle.libc_arguments.specs.Answers.{answer_in}
+use Rattle.libc_arguments.specs.Parts.{Gives}
+use Rattle.libc_arguments.proofs.Finishing.{cell_of}
 use Rattle.libc_print.specs.Seen.{typed}
 use Rattle.libc_print.specs.Runs.{Prints, printed_text}
 use Rattle.libc_print.proofs.Ending.{print_called, print_fails}

@@ -4,8 +4,9 @@ use Rattle.std.proofs.lemmas.Int.{to_z-of_z}
 use Rattle.mem_spec.specs.Script.{◌>>=◌}
 use Rattle.libc_spec.specs.Library.{low_byte}
 use Rattle.libc_spec.specs.Print.{next_int, bare, spaced, field, one}
-use Rattle.libc_print.specs.Seen.{left, flags_seen, width_seen}
-use Rattle.libc_print.proofs.Writing.{puts_refused, puts_taken, puts_one}
+use Rattle.libc_print.specs.Seen.{left}
+use Rattle.libc_directives.specs.Seen.{flags_seen, width_seen}
+use Rattle.libc_directives.proofs.Writing.{puts_refused, puts_taken, puts_one}
 use Rattle.libc_print.proofs.printf.put_byte.Goals as goal
 
 pub returns-in-Err-clause-exact : goal.returns-in-Err-clause-exact

@@ -1,6 +1,7 @@
 use Rattle.std.proofs.Common.{Ok}
 use Rattle.libc_spec.specs.Print.{put}
-use Rattle.libc_print.specs.Seen.{directive_seen, left}
+use Rattle.libc_directives.specs.Seen.{directive_seen}
+use Rattle.libc_print.specs.Seen.{left}
 use Rattle.libc_print.proofs.Running.{puts_run}
 use Rattle.libc_print.proofs.printf.put_directive.Goals as goal
 

@@ -1,8 +1,10 @@
 use Rattle.std.proofs.Common.{List, Ok, Err, ℕ, refl, sym, subst}
 use Rattle.std.proofs.lemmas.Result.{err_from_is_err_and}
 use Rattle.libc_spec.specs.Print.{step}
-use Rattle.libc_print.specs.Seen.{left, directive_seen}
-use Rattle.libc_print.specs.Answers.{Steps, answer_of}
+use Rattle.libc_print.specs.Seen.{left}
+use Rattle.libc_directives.specs.Seen.{directive_seen}
+use Rattle.libc_print.specs.Answers.{Steps}
+use Rattle.libc_directives.specs.Answers.{answer_of}
 use Rattle.libc_print.proofs.Stepping.{steps_refused, steps_byte}
 use Rattle.libc_print.proofs.Running.{steps_run, steps_pointed}
 use Rattle.libc_print.proofs.printf.put_next.Goals as goal

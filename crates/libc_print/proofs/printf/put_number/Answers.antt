@@ -3,8 +3,9 @@ use Rattle.std.specs.Int.{w128}
 use Rattle.std.proofs.lemmas.Int.{to_z-of_z}
 use Rattle.mem_spec.specs.Script.{◌>>=◌}
 use Rattle.libc_spec.specs.Print.{next_integer, is_signed_conversion, integer_parts, integer_field, field, one}
-use Rattle.libc_print.specs.Seen.{left, flags_seen, length_seen, width_seen}
-use Rattle.libc_print.proofs.Writing.{puts_refused, puts_taken, puts_one, integer_opened}
+use Rattle.libc_print.specs.Seen.{left}
+use Rattle.libc_directives.specs.Seen.{flags_seen, length_seen, width_seen}
+use Rattle.libc_directives.proofs.Writing.{puts_refused, puts_taken, puts_one, integer_opened}
 use Rattle.libc_print.proofs.printf.put_number.Goals as goal
 
 pub returns-in-Err-clause-exact : goal.returns-in-Err-clause-exact

@@ -7,7 +7,7 @@ use Rattle.prov_memory.specs.declared.answer.LibAnswer.TheVariants as answers
 use Rattle.prov_memory.specs.Memory.{store_of}
 use Rattle.mem_spec.specs.Script.{run}
 use Rattle.mem_spec.specs.Streams.{total}
-use Rattle.libc_model.specs.Answers.{Answers}
+use Rattle.libc_arguments.specs.Answers.{Answers}
 use Rattle.libc_print.specs.Calls.{printing, limited}
 use Rattle.libc_print.proofs.Ending.{print_past, print_gives}
 use Rattle.libc_print.proofs.printf.put_out.Goals as goal

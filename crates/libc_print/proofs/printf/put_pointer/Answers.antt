@@ -4,9 +4,10 @@ use Rattle.mem_spec.specs.Script.{◌>>=◌, ◌>>◌}
 use Rattle.mem_spec.specs.Acts.{expose}
 use Rattle.libc_spec.specs.Library.{address_in, prov_in}
 use Rattle.libc_spec.specs.Print.{next_pointer, address_parts, field, spaced, one}
-use Rattle.libc_model.specs.Seen.{pointer_seen}
-use Rattle.libc_print.specs.Seen.{left, flags_seen, width_seen}
-use Rattle.libc_print.specs.Answers.{answer_of}
+use Rattle.libc_arguments.specs.Seen.{pointer_seen}
+use Rattle.libc_print.specs.Seen.{left}
+use Rattle.libc_directives.specs.Seen.{flags_seen, width_seen}
+use Rattle.libc_directives.specs.Answers.{answer_of}
 use Rattle.libc_print.specs.Runs.{directive_bytes}
 use Rattle.libc_print.proofs.Running.{adds_refused, adds_taken, adds_behind, field_adds, address_opened, loud, show_gives}
 use Rattle.libc_print.proofs.printf.put_pointer.Goals as goal

@@ -2,9 +2,10 @@ use Rattle.std.proofs.Common.{false, ℕ, List, Ok, Err, Vec, Global, subst}
 use Rattle.std.proofs.lemmas.Result.{err_from_is_err_and}
 use Rattle.mem_spec.specs.Script.{◌>>=◌}
 use Rattle.libc_spec.specs.Print.{next_pointer, string_bytes, field, bare, spaced, one}
-use Rattle.libc_model.specs.Seen.{pointer_seen}
-use Rattle.libc_print.specs.Seen.{left, flags_seen, width_seen}
-use Rattle.libc_print.specs.Answers.{PutsBytes, answer_of}
+use Rattle.libc_arguments.specs.Seen.{pointer_seen}
+use Rattle.libc_print.specs.Seen.{left}
+use Rattle.libc_directives.specs.Seen.{flags_seen, width_seen}
+use Rattle.libc_directives.specs.Answers.{PutsBytes, answer_of}
 use Rattle.libc_print.specs.Runs.{directive_bytes}
 use Rattle.libc_print.proofs.Running.{adds_refused, adds_taken, adds_fails, adds_behind, field_adds}
 use Rattle.libc_print.proofs.printf.put_string.Goals as goal

@@ -2,8 +2,8 @@ use Rattle.std.proofs.Common.{◌≡◌, ◌≤◌, ◌-◌, ◌∷◌, ◌∙�
 use Rattle.std.proofs.lemmas.Result.{err_from_is_err_and}
 use Rattle.prov_memory.specs.declared.value.Value.{Value}
 use Rattle.libc_spec.specs.Print.{text_of}
-use Rattle.libc_model.specs.Seen.{values_seen}
-use Rattle.libc_model.specs.Answers.{HaveCells}
+use Rattle.libc_arguments.specs.Seen.{values_seen}
+use Rattle.libc_arguments.specs.Answers.{HaveCells}
 use Rattle.libc_print.specs.Seen.{left, typed}
 use Rattle.libc_print.proofs.Stepping.{none_left, fits_turn}
 use Rattle.libc_print.proofs.Running.{leads_begins, leads_turn, leads_fails, leads_done}

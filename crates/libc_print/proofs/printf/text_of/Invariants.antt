@@ -2,8 +2,8 @@
 use Rattle.std.proofs.Common.{◌≡◌, ◌≤◌, ◌+◌, ◌-◌, suc, length, drop}
 use Rattle.mem_spec.specs.Streams.{Io}
 use Rattle.libc_spec.specs.Print.{text_of}
-use Rattle.libc_model.specs.Seen.{values_seen}
-use Rattle.libc_model.specs.Answers.{HaveCells}
+use Rattle.libc_arguments.specs.Seen.{values_seen}
+use Rattle.libc_arguments.specs.Answers.{HaveCells}
 use Rattle.libc_print.specs.Seen.{left, typed}
 use Rattle.libc_print.proofs.Running.{Leads}
 use Rattle.libc_print.proofs.printf.text_of.Given as goal

@@ -2,7 +2,7 @@ use Rattle.std.proofs.Common.{Option, true, subst}
 use Rattle.std.proofs.lemmas.Bool.{ne_eqb}
 use Rattle.mem_spec.specs.Acts.{Accessed}
 use Rattle.mem_spec.specs.Script.{Script}
-use Rattle.libc_model.specs.Parts.{Follows, accessed_if}
+use Rattle.libc_arguments.specs.Parts.{Follows, accessed_if}
 use Rattle.libc_print.proofs.Storing.{array_is}
 use Rattle.libc_print.proofs.stored.array.Goals as goal
 

@@ -3,7 +3,7 @@ use Rattle.std.proofs.lemmas.Result.{err_from_is_err_and}
 use Rattle.mem_spec.specs.Acts.{Accessed}
 use Rattle.libc_spec.specs.Library.{pointer}
 use Rattle.libc_spec.specs.Formatted.{array, room}
-use Rattle.libc_model.specs.Parts.{Follows, Gives, accessed_if}
+use Rattle.libc_arguments.specs.Parts.{Follows, Gives, accessed_if}
 use Rattle.libc_print.specs.Seen.{typed}
 use Rattle.libc_print.specs.Calls.{short_text}
 use Rattle.libc_print.specs.Stored.{placed_seen}

@@ -11,7 +11,7 @@ use Rattle.prov_memory.specs.Cells.{plain_cell}
 use Rattle.prov_memory.specs.Memory.{store_of}
 use Rattle.mem_spec.specs.Script.{run}
 use Rattle.libc_spec.specs.Formatted.{ended, room}
-use Rattle.libc_model.specs.Answers.{Answers}
+use Rattle.libc_arguments.specs.Answers.{Answers}
 use Rattle.libc_print.specs.Calls.{limited}
 use Rattle.libc_print.specs.Stored.{overlaps, storing}
 use Rattle.libc_print.proofs.Storing.{store_overlaps, store_gives}

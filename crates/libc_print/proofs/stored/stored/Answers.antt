@@ -6,10 +6,10 @@ use Rattle.prov_memory.specs.Memory.{store_of}
 use Rattle.libc_spec.specs.Library.{pointer}
 use Rattle.libc_spec.specs.Formatted as formatted
 use Rattle.libc_spec.specs.Formatted.{placed}
-use Rattle.libc_model.specs.Seen.{values_seen}
-use Rattle.libc_model.specs.Answers.{answer_in}
-use Rattle.libc_model.specs.Parts.{Gives}
-use Rattle.libc_model.proofs.Finishing.{cell_of}
+use Rattle.libc_arguments.specs.Seen.{values_seen}
+use Rattle.libc_arguments.specs.Answers.{answer_in}
+use Rattle.libc_arguments.specs.Parts.{Gives}
+use Rattle.libc_arguments.proofs.Finishing.{cell_of}
 use Rattle.libc_print.specs.Seen.{typed}
 use Rattle.libc_print.specs.Runs.{Prints}
 use Rattle.libc_print.specs.Stored.{placed_seen}

@@ -5,12 +5,12 @@ use Rattle.prov_memory.specs.declared.value.Value.{Value}
 use Rattle.prov_memory.specs.Memory.{store_of}
 use Rattle.libc_spec.specs.Library.{argument_at, integer_in}
 use Rattle.libc_spec.specs.Formatted.{printed_to_by}
-use Rattle.libc_model.specs.Answers.{Answers}
-use Rattle.libc_model.specs.Seen.{values_seen}
+use Rattle.libc_arguments.specs.Answers.{Answers}
+use Rattle.libc_arguments.specs.Seen.{values_seen}
 use Rattle.libc_print.specs.Seen.{typed}
 use Rattle.prov_memory.specs.declared.answer.LibAnswer.TheVariants as answers
 use Rattle.libc_print.proofs.Keeping.{written_by}
-use Rattle.libc_model.specs.Answers.{AreWithin, HaveCells, GivesMade}
+use Rattle.libc_arguments.specs.Answers.{AreWithin, HaveCells, GivesMade}
 use Rattle.libc_print.proofs.stream.format_to.Goals as goal
 
 pub returns-in-Err-clause-exact : goal.returns-in-Err-clause-exact

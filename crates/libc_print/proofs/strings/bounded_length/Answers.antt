@@ -1,7 +1,7 @@
 use Rattle.std.proofs.Common.{◌≡◌, ◌-◌, ◌∙◌, ap, ℕ}
 use Rattle.addr_map.specs.Rows.{row_of}
 use Rattle.mem_spec.specs.Acts.{size_in}
-use Rattle.libc_model.specs.Parts.{byte_at}
+use Rattle.libc_arguments.specs.Parts.{byte_at}
 use Rattle.libc_print.specs.Strings.{bounded_size}
 use Rattle.libc_print.proofs.Bounded.{bounded_by, bounded_is, wanted_there, wanted_past}
 use Rattle.libc_print.proofs.strings.bounded_length.Goals as goal

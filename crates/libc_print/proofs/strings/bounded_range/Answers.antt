@@ -2,8 +2,8 @@ use Rattle.std.proofs.Common.{◌<◌, true, ℕ, length, subst, Option, Some, N
 use Rattle.std.specs.Prelude.{Err, IfSome}
 use Rattle.std.proofs.lemmas.Result.{err_from_is_err_and}
 use Rattle.mem_spec.specs.Acts.{Accessed, argument}
-use Rattle.libc_model.specs.declared.arguments.Range.{Range}
-use Rattle.libc_model.specs.Parts.{Gives, Follows, accessed_if}
+use Rattle.libc_arguments.specs.declared.arguments.Range.{Range}
+use Rattle.libc_arguments.specs.Parts.{Gives, Follows, accessed_if}
 use Rattle.libc_print.proofs.Bounded.{no_bounded, open_bounded, short_bounded, bounded_gives}
 use Rattle.libc_print.proofs.strings.bounded_range.Goals as goal
 

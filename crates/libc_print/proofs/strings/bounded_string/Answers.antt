@@ -4,8 +4,8 @@ use Rattle.std.proofs.lemmas.Result.{err_from_is_err_and}
 use Rattle.mem_spec.specs.Store.{TaggedByte}
 use Rattle.libc_spec.specs.Library.{pointer}
 use Rattle.libc_spec.specs.Print.{string_bytes}
-use Rattle.libc_model.specs.declared.arguments.Range.{Range}
-use Rattle.libc_model.specs.Parts.{Gives, IsShort, bytes_if}
+use Rattle.libc_arguments.specs.declared.arguments.Range.{Range}
+use Rattle.libc_arguments.specs.Parts.{Gives, IsShort, bytes_if}
 use Rattle.libc_print.specs.Strings.{bounded_text}
 use Rattle.libc_print.proofs.Bounded.{string_fails, string_open, string_unread, string_read}
 use Rattle.libc_print.proofs.strings.bounded_string.Goals as goal

@@ -1,6 +1,6 @@
 use Rattle.std.proofs.Common.{◌+◌, ◌≤◌, arith}
 use Rattle.addr_map.specs.Rows.{free_of}
-use Rattle.libc_model.proofs.Checking.{row_ends}
+use Rattle.libc_arguments.proofs.Checking.{row_ends}
 use Rattle.libc_print.proofs.strings.size_of.Goals as goal
 
 pub returns-in-Some-clause-low : goal.returns-in-Some-clause-low

@@ -2,8 +2,8 @@ use Rattle.std.proofs.Common.{false, ℕ, List, Vec, Global, None, sym, subst}
 use Rattle.std.proofs.lemmas.Result.{err_from_is_err_and}
 use Rattle.libc_spec.specs.Library.{pointer}
 use Rattle.libc_spec.specs.Print.{string_bytes}
-use Rattle.libc_model.specs.Parts.{Gives}
-use Rattle.libc_model.proofs.Finishing.{no_text, no_numbers, text_read}
+use Rattle.libc_arguments.specs.Parts.{Gives}
+use Rattle.libc_arguments.proofs.Finishing.{no_text, no_numbers, text_read}
 use Rattle.libc_print.proofs.Bounded.{before_value}
 use Rattle.libc_print.proofs.strings.whole_string.Goals as goal
 

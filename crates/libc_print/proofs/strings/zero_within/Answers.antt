@@ -1,6 +1,6 @@
 use Rattle.std.proofs.Common.{◌≡◌, ◌-◌, ◌+◌, ◌∙◌, ap, sym, arith, ℕ}
-use Rattle.libc_model.specs.Parts.{byte_at, string_size}
-use Rattle.libc_model.proofs.Checking.{more_by, more_none, size_goes_on, size_here, size_ends}
+use Rattle.libc_arguments.specs.Parts.{byte_at, string_size}
+use Rattle.libc_arguments.proofs.Checking.{more_by, more_none, size_goes_on, size_here, size_ends}
 use Rattle.libc_print.proofs.strings.zero_within.Goals as goal
 
 pub loop-at-init : goal.loop-at-init

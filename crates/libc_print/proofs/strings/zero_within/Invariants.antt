@@ -1,7 +1,7 @@
 -- What is left of the bytes decides.
 use Rattle.std.proofs.Common.{◌≡◌, ◌-◌}
-use Rattle.libc_model.specs.Parts.{byte_at, string_size}
-use Rattle.libc_model.proofs.Checking.{more_by}
+use Rattle.libc_arguments.specs.Parts.{byte_at, string_size}
+use Rattle.libc_arguments.proofs.Checking.{more_by}
 use Rattle.libc_print.proofs.strings.zero_within.Given as goal
 
 abbrev pub invariant-loop-at : goal.invariant-loop-at

@@ -1,5 +1,5 @@
-use Rattle.libc_model.specs.Seen.{values_seen}
-use Rattle.libc_model.proofs.Finishing.{cell_of}
+use Rattle.libc_arguments.specs.Seen.{values_seen}
+use Rattle.libc_arguments.proofs.Finishing.{cell_of}
 use Rattle.libc_print.proofs.values.take_pointer.Goals as goal
 
 pub returns-then-is_pointer_at-clause-cell : goal.returns-then-is_pointer_at-clause-cell

@@ -1,7 +1,7 @@
 use Rattle.std.proofs.Common.{subst}
 use Rattle.prov_memory.specs.declared.value.Value.{Value as Held}
-use Rattle.run_acts.specs.Kept.{IsOf}
-use Rattle.run_acts.proofs.Keeping.{unplaced_kept}
+use Rattle.run_values.specs.Kept.{IsOf}
+use Rattle.run_values.proofs.Keeping.{unplaced_kept}
 use Rattle.run_acts.proofs.calls.answer.Goals as goal
 
 pub returns-in-Block-clause-made : goal.returns-in-Block-clause-made

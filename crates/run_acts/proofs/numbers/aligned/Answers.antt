@@ -1,5 +1,5 @@
-use Rattle.run_acts.specs.Views.{pointer_at}
-use Rattle.run_acts.proofs.Keeping.{seen_pointer}
+use Rattle.run_values.specs.Views.{pointer_at}
+use Rattle.run_values.proofs.Keeping.{seen_pointer}
 use Rattle.run_acts.proofs.numbers.aligned.Goals as goal
 
 pub returns-then-is_aligned-clause-made : goal.returns-then-is_aligned-clause-made

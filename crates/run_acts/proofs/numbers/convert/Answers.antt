@@ -8,9 +8,9 @@ use Rattle.mem_spec.specs.Script.{Done}
 use Rattle.prov_memory.specs.Memory.{store_of}
 use Rattle.c_model.specs.Nodes.{bool_value}
 use Rattle.c_model.specs.Values.{Value, Int, Fun, integer_of}
-use Rattle.run_acts.specs.Views.{value_in}
-use Rattle.run_acts.proofs.Keeping.{int_of, function_of, seen_number}
-use Rattle.run_acts.specs.Views.{pointer_at}
+use Rattle.run_values.specs.Views.{value_in}
+use Rattle.run_values.proofs.Keeping.{int_of, function_of, seen_number}
+use Rattle.run_values.specs.Views.{pointer_at}
 use Rattle.run_acts.proofs.Stores.{made_pointer}
 use Rattle.prov_memory.proofs.KeepLemmas.{keeps_none}
 use Rattle.run_acts.proofs.numbers.convert.Goals as goal

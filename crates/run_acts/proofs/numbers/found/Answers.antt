@@ -6,7 +6,7 @@ use Rattle.mem_spec.specs.Script.{Done}
 use Rattle.prov_memory.specs.Memory.{Kept, store_of}
 use Rattle.c_model.specs.Values.{Ptr}
 use Rattle.run_acts.proofs.Acts.{done_give, under}
-use Rattle.run_acts.proofs.Keeping.{pointer_of}
+use Rattle.run_values.proofs.Keeping.{pointer_of}
 use Rattle.run_acts.proofs.numbers.found.Goals as goal
 
 pub returns-clause-exact : goal.returns-clause-exact

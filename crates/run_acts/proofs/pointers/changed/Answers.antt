@@ -2,7 +2,8 @@ use Rattle.std.proofs.Common.{◌≡◌, to_z, of_z, rules}
 use Rattle.std.specs.Int.{w128}
 use Rattle.std.proofs.lemmas.Int.{to_z-of_z}
 use Rattle.c_types.specs.Types.{type_of}
-use Rattle.run_acts.proofs.Stores.{given_then, faults_then}
+use Rattle.run_values.proofs.Results.{given_then}
+use Rattle.run_acts.proofs.Stores.{faults_then}
 use Rattle.run_acts.proofs.pointers.changed.Goals as goal
 
 pub returns-in-Integer-clause-exact : goal.returns-in-Integer-clause-exact

@@ -9,9 +9,9 @@ use Rattle.mem_spec.specs.Script.{Done}
 use Rattle.prov_memory.specs.Memory.{store_of}
 use Rattle.c_model.specs.Nodes.{given_back, operated, or_zero}
 use Rattle.c_model.specs.Values.{Int}
-use Rattle.run_acts.specs.Views.{pointer_at}
+use Rattle.run_values.specs.Views.{pointer_at}
 use Rattle.run_acts.proofs.Updates.{integer_given, integer_raised, integer_unread}
-use Rattle.run_acts.proofs.Keeping.{int_of}
+use Rattle.run_values.proofs.Keeping.{int_of}
 use Rattle.run_acts.proofs.pointers.changed_integer.Goals as goal
 
 pub returns-clause-exact : goal.returns-clause-exact

@@ -9,14 +9,14 @@ use Rattle.mem_spec.specs.Acts.{shift}
 use Rattle.mem_spec.specs.Script.{Done, Raised, run}
 use Rattle.prov_memory.specs.Memory.{store_of}
 use Rattle.c_model.specs.Nodes.{distance}
-use Rattle.run_acts.specs.Views.{pointer_at}
+use Rattle.run_values.specs.Views.{pointer_at}
 use Rattle.run_acts.proofs.Acts.{under, rows_rest}
 use Rattle.c_model.specs.Values.{Ptr}
 use Rattle.run_acts.proofs.Moves.{shift_value}
 use Rattle.run_acts.proofs.Stores.{raise_then}
 use Rattle.run_acts.proofs.Updates.{pointer_changed, pointer_out, pointer_unread}
 use Rattle.prov_memory.proofs.KeepLemmas.{keeps_then}
-use Rattle.run_acts.proofs.Keeping.{seen_pointer}
+use Rattle.run_values.proofs.Keeping.{seen_pointer}
 use Rattle.run_acts.proofs.pointers.changed_pointer.Goals as goal
 
 pub returns-clause-exact : goal.returns-clause-exact

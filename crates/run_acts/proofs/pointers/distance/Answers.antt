@@ -9,7 +9,7 @@ use Rattle.mem_spec.specs.Script.{Done, Raised}
 use Rattle.prov_memory.specs.Memory.{store_of}
 use Rattle.c_model.specs.Values.{Int}
 use Rattle.run_acts.proofs.Acts.{done_give, raised_give, under, rows_rest}
-use Rattle.run_acts.proofs.Keeping.{int_of}
+use Rattle.run_values.proofs.Keeping.{int_of}
 use Rattle.run_acts.proofs.pointers.distance.Goals as goal
 
 pub returns-clause-exact : goal.returns-clause-exact

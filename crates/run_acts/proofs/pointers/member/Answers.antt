@@ -5,7 +5,7 @@ use Rattle.mem_spec.specs.Script.{run}
 use Rattle.ub_base.specs.declared.clause.Clause.TheVariants.{InvalidPointer}
 use Rattle.prov_memory.specs.Memory.{store_of}
 use Rattle.c_model.specs.Nodes as nodes
-use Rattle.run_acts.specs.Views.{pointer_at}
+use Rattle.run_values.specs.Views.{pointer_at}
 use Rattle.run_acts.proofs.Acts.{required, not_required}
 use Rattle.prov_memory.proofs.KeepLemmas.{keeps_none}
 use Rattle.run_acts.proofs.pointers.member.Goals as goal

@@ -4,7 +4,7 @@ use Rattle.c_types.specs.Types.{type_of}
 use Rattle.mem_spec.specs.Acts.{load_ptr}
 use Rattle.prov_memory.specs.Memory.{Kept, HasCell, AreKnown, store_of}
 use Rattle.prov_memory.specs.Sound.{IsSound}
-use Rattle.run_acts.specs.Views.{pointer_at}
+use Rattle.run_values.specs.Views.{pointer_at}
 use Rattle.run_acts.proofs.Acts.{as_pointer, raise_given}
 use Rattle.run_acts.proofs.Updates.{there, made_there}
 use Rattle.run_acts.proofs.pointers.pointer_there.Goals as goal

@@ -10,7 +10,7 @@ use Rattle.c_model.specs.Nodes.{bool_value, in_order}
 use Rattle.run_acts.specs.Scripts.{holds_in}
 use Rattle.run_acts.proofs.Acts.{done_give, raised_give, under, rows_rest}
 use Rattle.run_acts.proofs.Moves.{unsigned_order, holds_in_order}
-use Rattle.run_acts.proofs.Keeping.{seen_number}
+use Rattle.run_values.proofs.Keeping.{seen_number}
 use Rattle.run_acts.proofs.pointers.pointers_related.Goals as goal
 
 pub returns-clause-exact : goal.returns-clause-exact

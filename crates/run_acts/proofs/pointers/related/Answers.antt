@@ -7,10 +7,10 @@ use Rattle.prov_memory.specs.Memory.{store_of}
 use Rattle.c_model.specs.Nodes.{bool_value}
 use Rattle.c_model.specs.Values.{Value, integer_of}
 use Rattle.run_acts.specs.Scripts.{holds_in}
-use Rattle.run_acts.specs.Views.{value_in}
+use Rattle.run_values.specs.Views.{value_in}
 use Rattle.run_acts.proofs.Moves.{holds_in_order}
 use Rattle.run_acts.proofs.Stores.{made_pointer}
-use Rattle.run_acts.proofs.Keeping.{seen_number}
+use Rattle.run_values.proofs.Keeping.{seen_number}
 use Rattle.prov_memory.proofs.KeepLemmas.{keeps_none}
 use Rattle.run_acts.proofs.pointers.related.Goals as goal
 

@@ -1,10 +1,10 @@
 use Rattle.std.proofs.Common.{◌∙◌, refl, arith}
 use Rattle.std.proofs.lemmas.Result.{err_from_is_err_and}
-use Rattle.run_acts.specs.Views.{pointer_at}
-use Rattle.run_acts.proofs.Fills.{fills_next, fills_raise, fills_all}
+use Rattle.run_values.specs.Views.{pointer_at}
+use Rattle.run_values.proofs.Fills.{fills_next, fills_raise, fills_all}
 use Rattle.run_acts.proofs.Stores.{raise_then}
 use Rattle.prov_memory.proofs.KeepLemmas.{keeps_none, keeps_then}
-use Rattle.run_acts.proofs.Keeping.{filling_of, filling_still}
+use Rattle.run_values.proofs.Keeping.{filling_of, filling_still}
 use Rattle.run_acts.proofs.storage.fill.Goals as goal
 
 pub loop-filling-init : goal.loop-filling-init

@@ -4,10 +4,10 @@ use Rattle.mem_spec.specs.Streams.{Io}
 use Rattle.prov_memory.specs.Keeps.{Keeps}
 use Rattle.prov_memory.specs.Made.{IsMade}
 use Rattle.c_model.specs.Program.{Filling as Filled}
-use Rattle.run_acts.specs.Fills.{AreFillings}
-use Rattle.run_acts.specs.Kept.{AreOf}
-use Rattle.run_acts.specs.Views.{pointer_at}
-use Rattle.run_acts.proofs.Fills.{Alike, Fills}
+use Rattle.run_values.specs.Fills.{AreFillings}
+use Rattle.run_values.specs.Kept.{AreOf}
+use Rattle.run_values.specs.Views.{pointer_at}
+use Rattle.run_values.proofs.Fills.{Alike, Fills}
 use Rattle.run_acts.proofs.storage.fill.Given as goal
 
 -- the stores so far, and those that are left

@@ -1,6 +1,6 @@
 use Rattle.std.proofs.lemmas.Result.{err_from_is_err_and}
 use Rattle.mem_spec.specs.Acts.{bytes}
-use Rattle.run_acts.proofs.Fills.{made_cell}
+use Rattle.run_values.proofs.Fills.{made_cell}
 use Rattle.run_acts.proofs.storage.fill_one.Goals as goal
 
 pub returns-clause-exact : goal.returns-clause-exact

@@ -1,4 +1,5 @@
-use Rattle.run_acts.proofs.Stores.{given_then, faults_then, loaded_by}
+use Rattle.run_values.proofs.Results.{given_then}
+use Rattle.run_acts.proofs.Stores.{faults_then, loaded_by}
 use Rattle.run_acts.proofs.storage.load.Goals as goal
 
 pub returns-in-Integer-clause-made : goal.returns-in-Integer-clause-made

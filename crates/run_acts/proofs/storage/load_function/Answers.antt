@@ -4,7 +4,7 @@ use Rattle.mem_spec.specs.Acts.{load_func}
 use Rattle.prov_memory.specs.Memory.{store_of}
 use Rattle.c_model.specs.Values.{Fun}
 use Rattle.run_acts.proofs.Acts.{done_give, raised_give}
-use Rattle.run_acts.proofs.Keeping.{function_of}
+use Rattle.run_values.proofs.Keeping.{function_of}
 use Rattle.run_acts.proofs.storage.load_function.Goals as goal
 
 pub returns-clause-exact : goal.returns-clause-exact

@@ -7,7 +7,7 @@ use Rattle.mem_spec.specs.Acts.{load_int}
 use Rattle.prov_memory.specs.Memory.{store_of}
 use Rattle.c_model.specs.Values.{Int}
 use Rattle.run_acts.proofs.Acts.{done_give, raised_give}
-use Rattle.run_acts.proofs.Keeping.{int_of}
+use Rattle.run_values.proofs.Keeping.{int_of}
 use Rattle.run_acts.proofs.storage.load_integer.Goals as goal
 
 pub returns-clause-exact : goal.returns-clause-exact

@@ -7,7 +7,7 @@ use Rattle.prov_memory.specs.Memory.{store_of}
 use Rattle.prov_memory.specs.Pieces.{seen}
 use Rattle.c_model.specs.Values.{Whole}
 use Rattle.run_acts.proofs.Acts.{done_give, raise_given}
-use Rattle.run_acts.proofs.Keeping.{block_of}
+use Rattle.run_values.proofs.Keeping.{block_of}
 use Rattle.run_acts.proofs.storage.load_whole.Goals as goal
 
 pub returns-clause-exact : goal.returns-clause-exact

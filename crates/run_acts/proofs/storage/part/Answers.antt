@@ -9,11 +9,12 @@ use Rattle.mem_spec.specs.Agreement.{bytes_of_kind}
 use Rattle.mem_spec.specs.Script.{Script, run}
 use Rattle.c_model.specs.Values.{Value, Whole, Nothing, part_bytes, moved_source}
 use Rattle.run_acts.proofs.Parts.{seen_part, moved_same, pointer_read, pointer_unread, integer_same, function_same, part_none}
-use Rattle.run_acts.proofs.Stores.{given_then, faults_then}
+use Rattle.run_values.proofs.Results.{given_then}
+use Rattle.run_acts.proofs.Stores.{faults_then}
 use Rattle.std.proofs.Common.{subst}
 use Rattle.prov_memory.specs.declared.value.Value.{Value as Held}
-use Rattle.run_acts.specs.Kept.{IsOf}
-use Rattle.run_acts.proofs.Keeping.{nothing_of, pointer_loaded, part_kept}
+use Rattle.run_values.specs.Kept.{IsOf}
+use Rattle.run_values.proofs.Keeping.{nothing_of, pointer_loaded, part_kept}
 use Rattle.prov_memory.proofs.KeepLemmas.{keeps_none}
 use Rattle.run_acts.proofs.storage.part.Goals as goal
 

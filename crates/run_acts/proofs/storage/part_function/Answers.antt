@@ -8,7 +8,7 @@ use Rattle.prov_memory.specs.Pieces.{seen}
 use Rattle.c_model.specs.Values.{Fun, part_bytes}
 use Rattle.run_acts.proofs.Acts.{done_give, raised_give}
 use Rattle.run_acts.proofs.Parts.{seen_part}
-use Rattle.run_acts.proofs.Keeping.{function_of}
+use Rattle.run_values.proofs.Keeping.{function_of}
 use Rattle.run_acts.proofs.storage.part_function.Goals as goal
 
 pub returns-clause-exact : goal.returns-clause-exact

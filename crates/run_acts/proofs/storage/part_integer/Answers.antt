@@ -11,7 +11,7 @@ use Rattle.prov_memory.specs.Pieces.{seen}
 use Rattle.c_model.specs.Values.{Int, part_bytes}
 use Rattle.run_acts.proofs.Acts.{done_give, raised_give}
 use Rattle.run_acts.proofs.Parts.{seen_part}
-use Rattle.run_acts.proofs.Keeping.{int_of}
+use Rattle.run_values.proofs.Keeping.{int_of}
 use Rattle.run_acts.proofs.storage.part_integer.Goals as goal
 
 pub returns-clause-exact : goal.returns-clause-exact

@@ -7,8 +7,8 @@ use Rattle.mem_spec.specs.Agreement.{bytes_of_kind}
 use Rattle.mem_spec.specs.Bytes.{number_bytes, pointer_bytes}
 use Rattle.prov_memory.specs.Memory.{store_of}
 use Rattle.c_model.specs.Values.{int_bytes, integer_of, function_in}
-use Rattle.run_acts.specs.Stores.{CanStore}
-use Rattle.run_acts.specs.Views.{value_in, pointer_at}
+use Rattle.run_values.specs.Stores.{CanStore}
+use Rattle.run_values.specs.Views.{value_in, pointer_at}
 use Rattle.run_acts.proofs.Stores.{ok_then, err_then, ok_under, err_under, done_nothing, raised_nothing, made_pointer}
 use Rattle.run_acts.proofs.storage.store.Goals as goal
 

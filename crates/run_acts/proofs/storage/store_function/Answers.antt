@@ -2,7 +2,7 @@ use Rattle.std.proofs.Common.{◌≡◌, ◌∙◌, ◌<◌, ◌^◌, rules, to_
 use Rattle.std.specs.Int.{w128}
 use Rattle.std.proofs.lemmas.Int.{to_z-of_z}
 use Rattle.mem_spec.specs.Bytes.{low_bits}
-use Rattle.run_acts.proofs.Stores.{low_address}
+use Rattle.run_values.proofs.Results.{low_address}
 use Rattle.run_acts.proofs.storage.store_function.Goals as goal
 
 pub returns-clause-exact : goal.returns-clause-exact

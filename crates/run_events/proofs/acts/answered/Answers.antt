@@ -1,7 +1,7 @@
 use Rattle.std.proofs.Common.{◌∙◌, refl, ap, sym, Some}
 use Rattle.std.proofs.lemmas.Result.{err_from_is_err_and}
 use Rattle.run_layout.specs.declared.steps.Act.TheVariants as act
-use Rattle.run_acts.specs.Views.{value_in}
+use Rattle.run_values.specs.Views.{value_in}
 use Rattle.c_model.specs.Nodes.{call_value}
 use Rattle.prov_memory.proofs.KeepLemmas.{keeps_none}
 use Rattle.run_layout.specs.declared.steps.Operand.TheVariants as operand

@@ -2,7 +2,7 @@ use Rattle.std.proofs.Common.{refl, ap₂, ◌∙◌}
 use Rattle.std.proofs.lemmas.Result.{err_from_is_err_and}
 use Rattle.c_model.specs.Nodes as nodes
 use Rattle.run_layout.specs.declared.steps.Act.TheVariants as act
-use Rattle.run_acts.specs.Views.{value_in}
+use Rattle.run_values.specs.Views.{value_in}
 use Rattle.mem_spec.specs.Script.{Give}
 use Rattle.prov_memory.proofs.KeepLemmas.{keeps_none}
 use Rattle.run_answers.specs.Acts.{given_by}

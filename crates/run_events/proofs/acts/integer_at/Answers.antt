@@ -8,7 +8,7 @@ use Rattle.prov_memory.specs.Memory.{store_of}
 use Rattle.prov_memory.specs.declared.value.Value.TheVariants as kept
 use Rattle.c_model.specs.Values as model
 use Rattle.run_acts.specs.Loads.{integer_act}
-use Rattle.run_acts.specs.Views.{pointer_at}
+use Rattle.run_values.specs.Views.{pointer_at}
 use Rattle.run_acts.proofs.Acts.{done_give, raised_give}
 use Rattle.run_answers.specs.Acts.{script_in}
 use Rattle.run_answers.specs.Performs.{store_in}

@@ -5,7 +5,7 @@ use Rattle.c_model.specs.Nodes.{bool_value, in_order}
 use Rattle.c_model.specs.Values.{integer_of}
 use Rattle.mem_spec.specs.Script.{Give}
 use Rattle.prov_memory.proofs.KeepLemmas.{keeps_none}
-use Rattle.run_acts.specs.Views.{value_in}
+use Rattle.run_values.specs.Views.{value_in}
 use Rattle.run_layout.specs.declared.steps.Act.TheVariants as act
 use Rattle.run_answers.specs.Acts.{given_by}
 use Rattle.run_events.proofs.Valued.{at_once}

@@ -1,6 +1,6 @@
 use Rattle.std.proofs.Common.{refl, ap, ◌∙◌}
 use Rattle.run_layout.specs.declared.steps.Act.TheVariants as act
-use Rattle.run_acts.specs.Views.{value_in}
+use Rattle.run_values.specs.Views.{value_in}
 use Rattle.c_model.specs.Nodes.{bool_value}
 use Rattle.c_model.specs.Values.{truth}
 use Rattle.mem_spec.specs.Script.{Give}

@@ -3,7 +3,7 @@ use Rattle.std.proofs.lemmas.Result.{err_from_is_err_and}
 use Rattle.c_model.specs.Nodes as nodes
 use Rattle.c_model.specs.Values as model
 use Rattle.run_layout.specs.declared.steps.Act.TheVariants as act
-use Rattle.run_acts.specs.Views.{pointer_at}
+use Rattle.run_values.specs.Views.{pointer_at}
 use Rattle.mem_spec.specs.Script.{Done}
 use Rattle.prov_memory.specs.Memory.{store_of}
 use Rattle.c_model.specs.Values.{Value}

@@ -6,9 +6,9 @@ use Rattle.c_types.specs.Types.{type_of}
 use Rattle.mem_spec.specs.Acts.{load_ptr}
 use Rattle.prov_memory.specs.Memory.{AreKnown, HasCell, store_of}
 use Rattle.run_acts.specs.Loads.{pointer_act}
-use Rattle.run_acts.specs.Views.{pointer_at}
+use Rattle.run_values.specs.Views.{pointer_at}
 use Rattle.run_acts.proofs.Acts.{as_pointer, pointer_given, raise_given}
-use Rattle.run_acts.proofs.Keeping.{pointer_loaded}
+use Rattle.run_values.proofs.Keeping.{pointer_loaded}
 use Rattle.run_layout.specs.declared.steps.Act.TheVariants as act
 use Rattle.run_answers.proofs.Doing.{by_script, cell_of, mem_fails, place_same, pointer_made, rows_kept}
 use Rattle.run_events.proofs.Rooms.{room_changes, room_done, touches_all}

@@ -4,7 +4,7 @@ use Rattle.c_model.specs.Nodes as nodes
 use Rattle.c_model.specs.Values.{Value}
 use Rattle.run_layout.specs.declared.steps.Act.TheVariants as act
 use Rattle.run_acts.specs.Scripts.{less_act}
-use Rattle.run_acts.specs.Views.{value_in}
+use Rattle.run_values.specs.Views.{value_in}
 use Rattle.run_answers.proofs.Doing.{by_script, places_same, pointer_is, pointer_made, rows_kept}
 use Rattle.run_events.proofs.Rooms.{room_changes, room_done, touches_all}
 use Rattle.run_events.proofs.acts.pointer_relation.Goals as goal

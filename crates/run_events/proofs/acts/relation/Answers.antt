@@ -6,7 +6,8 @@ use Rattle.run_events.proofs.acts.relation.Goals as goal
 pub returns-then-pointers-clause-exact : goal.returns-then-pointers-clause-exact
 returns-then-pointers-clause-exact c = λ can given.
     let m = c.args.machine.now in
-    subst (λ (b : Bool). Does m c.pointer_relation.new.machine c.args.event (act.Related c.args.op b c.args.left.now c.args.right.now) c.pointer_relation.result)
+    subst (λ (b : Bool). Does m c.pointer_relation.new.machine c.args.event (act.Related c.args.op b c.args.left.now c.args.right.now)
+        c.pointer_relation.result)
     (sym c.if-pointers.true) (c.pointer_relation.ensures.exact can given)
 
 pub returns-then-pointers-clause-changes : goal.returns-then-pointers-clause-changes
@@ -18,7 +19,8 @@ returns-then-pointers-clause-changes c =
 pub returns-else-pointers-clause-exact : goal.returns-else-pointers-clause-exact
 returns-else-pointers-clause-exact c = λ can given.
     let m = c.args.machine.now in
-    subst (λ (b : Bool). Does m c.integer_relation.new.machine c.args.event (act.Related c.args.op b c.args.left.now c.args.right.now) c.integer_relation.result)
+    subst (λ (b : Bool). Does m c.integer_relation.new.machine c.args.event (act.Related c.args.op b c.args.left.now c.args.right.now)
+        c.integer_relation.result)
     (sym c.if-pointers.false) (c.integer_relation.ensures.exact can given)
 
 pub returns-else-pointers-clause-changes : goal.returns-else-pointers-clause-changes

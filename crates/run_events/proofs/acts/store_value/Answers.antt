@@ -1,5 +1,5 @@
 use Rattle.std.proofs.Common.{sym, subst}
-use Rattle.run_acts.specs.Views.{pointer_at}
+use Rattle.run_values.specs.Views.{pointer_at}
 use Rattle.std.specs.Prelude.{slice_get}
 use Rattle.run_layout.specs.declared.steps.Operand.{Operand}
 use Rattle.run_answers.specs.Acts.{given_by, stored_by, IsGiven}

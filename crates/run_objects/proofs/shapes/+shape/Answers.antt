@@ -4,7 +4,8 @@ use Rattle.c_types.specs.Shapes.{form_of}
 use Rattle.c_types.specs.Types.{type_of}
 use Rattle.program_view.specs.Objects.{forms_by}
 use Rattle.run_objects.specs.Opened.{weight_with, weight_by, open_work}
-use Rattle.run_objects.proofs.Placing.{begins, ends, pops, smaller, goes_on, within, falls, part_placed, part_roomy, part_less, nothing_placed, single_falls, tag_placed, tag_less, tag_roomy, at_number, kind_is, whole_is}
+use Rattle.run_objects.proofs.Placing.{begins, ends, pops, smaller, goes_on, within, falls, part_placed, part_roomy, part_less, nothing_placed, single_falls}
+use Rattle.run_objects.proofs.Placing.{tag_placed, tag_less, tag_roomy, at_number, kind_is, whole_is}
 use Rattle.run_objects.proofs.shapes.+shape.Goals as goal
 
 pub parts_within-loop-current-init : goal.parts_within-loop-current-init
@@ -60,7 +61,8 @@ place_member-single_shape-requires t c =
     let there = at_number c.as_slice.result.now c.in-Some.content.now.members c.args.current.next c.in-Some-get.member.now
     c.as_slice.ensures c.in-Some-get.ensures.lookup.0 c.in-Some-get.ensures.lookup.1 in (
       subst (λ (n : ℕ). 2 * weight_with (weight_by c.args.current.depth c.args.tags.now) (type_of c.single_of-ty.result.now) + 2 < n) c.decreases
-          (falls c.args.tags.now c.args.current c.in-Some.content.now c.in-Some-get.member.now c.in-Some.ensures there (type_of c.single_of-ty.result.now) c.single_of-ty.ensures),
+          (falls c.args.tags.now c.args.current c.in-Some.content.now c.in-Some-get.member.now c.in-Some.ensures there (type_of c.single_of-ty.result.now)
+              c.single_of-ty.ensures),
       tt,
     )
 

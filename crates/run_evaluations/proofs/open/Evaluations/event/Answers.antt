@@ -6,7 +6,8 @@ use Rattle.evaluation_log.specs.Ways.{node_of}
 use Rattle.evaluation_log.proofs.WholeLemmas.{base_within}
 use Rattle.run_evaluations.specs.Follows.{scopes_of}
 use Rattle.run_evaluations.specs.Scopes.{IsBelow}
-use Rattle.run_evaluations.proofs.ToldLemmas.{below_told, follow_now, follow_told, full_all, gathered_lows, gathered_nodes, over_told, placed_lows, placed_nodes, scope_is}
+use Rattle.run_evaluations.proofs.ToldLemmas.{below_told, follow_now, follow_told, full_all, gathered_lows, gathered_nodes, over_told, placed_lows}
+use Rattle.run_evaluations.proofs.ToldLemmas.{placed_nodes, scope_is}
 use Rattle.run_evaluations.proofs.WholeLemmas.{told_after}
 use Rattle.run_evaluations.proofs.FullLemmas.{below_after}
 use Rattle.run_evaluations.proofs.open.Evaluations.event.Goals as goal

@@ -61,7 +61,8 @@ returns-clause-first c = λ last at.
           record {
             foot = foot;
             has = c.in_ok-foot.ensures;
-            before = λ less. depends_by frames rows _ _ _ _ (holds foot) (holds foot) (holds ending) (last_has o) w.least_items.result c.if-node-from.result value
+            before = λ less. depends_by frames rows _ _ _ _ (holds foot) (holds foot) (holds ending) (last_has o) w.least_items.result c.if-node-from.result
+                value
                 body (λ j. refl) has w.least_items.ensures.least (λ e. w.depends.ensures.none (sym w.result-is ∙ e))
                 (subst (λ (r : Option Found). IfSome r (λ x. (x.race ≡ false) × (x.event ≡ c.event-value.result) × (x.against ≡ c.event-body.result) ×
                 (w.least_items.result ≡ Some x.items))) (sym w.result-is) w.depends.ensures.some);

@@ -13,7 +13,8 @@ use Rattle.run_evaluations.proofs.open.Evaluations.found_from.Given as goal
 abbrev pub invariant-loop-at : goal.invariant-loop-at
 invariant-loop-at l = record {
   conflict : ItemsConflict l.best;
-  none : size (tree_of l.order.root.now) < 2 ^ 32 → LooseKept l.self.segments.items l.self.events.items l.self.items.items l.self.loose.items l.loose → l.best ≡ None →
+  none : size (tree_of l.order.root.now) < 2 ^ 32 → LooseKept l.self.segments.items l.self.events.items l.self.items.items l.self.loose.items l.loose →
+      l.best ≡ None →
       (k : ℕ) → k < l.at → l.fn.own ≤ k →
       NoneListed l.under.map.now (taken_in l.order.taken.now) (tree_of l.order.root.now) l.self.events.items l.self.items.items l.self.loose.items l.loose k;
   first : size (tree_of l.order.root.now) < 2 ^ 32 → LooseKept l.self.segments.items l.self.events.items l.self.items.items l.self.loose.items l.loose →

@@ -1,4 +1,0 @@
-use Rattle.c_parse.proofs.statement.+stmt.Given as goal
-
-abbrev pub decreases-stmt : goal.decreases-stmt
-decreases-stmt l = l.depth

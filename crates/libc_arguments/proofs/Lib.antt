@@ -1,0 +1,15 @@
+pub mod Answering
+pub mod Checking
+pub mod Copying
+pub mod Finishing
+pub mod Keeping
+pub mod Listing
+pub mod Living
+pub mod Moving
+pub mod Parts
+pub mod Printing
+pub mod Reading
+pub mod Scripts
+pub mod Seen
+pub mod Settling
+pub mod Writing

@@ -1,7 +1,0 @@
--- What is left goes on from here.
-use Rattle.std.proofs.Common.{◌≡◌, drop}
-use Rattle.libc_model.specs.Parts.{kept_after}
-use Rattle.libc_model.proofs.arguments.kept_after.Given as goal
-
-abbrev pub invariant-loop-item : goal.invariant-loop-item
-invariant-loop-item l = kept_after (drop l.item-index l.items) l.id l.kept ≡ kept_after l.items l.id l.fn.before

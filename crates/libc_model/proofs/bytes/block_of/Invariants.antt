@@ -1,7 +1,0 @@
--- The numbers so far.
-use Rattle.std.proofs.Common.{◌≡◌, map, take}
-use Rattle.prov_memory.specs.Cells.{plain_cell}
-use Rattle.libc_model.proofs.bytes.block_of.Given as goal
-
-abbrev pub invariant-loop-number : goal.invariant-loop-number
-invariant-loop-number l = l.block.cells ≡ map plain_cell (take l.number-index l.numbers)

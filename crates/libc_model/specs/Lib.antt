@@ -1,5 +1,0 @@
-pub mod Answers
-pub mod Seen
-pub mod Parts
-pub mod Writes
-pub mod Making

@@ -1,0 +1,19 @@
+use Rattle.std.proofs.Common.{false, List, subst}
+use Rattle.ub_base.specs.declared.names.Item.{Item}
+use Rattle.prov_memory.specs.Memory.{store_of}
+use Rattle.libc_spec.specs.Library.{strlen}
+use Rattle.libc_arguments.specs.Seen.{value_seen, values_seen}
+use Rattle.libc_arguments.specs.Answers.{answer_in}
+use Rattle.libc_arguments.specs.Parts.{Follows}
+use Rattle.libc_arguments.proofs.Finishing.{cell_of, strlen_called}
+use Rattle.libc_strings.proofs.strings.length.Goals as goal
+
+pub returns-clause-exact : goal.returns-clause-exact
+returns-clause-exact c = λ io who call.
+    strlen_called c.finish.new.m.rows (values_seen c.args.args.now) who c.pointer_at.result.addr c.pointer_at.result.prov (store_of c.args.m.now io)
+    (store_of c.finish.new.m io) c.length_of-read.new.t (answer_in c.finish.result) c.pointer_at.ensures
+    (c.finish.ensures.exact io (λ rows. strlen rows c.pointer_at.result.addr c.pointer_at.result.prov) call.streams c.length_of-read.ensures.passed
+    (subst (λ (is : List Item). Follows false value_seen c.length_of-read.result c.args.m.now io is c.length_of-read.new.t
+    (strlen c.args.m.now.rows c.pointer_at.result.addr c.pointer_at.result.prov)) c.requires
+    (c.length_of-read.ensures.follows io (cell_of c.args.m.now (values_seen c.args.args.now) 0 c.pointer_at.result.addr c.pointer_at.result.prov call.cells
+    c.pointer_at.ensures))))

@@ -1,5 +1,0 @@
-use Rattle.run_acts.proofs.Counts.{start_counts}
-use Rattle.run_acts.proofs.laws.law_start_counts.Goals as goal
-
-pub returns : goal.returns
-returns c = start_counts

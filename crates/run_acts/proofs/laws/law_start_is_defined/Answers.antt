@@ -1,5 +1,0 @@
-use Rattle.run_acts.proofs.Outcomes.{start_is_defined}
-use Rattle.run_acts.proofs.laws.law_start_is_defined.Goals as goal
-
-pub returns : goal.returns
-returns c = start_is_defined

@@ -1,7 +1,0 @@
--- So many so far.
-use Rattle.std.proofs.Common.{◌≡◌, map, replicate}
-use Rattle.prov_memory.specs.Cells.{plain_cell}
-use Rattle.run_acts.proofs.storage.zeros.Given as goal
-
-abbrev pub invariant-loop-turn : goal.invariant-loop-turn
-invariant-loop-turn l = l.block.cells ≡ map plain_cell (replicate l._turn 0)

@@ -1,0 +1,5 @@
+pub mod Starting
+pub mod Standing
+pub mod Outcomes
+pub mod Sums
+pub mod Viewed

@@ -1,0 +1,5 @@
+mod Each
+mod Vias
+mod Beginning
+mod Given
+mod Unstarted

@@ -1,0 +1,6 @@
+//! The machine of a program before its first pick.
+#![tactic(auto)]
+
+mod initial;
+
+pub use initial::prepare;

@@ -1,0 +1,4 @@
+pub mod Fills
+pub mod Keeping
+pub mod Placed
+pub mod Results
