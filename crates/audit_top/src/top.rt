@@ -69,7 +69,7 @@ fn finish<O: Sink>(out: &mut O, answer: &Answer, text: &[u8]) -> u8
 fn run<F: Files, O: Sink>(alloc: Global, words: &[String], files: &mut F, out: &mut O) -> u8
     ensures { (answer : _)
         × HasCause (map string_bytes words.now) (disk (F.held files.old) (F.read_faults files.old) (F.write_faults files.old))
-            (disk (F.held files.new) (F.read_faults files.new) (F.write_faults files.new)) answer
+        (disk (F.held files.new) (F.read_faults files.new) (F.write_faults files.new)) answer
         × Ends (O.told out.old) (O.told out.new) (O.faults out.old) (O.faults out.new) result answer }
 {
     let answer = answer(alloc, words, files);
@@ -89,7 +89,7 @@ pub fn audit_main<F: Files, O: Sink>(
     // One answer has its cause, and its report is put whole, or a proper front of it before a write that failed.
     ensures answer { (answer : _)
         × HasCause (map string_bytes words.now) (disk (F.held files.old) (F.read_faults files.old) (F.write_faults files.old))
-            (disk (F.held files.new) (F.read_faults files.new) (F.write_faults files.new)) answer
+        (disk (F.held files.new) (F.read_faults files.new) (F.write_faults files.new)) answer
         × Ends (O.told out.old) (O.told out.new) (O.faults out.old) (O.faults out.new) result answer }
 
     // Where files are told and no fault is counted, the files decide what is put.

@@ -29,11 +29,11 @@ module _ (world : World) (next : State) (formed : IsFormedIn next.top.begun) (fr
   top_of st (begins e is none p n h) = open_so e [] (events (taken_by world next.top.scene e) 0 (tree_of e.root)) is (begins_along world next.top.scene e none)
   top_of st (takes e u x is t tr en bare h) =
       open_so (with_given e u t.value) (t.passed ++ u ∷ []) t.further t.begun
-          (subst (λ z. StandsAlong world z (with_given e u t.value) None (t.passed ++ u ∷ []) t.further) (sym t.scene) t.along)
+      (subst (λ z. StandsAlong world z (with_given e u t.value) None (t.passed ++ u ∷ []) t.further) (sym t.scene) t.along)
   top_of st (starts u x b p tr en h) = subst Stands (sym b) tt
   top_of st (ends h e is body t held) =
       open_so (with_given e h.1 t.value) (t.passed ++ h.1 ∷ []) t.further t.begun
-          (subst (λ z. StandsAlong world z (with_given e h.1 t.value) None (t.passed ++ h.1 ∷ []) t.further) (sym t.scene) t.along)
+      (subst (λ z. StandsAlong world z (with_given e h.1 t.value) None (t.passed ++ h.1 ∷ []) t.further) (sym t.scene) t.along)
 
 pub picks_leave_free : PicksLeaveFree
 picks_leave_free world st next a r formed free =

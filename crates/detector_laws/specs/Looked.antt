@@ -46,7 +46,7 @@ FreePicksPass = (world : World) (first st : State) (n left : ℕ) → GoesFree w
 abbrev pub LastPickTells : Type 0
 LastPickTells = (world : World) (first st : State) (n left : ℕ) (o : Outcome) → GoesFree world first n st
     → step world st (canonical_pick world st.top st.top.begun) ≡ o →
-        found_from world (n + suc left) 0 first ≡ shown_at world st o n (found_from world left (suc n))
+    found_from world (n + suc left) 0 first ≡ shown_at world st o n (found_from world left (suc n))
 
 -- ---- where a conflict is found on the way
 -- the finding that it makes

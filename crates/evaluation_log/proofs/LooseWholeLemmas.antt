@@ -398,7 +398,7 @@ module _ (segments : List Segment) (events : List Logged) (items : List Item) (l
             (λ more.
             let v = slice_get_within ms i k there in
             let g_is : g ≡ at = ⊎_elim (λ past. absurd (let a = ended g past in omega (arith, a, v, le))) (λ up. omega (arith, up, more)) (before_or_past at g)
-                in
+            in
             let a = old g (omega (arith, g_is)) in
             let s = ap (loose_of segments loose) g_is in
             let o = thin.behind i k (omega (arith, a, s, le)) there in

@@ -344,8 +344,15 @@ module _ (frames : List FrameRow) (rows : List Row) (p : Place) (events : List L
               let low = q.1.2.behind in
               counts_cases frames g f (same_races g.race f.race (sym q.0 ∙ s.0.0)) (event_cmp frames g.event f.event) refl
               (not_first a m g.event f.event q.1.3.event at not_before)
-              (λ e. s.1 g (q.0, (a, q.1.1, (same_event a m g.event f.event q.1.3.event at meets.0 least.0.0 e, omega (arith, low, ends_at), q.1.2.within),
-                  q.1.3))),
+              (λ e. s.1 g (
+                q.0,
+                (
+                  a,
+                  q.1.1,
+                  (same_event a m g.event f.event q.1.3.event at meets.0 least.0.0 e, omega (arith, low, ends_at), q.1.2.within),
+                  q.1.3,
+                ),
+              )),
         )
       where
         same_event : (k l : ℕ) (x y : Event) → name k ≡ Some x → name l ≡ Some y → begin ≤ k → begin ≤ l → event_cmp frames x y ≡ Equal → k ≡ l
@@ -390,7 +397,7 @@ module _ (frames : List FrameRow) (rows : List Row) (p : Place) (events : List L
         let low = w.low in
         let rise = w.rise in
         let c = some_sub rows sought (has q.1.0) (has q.1.1) (operand_has sought segments events items w.first)
-            (operand_has sought segments events items w.second)
+        (operand_has sought segments events items w.second)
         (λ j h. in_operand w.first q.1.0 j w.from w.to (of_first sought q.1.0 q.1.1 f q.0 q.1.3) h)
         (λ j h. in_operand w.second q.1.1 j w.behind w.within (of_second sought q.1.0 q.1.1 f q.0 q.1.3) h)
         (of_clash sought q.1.0 q.1.1 f q.0 q.1.3) in

@@ -179,7 +179,7 @@ module _ (frames : List FrameRow) (name : ℕ → Option Event) where
         λ k q. ⊎_elim (λ less. old.1 k (q.0, less, q.2))
             (λ same. let z = h (subst Q same q.2) in
             (λ i. comes_first frames (name (same i)) (name m)) ∙ (ap (λ n. comes_first frames (name at) (name n)) (same_Some m z.0 z.1) ∙ z.2))
-                (below_or_at k at q.1),
+            (below_or_at k at q.1),
       )
 
       taken : (best : Option ℕ) → IsLeastEvent frames name (λ k. (from ≤ k) × (k < at) × Q k) best → Q at →

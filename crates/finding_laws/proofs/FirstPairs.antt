@@ -254,7 +254,7 @@ events_by_places rows d e frame turn =
     ap (λ f. frame_cmp rows d.frame.0 f.0) (sym frame) ∙ (then_equal (frame_cmp rows d.frame.0 d.frame.0) _ (tied_itself (event_total rows) d)).0 in
     let same_turn : nat_cmp d.turn e.turn ≡ Equal = ap (nat_cmp d.turn) (sym turn) ∙ tied_itself nat_cmp_total d.turn in
     ap (λ o. is_lt (ordering_then o (ordering_then (nat_cmp d.turn e.turn)
-        (ordering_then (nat_cmp d.node e.node) (nat_cmp (kind_rank d.kind) (kind_rank e.kind))))))
+    (ordering_then (nat_cmp d.node e.node) (nat_cmp (kind_rank d.kind) (kind_rank e.kind))))))
     same_frame
     ∙ (ap (λ o. is_lt (ordering_then o (ordering_then (nat_cmp d.node e.node) (nat_cmp (kind_rank d.kind) (kind_rank e.kind))))) same_turn
     ∙ ((λ i. is_lt (ordering_then (nat_cmp d.node e.node) (nat_cmp (rank_key d.kind i) (rank_key e.kind i))))

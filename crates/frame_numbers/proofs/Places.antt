@@ -86,7 +86,7 @@ place_stays (r ∷ rs) more a t k i e = go (place_stays rs more a t k) (is_row r
 
     go : ((j : ℕ) → place_in rs a t k ≡ Some j → place_in (rs ++ more) a t k ≡ Some j) → (b : Bool) → is_row r a t k ≡ b →
         (if b then Some 0 else option_map suc (place_in rs a t k)) ≡ Some i →
-            (if is_row r a t k then Some 0 else option_map suc (place_in (rs ++ more) a t k)) ≡ Some i
+        (if is_row r a t k then Some 0 else option_map suc (place_in (rs ++ more) a t k)) ≡ Some i
     go below true p q = ap (λ (b : Bool). if b then Some 0 else option_map suc (place_in (rs ++ more) a t k)) p ∙ q
     go below false p q = ap (λ (b : Bool). if b then Some 0 else option_map suc (place_in (rs ++ more) a t k)) p ∙ later below (place_in rs a t k) refl q
 

@@ -106,4 +106,4 @@ libraries_go scoped ordered reached world p numbers old new st n e s laid d f ts
     going.frames.0.begun in
     goes_on world p numbers old new st n e s d.place _ is going t.stage t.stood.begun
     (call_moves world (meaning_of p numbers old.code.now) old new st e s laid d f ts hs w opened.straight t) stands scoped ordered reached within t.may steps
-        few
+    few

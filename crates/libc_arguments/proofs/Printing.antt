@@ -171,7 +171,7 @@ print_gives m new io out is js bs script within fits g more put rows settled =
     subst (λ (act : Act LibValue). Answers (answers.Value (Int (pos 1))) js (store_of new out) (limited (store_of m io) act))
     (sym (prints m new.rows io is bs script rows g))
     (answers_of (Ok (Int (pos 1))) js (store_of new out)
-        (Done (number (pos 1)) (joined (g.items ++ Output ∷ [])) (wrote streams.Output (after is (store_of m io)) bs))
+    (Done (number (pos 1)) (joined (g.items ++ Output ∷ [])) (wrote streams.Output (after is (store_of m io)) bs))
     (subst (λ (o : Io). total o.output ≤ 2 ^ 24) (sym put) size) (refl, items, store))
 
 -- the output would pass its limit

@@ -279,7 +279,7 @@ module _ (world : World) (st : State) (e : Begun) (u : Place) (g : LibFunc) (ts 
         ap (λ (b : Option Begun). limited world.limits (moved world st (Ev u) (move world st.top b (Ev u)) (result w) s trace)) begun
         ∙ ap (λ (k : Move Local). limited world.limits (moved world st (Ev u) k (result w) s trace)) stays
         ∙ ap (λ (b : Option Begun). limited world.limits
-            (Running (record { top = next world st.top b (Ev u) (result w); held = st.held; store = s; trace = trace })))
+        (Running (record { top = next world st.top b (Ev u) (result w); held = st.held; store = s; trace = trace })))
         begun
         ∙ ap (λ (d : ℕ). within (limit_passed world.limits d s) (Running after)) (depth_same after.top st.top st.held refl)
 

@@ -236,7 +236,7 @@ module _ {V : Type 0} (rows : List Row) where
       never_ends (f (answer rows (Take) s)) (Input ∷ bs) (left (Take) s) n st.rest s1 (h (answer rows (Take) s)) st.done
   never_ends (Do (Print to cs) f) bs s n is s1 h e =
       let st = stepped (refuses (Print to cs) s) (Print to cs) (Output) (run rows (f (answer rows (Print to cs) s)) (left (Print to cs) s)) (finishes n) is s1 e
-          in
+      in
       never_ends (f (answer rows (Print to cs) s)) (Output ∷ bs) (left (Print to cs) s) n st.rest s1 (h (answer rows (Print to cs) s)) st.done
 
 pub need : {V : Type 0} → (rows : List Row) (b : Bool) (c : Clause) (t : Script V) (bs : List Item) (Q : V → List Item → Type 0) → Post rows t bs Q

@@ -215,7 +215,7 @@ puts_asks rows a p bs =
     go_on rows (text rows a p) (λ s. read_numbers s.bytes >>= (λ ns. touch (Print streams.Output (without_zero ns ++ 10 ∷ [])) >> Give (number (pos 1)))) bs
     (text_asks rows a p bs)
     (λ s cs. go_on rows (read_numbers s.bytes) (λ ns. touch (Print streams.Output (without_zero ns ++ 10 ∷ [])) >> Give (number (pos 1))) cs
-        (numbers_ask rows s.bytes cs)
+    (numbers_ask rows s.bytes cs)
     (λ ns ds. λ r. tt))
 
 new_asks : (rows : List Row) (who : Event) (n : ℕ) (bs : List Item) → Asked rows (new_object rows who n) bs

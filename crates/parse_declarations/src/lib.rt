@@ -5,7 +5,5 @@ mod declaration;
 mod initializer;
 mod knot;
 
-pub use declaration::{
-    assertion, declaration, declaration_specs, more_parts, named_declarator,
-};
+pub use declaration::{assertion, declaration, declaration_specs, more_parts, named_declarator};
 pub use knot::expr;

@@ -144,7 +144,7 @@ row_left old new x base size align rest is rows = (
   true,
   ap (λ (m : Kept). record m { rows = new.rows; created = 2 ^ 62 }) rest
       ∙ ap (λ (rs : List Row). record old { rows = rs; created = 2 ^ 62 })
-          (rows ∙ ap (λ (b : ℕ). rows_with (row_of old.rows x) (row_at x b size align) old.rows) is),
+      (rows ∙ ap (λ (b : ℕ). rows_with (row_of old.rows x) (row_at x b size align) old.rows) is),
 )
 
 -- ---- a new object

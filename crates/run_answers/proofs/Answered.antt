@@ -238,7 +238,7 @@ module _ (steps : EventSteps) (world : World) (meaning : Option ℕ → Meaning)
       FollowsEvent now.code.now who status d done new r → AnswersTaken world meaning m st e s laid d.place r new (step world st (Ev d.place))
   performed status none done new did changes effect (Ok (pick.Event event completed ended)) f =
       subst (λ (o : Option ℕ). AnswersTaken world meaning m st e s laid d.place (Ok (pick.Event event completed o)) new (step world st (Ev d.place)))
-          (sym (f.1 ∙ none))
+      (sym (f.1 ∙ none))
       (λ rows. comes done f.2.noted new did.0 did.1 changes effect f.2.notes f.2.decides rows)
   performed status none done new did changes effect (Ok (pick.Starts event)) f = absurd f
   performed status none done new did changes effect (Ok (pick.Step ended)) f = absurd f

@@ -92,7 +92,7 @@ impl<'p> Draft<'p> {
         ensures fit { (p : ProgramOf) → AreFit p self.old.expressions.tables → OnOk result (AreFit p self.new.expressions.tables) }
         ensures block { (row : BlockRow) → row.objects ≡ map qualified_of (out-Block block.now).objects
             → OnOk result
-                (AddsBlocks tags.now arguments (row ∷ []) self.old.expressions.tables self.old.function self.new.expressions.tables self.new.function) }
+            (AddsBlocks tags.now arguments (row ∷ []) self.old.expressions.tables self.old.function self.new.expressions.tables self.new.function) }
     {
         let (objects, created) = self.objects_of(tags, block)?;
         let number = self.function.count;

@@ -166,8 +166,14 @@ module _ (s : Scope) (rules : Rules) (free_is : (n : ℕ) → SequencesNone s n 
       due_up s.taken 0 s.tree l.top value last (node l.class l.operands) l.here (omega (arith, b)) within_top (omega (arith, low)) l.high due due_top
 
   operand_value : IsOperandOf s l.top l.class l.operands l.loud.index own.number
-  operand_value = record { side = own; there = l.loud.there; number = refl; goes = goes_on l.class (s.taken l.top) l.loud.index open_here.0; loud =
-      l.loud.loud }
+  operand_value = record {
+    side = own;
+    there = l.loud.there;
+    number = refl;
+    goes = goes_on l.class (s.taken l.top) l.loud.index open_here.0;
+    loud =
+        l.loud.loud;
+  }
 
   operand_last : IsOperandOf s l.top l.class l.operands l.index l.second.number
   operand_last = operand_due s still last due l.top l.class l.operands l.here l.index l.second l.at l.low_second l.high_second
@@ -514,7 +520,7 @@ module _ (frames : List FrameRow) (rows : List Row) (a : Evaluations) (t : Opene
         ⊎_elim
         (λ less.
         let r = lefts_nearest t.scope rules g.other last.place forked less (size t.scope.tree) 0 t.scope.tree (omega arith) (root_part 0 t.scope.tree)
-            (omega arith)
+        (omega arith)
         (omega (arith, top, high)) in
         let le = r.2 in
         inl ((fork_left t.scope rules g.other last.place forked less).0, (r.0, r.1, omega (arith, le, first))))
@@ -655,7 +661,7 @@ module _ (frames : List FrameRow) (rows : List Row) (a : Evaluations) (t : Opene
           let less = stands_before.0 in
           let m = same_node in
           let dep = dependence_like frames rows (top_event a x Val) (event_in t (place x Val)) (top_event a e.node e.kind) (event_in t last.place)
-              (holds h.foot)
+          (holds h.foot)
           (has_at_end t (place x Val)) (last_has a) (has last) z (named_top x Val) last_name (foot_is x h.foot h.has) last_is
           (h.before (omega (arith, less, m))) in (
             record {

@@ -250,7 +250,7 @@ module _ (frames : List FrameRow) (rows : List Row) (a : Evaluations) (t : Opene
             (λ le. absurd (⊎_elim
             (λ prior. let r = in_rising 0 t.scope.tree n k.0 j bx.above m prior k.1 at_j in omega (arith, r, deep))
             (λ ge. let r = same_Some bx.above m (sym k.1 ∙ (ap (slice_get (above_in 0 t.scope.tree n)) (omega (arith, le, ge)) ∙ at_j)) in
-                omega (arith, r, deep))
+            omega (arith, r, deep))
             (before_or_past k.0 j)))
             (before_or_past j k.0))
             ((λ i. slice_get (above_in 0 (sym same i) (hit i)) k.0) ∙ k.1)

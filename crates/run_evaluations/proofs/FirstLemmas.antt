@@ -354,9 +354,9 @@ module _ (a : Evaluations) (t : Opened) (ts : List Opened) (f : Follows (t ∷ t
         let op = operand_of rows a t ts f n rule chosen tell fresh d _ P (behind_first two.first d.place.node two.of_first two.in_first) in
         let oq = operand_of rows a t ts f n rule chosen tell fresh e _ Q (behind_first two.second e.place.node two.of_second two.in_second) in
         let first = same_operand t.scope n two.first P.of d.place.node two.of_first (operand_of_this P.of op.0 op.1) two.in_first (in_part P.of d.place P.below)
-            in
+        in
         let second = same_operand t.scope n two.second Q.of e.place.node two.of_second (operand_of_this Q.of oq.0 oq.1) two.in_second
-            (in_part Q.of e.place Q.below) in
+        (in_part Q.of e.place Q.below) in
         let less = two.rise in
         let rise : P.of < Q.of = omega (arith, first, second, less) in (
           length (all_done ts) + q.one_done.0,
@@ -368,7 +368,7 @@ module _ (a : Evaluations) (t : Opened) (ts : List Opened) (f : Follows (t ∷ t
             rise = ⊎_elim (λ z. z)
                 (λ le. absurd (⊎_elim
                 (λ back. let b = beside_less t.scope Q.of P.of (beside_at a t ts f Q.segment P.segment Q.of P.of Q.low back Q.own P.own) in
-                    omega (arith, b, rise))
+                omega (arith, b, rise))
                 (λ ge. let z = same_Some P.of Q.of (sym P.own ∙ (ap (λ g. node_of (slice_get a.segments.items g)) (omega (arith, le, ge)) ∙ Q.own)) in
                 omega (arith, z, rise))
                 (before_or_past Q.segment P.segment)))
@@ -452,7 +452,7 @@ module _ (ss gs : List Segment) (es ge : List Logged) (at : ℕ) (alike : (g : �
   once_alike once k l d e low_k low_l at_k at_l =
       let a = starts at in
       once k l d e (omega (arith, a, low_k)) (omega (arith, a, low_l)) (ap (λ es. slice_get es k) (sym same) ∙ at_k)
-          (ap (λ es. slice_get es l) (sym same) ∙ at_l)
+      (ap (λ es. slice_get es l) (sym same) ∙ at_l)
 
   pub between_there : (a b : ℕ) → AreBetween gs ge at a b → AreBetween ss es at a b
   between_there a b w =
@@ -548,7 +548,7 @@ pub operands_first : (a : Evaluations) (t : Opened) (ts : List Opened) (f : Foll
     (behind : (g m : ℕ) → at ≤ g → node_of (slice_get a.segments.items g) ≡ Some m → n < m) (frames : List FrameRow) (rows : List Row) (r : Option Found) →
     IfSome r (λ x. (is_unsequenced rule ≡ true) × IsFirst frames (IsOfPair frames rows (expression_in (slice_get a.levels.items (length a.levels.items - 1)))
     a.events.items a.items.items (AreBetween a.segments.items a.events.items at)) x) →
-        IfSome r (IsFirst frames (IsConflictIn frames rows t (AreOfOperands t n)))
+    IfSome r (IsFirst frames (IsConflictIn frames rows t (AreOfOperands t n)))
 operands_first a t ts f n rule chosen tell fresh loose at low least behind frames rows None h = tt
 operands_first a t ts f n rule chosen tell fresh loose at low least behind frames rows (Some x) h =
     let p = expression_in (slice_get a.levels.items (length a.levels.items - 1)) in

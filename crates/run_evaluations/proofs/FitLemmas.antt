@@ -286,9 +286,11 @@ fits_among (u ∷ us) m each small all n c ts h =
     let count = rule_count u m in
     by_test (nat_lt n (m + size (tree_of u)))
     (λ less.
-    let r = each u (omega arith) m (omega (arith, small)) p.0 n c ts (sym (if_true _ _ _ less) ∙ h) in
-    (r.0, get_left (rules_of u m) (rules_among (map rules_of us) (m + length (rules_of u m))) (n - m) (slice_get_within (rules_of u m) (n - m) r.0 r.1) ∙ r.1,
-        r.2))
+    let r = each u (omega arith) m (omega (arith, small)) p.0 n c ts (sym (if_true _ _ _ less) ∙ h) in (
+      r.0,
+      get_left (rules_of u m) (rules_among (map rules_of us) (m + length (rules_of u m))) (n - m) (slice_get_within (rules_of u m) (n - m) r.0 r.1) ∙ r.1,
+      r.2,
+    ))
     (λ past.
     let low = not_less_is n (m + size (tree_of u)) past in
     let r = fits_among us (m + size (tree_of u)) (λ v e. each v (omega (arith, e))) (omega (arith, small)) p.1 n c ts (sym (if_false _ _ _ past) ∙ h) in (

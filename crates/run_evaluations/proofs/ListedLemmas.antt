@@ -168,7 +168,7 @@ module _ (segments : List Segment) (events : List Logged) (loose : List ℕ) (le
       same_Some (place e.node e.kind) u (sym (ap place_of (ap (slice_get (events ++ (e ∷ []))) k_is ∙ get_seam events e)) ∙ there) in
       let m_is : n ≡ m = same_Some n m (sym own ∙ sym (ap (λ x. node_of (slice_get ts x)) g_is) ∙ at) in
       let b = subst (λ x. IsBelow (scopes d) x u) m_is (subst (λ (x : Place). IsBelow (scopes d) n x) u_is
-          (new d (subst (λ x. IsOpenIn levels d x) g_is opens))) in
+      (new d (subst (λ x. IsOpenIn levels d x) g_is opens))) in
       (b, λ ask. inl (own_comes (scopes d) m u (sym (ap (λ (x : Place). x.node) u_is) ∙ same ∙ m_is) (ask (omega (arith, k_is, size))))))
       (before_or_past k (length events)))
       (before_or_past g last)
@@ -199,14 +199,18 @@ module _ (segments : List Segment) (events : List Logged) (loose : List ℕ) (le
         r.0,
         λ ask. ⊎_elim
             (λ earlier. ⊎_elim inl
-            (λ l. let x = l.1 in let y = l.2 in inr (l.0, omega (arith, lg, x), after l.0 y,
-                get_left loose ((length events - 1) ∷ []) l.0 (omega (arith, y, t)) ∙ l.3))
+            (λ l. let x = l.1 in let y = l.2 in inr (
+              l.0,
+              omega (arith, lg, x),
+              after l.0 y,
+              get_left loose ((length events - 1) ∷ []) l.0 (omega (arith, y, t)) ∙ l.3,
+            ))
             (r.1 (λ e. absurd (omega (arith, e, earlier)))))
             (λ newest.
             let k_is : length events - 1 ≡ k = omega (arith, newest, v) in
             let g_is : g ≡ last =
             ⊎_elim (λ before. absurd (let s = rises (suc g) last before in omega (arith, s, filled, end, b, to, newest)))
-                (λ past. omega (arith, past, w, count))
+            (λ past. omega (arith, past, w, count))
             (before_or_past g last) in
             let q = ap (first_loose ms) (slice_get_past ts (suc g) (omega (arith, count, g_is))) in
             let z = tops g in
@@ -305,7 +309,7 @@ module _ (segments : List Segment) (events : List Logged) (loose : List ℕ) (le
       let z : false ≡ true = sym not_before ∙ b in cc))
       (λ l. l)
       (r.1 (λ one. absurd (let z = last u (ap (λ q. place_of (slice_get events q)) (omega (arith, one)) ∙ ap place_of there ∙ u_is) in
-          omega (arith, z, node_is, behind))))
+      omega (arith, z, node_is, behind))))
 
 -- ---- what a rule takes from the list
 number_same : (x y : ℕ) → (x == y) ≡ true → x ≡ y

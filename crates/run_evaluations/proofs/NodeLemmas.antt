@@ -259,13 +259,13 @@ pub node_moved : (frames : List FrameRow) (rows : List Row) (es ge : List Logged
     IsFirstOf frames (IsOfPair frames rows (expression_in (slice_get vs (length vs - 1))) es is (AreListed taken root es ls begin from)) r
 node_moved frames rows es ge is gi ls gl vs gv ee ei el ev taken root begin from r h =
     subst (λ (x : List Logged). IsFirstOf frames (IsOfPair frames rows (expression_in (slice_get vs (length vs - 1))) x is
-        (AreListed taken root x ls begin from)) r) ee
+    (AreListed taken root x ls begin from)) r) ee
     (subst (λ (x : List Item). IsFirstOf frames (IsOfPair frames rows (expression_in (slice_get vs (length vs - 1))) ge x
-        (AreListed taken root ge ls begin from)) r) ei
+    (AreListed taken root ge ls begin from)) r) ei
     (subst (λ (x : List ℕ). IsFirstOf frames (IsOfPair frames rows (expression_in (slice_get vs (length vs - 1))) ge gi (AreListed taken root ge x begin from))
-        r) el
+    r) el
     (subst (λ (x : List Level). IsFirstOf frames (IsOfPair frames rows (expression_in (slice_get x (length x - 1))) ge gi
-        (AreListed taken root ge gl begin from)) r)
+    (AreListed taken root ge gl begin from)) r)
     ev h)))
 
 pub clean_moved : (rows : List Row) (es ge : List Logged) (is gi : List Item) (ls gl : List ℕ) → ge ≡ es → gi ≡ is → gl ≡ ls → (taken : Taken) (root : Tree)

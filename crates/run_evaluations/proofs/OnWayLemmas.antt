@@ -226,8 +226,13 @@ module _ (old cur : Evaluations) (above : List ℕ) (p c n : ℕ) (shape : Shape
             λ k m more at of. shape.front g k m under (omega (arith, more)) at of,
           );
           free = ap is_unsequenced (sym is_rule) ∙ w.free;
-          events = record { from = omega (arith, sg, from); to = omega (arith, ssg, to); behind = omega (arith, ssg, next); within =
-              omega (arith, inside, all) };
+          events = record {
+            from = omega (arith, sg, from);
+            to = omega (arith, ssg, to);
+            behind = omega (arith, ssg, next);
+            within =
+                omega (arith, inside, all);
+          };
         }
 
     from_way : (a b : ℕ) (w : AreOnWay rules above old p a b) → (w.place ≡ p) → AreBehindOperand cur n rule a b
@@ -252,8 +257,13 @@ module _ (old cur : Evaluations) (above : List ℕ) (p c n : ℕ) (shape : Shape
           free = ap is_unsequenced is_rule ∙ (ap (λ x. is_unsequenced (rule_in rules x)) (sym m_is) ∙ w.free);
           segment = g;
           operand = stands old cur above p c n shape rising here g of under;
-          events = record { from = omega (arith, sg, from); to = omega (arith, ssg, to); behind = omega (arith, ssg, next); within =
-              omega (arith, inside, all) };
+          events = record {
+            from = omega (arith, sg, from);
+            to = omega (arith, ssg, to);
+            behind = omega (arith, ssg, next);
+            within =
+                omega (arith, inside, all);
+          };
         }
 
     -- with this node the first conflict of those from here on
@@ -273,15 +283,23 @@ module _ (old cur : Evaluations) (above : List ℕ) (p c n : ℕ) (shape : Shape
         (λ same. inr (q.0, q.1, from_way q.0 q.1 q.2 (let l = q.2.low in omega (arith, same, l)), of_cur q.0 q.1 f q.3))
         (before_or_past p q.2.place))
         (both frames (IsTopPair frames rows old (AreOnWay rules above old (suc p))) (IsTopPair frames rows cur (AreBehindOperand cur n rule)) best found before
-            now))
+        now))
       where
         lower : (a b : ℕ) → AreOnWay rules above old (suc p) a b → AreOnWay rules above old p a b
         lower a b w = let l = w.low in
             record { place = w.place; low = omega (arith, l); node = w.node; segment = w.segment; near = w.near; free = w.free; events = w.events }
 
         raise : (a b : ℕ) (w : AreOnWay rules above old p a b) → p < w.place → AreOnWay rules above old (suc p) a b
-        raise a b w more = record { place = w.place; low = omega (arith, more); node = w.node; segment = w.segment; near = w.near; free = w.free; events =
-            w.events }
+        raise a b w more = record {
+          place = w.place;
+          low = omega (arith, more);
+          node = w.node;
+          segment = w.segment;
+          near = w.near;
+          free = w.free;
+          events =
+              w.events;
+        }
 
         -- the log and the frame on top are the same
         moved : (a b : ℕ) (f : Found) (ls gs : List Level) (es xs : List Logged) (js ys : List Item) → ls ≡ gs → es ≡ xs → js ≡ ys →

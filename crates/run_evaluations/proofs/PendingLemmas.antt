@@ -164,9 +164,10 @@ rights_loud m none n j r x k low high h = absurd (cc)
 rights_loud m (more t ts) n zero r x k low high h =
     let e = same_Some (side m t) r k in
     let a = ap (λ (z : Side). z.number) e in
-    let b = ap (λ (z : Side). size z.tree) e in
-    (loud_on m t ts x (sides_loud (m + size t) ts x (sym (ap first_loud (if_true _ _ _ (less_test n (m + size t) (omega (arith, a, b, high))))) ∙ h)),
-        omega arith)
+    let b = ap (λ (z : Side). size z.tree) e in (
+      loud_on m t ts x (sides_loud (m + size t) ts x (sym (ap first_loud (if_true _ _ _ (less_test n (m + size t) (omega (arith, a, b, high))))) ∙ h)),
+      omega arith,
+    )
 rights_loud m (more t ts) n (suc j) r x k low high h =
     let l = (side_at (m + size t) ts j r k).low in
     let q = rights_loud (m + size t) ts n j r x k low high (sym (ap first_loud (if_false _ _ _ (not_less_test n (m + size t) (omega (arith, l, low))))) ∙ h) in

@@ -220,7 +220,7 @@ module _ (a : Evaluations) (t : Opened) (ts : List Opened) (f : Follows (t ∷ t
         ⊎_elim
         (λ same. absurd (no_beside m last.0 same (beside_at g at m last.0 base less old last.1) (omega (arith, behind, own)) (next_at at last.0 low last.1)))
         (⊎_elim (λ o. absurd (let q = made.least g (operand_at n g m base old (operand_behind t.scope n m tell.class tell.operands o.0 o.1)) in
-            omega (arith, q, less)))
+        omega (arith, q, less)))
         (λ b. inl (old, beside_less t.scope m n b)))
         (tell.next m (part_at g m base old)))
         (λ past. let g_is : g ≡ at = omega (arith, past, w, count) in

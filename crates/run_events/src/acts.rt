@@ -30,7 +30,6 @@ use crate::updates::update;
 use c_typed::{Access, Conversion, EqOp, RelOp, UnOp};
 use c_types::{BinOp, IntKind, Ty};
 use prov_memory::{Value, Via};
-use run_values::{Filling, Pointer};
 use run_acts::{
     answer, binary, convert, distance, equal, fill, load, member, moved, part, related, store,
     unary,
@@ -38,6 +37,7 @@ use run_acts::{
 use run_answers::{Fault, Outcome};
 use run_layout::{Act, Operand, StoreCode};
 use run_state::Machine;
+use run_values::{Filling, Pointer};
 use ub_base::{Clause, Event, Items, NoMemory};
 
 fn number(value: bool) -> Value

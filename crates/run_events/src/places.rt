@@ -5,9 +5,9 @@ ghost use Rattle.run_events.specs.Places.{into_object, LeadsTo};
 
 use exposure::Prov;
 use prov_memory::Value;
-use run_values::{Pointer, pointer_to};
 use run_layout::Operand;
 use run_state::Machine;
+use run_values::{Pointer, pointer_to};
 use ub_base::ObjName;
 
 // The object and the address of a place, where it is an automatic object or what a node gives, and made from one object.

@@ -9,11 +9,11 @@ ghost use Rattle.run_events.specs.Places.{LeadsTo};
 use crate::places::{object_at, pointer_into};
 use c_typed::Change;
 use c_types::Ty;
-use run_values::Pointer;
 use run_acts::changed;
 use run_answers::{Fault, Outcome};
 use run_layout::Operand;
 use run_state::Machine;
+use run_values::Pointer;
 use ub_base::Event;
 
 // An Update's value, and in its room what it will store. Most are of places in one object.

@@ -149,7 +149,7 @@ behind k a m b us vs l f g = (
   (let x = f.0 in let y = g.0 in omega (arith, x, y)),
   unique_append us vs f.1 g.1
       (λ w h j. let x = f.2 w h in let p = x.0 in let q = x.1 in
-          elim (g.2 w j) [ inl e ↦ omega (arith, p, e, l) | inr y ↦ (let r = y.0 in omega (arith, q, r)) ]),
+      elim (g.2 w j) [ inl e ↦ omega (arith, p, e, l) | inr y ↦ (let r = y.0 in omega (arith, q, r)) ]),
   λ w h. elim (has_cases us vs w h) [
     | inl i ↦ (let x = f.2 w i in let y = g.0 in inr (x.0, let p = x.1 in omega (arith, p, y)))
     | inr i ↦ (elim (g.2 w i) [ inl e ↦ inl e | inr x ↦ (let y = f.0 in inr (let p = x.0 in omega (arith, p, y), x.1)) ])

@@ -55,7 +55,7 @@ raised_next old mid due next now follows some canonical frame turn event line is
       line_is = at;
       next = λ s stage straight.
           let came = came_next old mid s due old.top.stage (top_of old) straight stage refl (subst (λ (o : Option (Bor Due)). Follows old mid o) some follows)
-              in
+          in
           ((came.count, due), came.comes, refl);
     }
 

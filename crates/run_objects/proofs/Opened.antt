@@ -240,7 +240,7 @@ module _ (tags : List Tag) (o : Open) (t : Tag) (m : Member) (at : slice_get tag
 
   pub contribution_is : (rest : Forms) →
       contribution tags o rest ≡ moved o.offset (placed (member_offset tags o.tag o.next) (form_with (forms_by o.depth tags) tags (type_of_member m)) inner)
-          rest
+      rest
   contribution_is rest =
       ap (λ (ms : List Member). moved o.offset (member_forms (forms_by o.depth tags) tags o.tag o.next ms) rest) left_is
 

@@ -112,7 +112,7 @@ module _ (world : World) (m : Machine) (f : Scene) (block k : ℕ) (code : Block
 abbrev Points : Machine → Operand → Value → Type 0
 Points m (operand.Local number offset) v =
     (x : Local) × (slice_get m.locals.items (m.top.locals + number) ≡ Some x) × IsMade m.memory (Whole x.name) ×
-        (v ≡ Ptr (address_after x.addr offset) (Whole x.name))
+    (v ≡ Ptr (address_after x.addr offset) (Whole x.name))
 Points m (operand.Static number offset) v =
     (a : ℕ) × (slice_get m.places.objects number ≡ Some a) × IsMade m.memory (Whole (object.Static number))
     × (v ≡ Ptr (address_after a offset) (Whole (object.Static number)))
@@ -160,7 +160,7 @@ module _ (world : World) (m : Machine) (f : Scene) (firsts : List ℕ) (stands :
 
   placed : (x : ObjName) (addresses : List ℕ) (k : ℕ) → StandsAt m.memory x addresses k
       → (a : ℕ) × (slice_get addresses k ≡ Some a) × IsMade m.memory (Whole x) ×
-          (Ptr (base_in (row_of world.rows x)) (Whole x) ≡ Ptr (address_after a 0) (Whole x))
+      (Ptr (base_in (row_of world.rows x)) (Whole x) ≡ Ptr (address_after a 0) (Whole x))
   placed x addresses k there =
       let a = there.0 in
       let s = there.2 in
@@ -173,7 +173,7 @@ module _ (world : World) (m : Machine) (f : Scene) (firsts : List ℕ) (stands :
   object_points (slot.Static k) there =
       placed (object.Static k) m.places.objects k
       (all_at m.memory (λ j. object.Static j) 0 k m.places.objects k (omega arith) (omega (arith, stands.places.objects.count, there))
-          stands.places.objects.stand)
+      stands.places.objects.stand)
   object_points (slot.Auto block decl) there =
       let code = there.0 in
       let x = auto_name world f (turn_of f.blocks block) decl in
@@ -298,7 +298,7 @@ module _ (world : World) (m : Machine) (f : Scene) (firsts : List ℕ) (stands :
   quiet_opened (shape.Str k) ty line ts n q named =
       let p = placed (object.Lit k) m.places.literals k
       (all_at m.memory (λ j. object.Lit j) 0 k m.places.literals k (omega arith) (omega (arith, stands.places.literals.count, named))
-          stands.places.literals.stand) in
+      stands.places.literals.stand) in
       (pointer_into (object.Lit k) 0 p.0, ap (option_map (pointer_into (object.Lit k) 0)) p.1, pointer_of m (object.Lit k) 0 p.0 p.2, sym p.3)
   quiet_opened (shape.Member offset) ty line ts n q named =
       points_give m (open_node firsts (shape.Member offset) ty (map (resolved firsts) ts) n) _

@@ -50,7 +50,7 @@ map_next g (y ∷ xs) x = ap (λ ys. g y ∷ ys) (map_next g xs x)
 
 pub jumps_more : (old new : Jumps) (found : Vec Found Global) (bs : List (Option (Bor Statement))) (b : Option (Bor Statement)) →
     Older old.links.items new.links.items → length old.links.items ≤ length new.links.items → new.labels.items ≡ old.labels.items ++ found ∷ [] →
-        AreLabels new.links.items found.items b →
+    AreLabels new.links.items found.items b →
     HaveLabels old.links.items bs (labels_of old) → HaveLabels new.links.items (bs ++ b ∷ []) (labels_of new)
 jumps_more old new found bs b older longer labels are has =
     subst (λ (fs : List (List Found)). HaveLabels new.links.items (bs ++ b ∷ []) fs)

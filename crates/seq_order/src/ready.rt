@@ -56,7 +56,7 @@ fn first_hindrance(
 ) -> Result<u32, Place>
     ensures { nodes_of (tree_of root.now) < 2 ^ 32 → k + nodes_of (tree_of tree.now) < 2 ^ 32
         → result ≡ walked (k + nodes_of (tree_of tree.now))
-            (first_place (hinders (tree_of root.now) (taken_in taken.now) (done_in done.now) p) (events_if evaluated (taken_in taken.now) k (tree_of tree.now))) }
+        (first_place (hinders (tree_of root.now) (taken_in taken.now) (done_in done.now) p) (events_if evaluated (taken_in taken.now) k (tree_of tree.now))) }
 {
     if !evaluated {
         return Ok(k.saturating_add(size(tree)));

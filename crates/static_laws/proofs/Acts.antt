@@ -259,14 +259,14 @@ module _ (rows : List Row) where
   -- behind the question which object it is
   asked_found : (site : Option Site) (len align a : ℕ) (Q : Accessed → Type 0)
       → (x : ObjName) → ((life : Option Life) → in_row (row_of rows x) a len ≡ true →
-          Q (record { object = x; from = offset_in (row_of rows x) a; life = life }))
+      Q (record { object = x; from = offset_in (row_of rows x) a; life = life }))
       → Post NoAccess Q (asked_at len align a x)
   asked_found site len align a Q x f = (
     tt,
     λ life. need NoAccess Q (is_live life) DeadObject (bounded_at len align a x life)
         (λ h. need NoAccess Q (in_row (row_of rows x) a len) OutOfBounds (aligned_at align a x life)
         (λ g. need NoAccess Q (is_aligned align a) InvalidPointer (Give (record { object = x; from = offset_in (row_of rows x) a; life = life }))
-            (λ k. f life g))),
+        (λ k. f life g))),
   )
 
   object_quiet : (len a : ℕ) (p : Prov) → Quiet (object_of rows len a p)
@@ -370,14 +370,14 @@ module _ (rows : List Row) where
         (got (bytes_of_kind k) (bytes_of_kind k) (int_tail k) (int_tail_quiet k)) (λ u. tt)
     load_within who access.Pointer ty =
         go_on (InReach rows (Some (reach writes site (Some 8)))) Anything (load_ptr rows ty who 8 p.address p.prov) (λ q. Give (Ptr q.0 q.1))
-            (got 8 8 (ptr_tail ty who) (ptr_tail_quiet ty who))
+        (got 8 8 (ptr_tail ty who) (ptr_tail_quiet ty who))
         (λ u. tt)
     load_within who access.Function ty =
         go_on (InReach rows (Some (reach writes site (Some 8)))) Anything (load_func rows ty p.address p.prov) (λ n. Give (Fun n))
-            (got 8 8 (func_tail ty) (func_tail_quiet ty)) (λ u. tt)
+        (got 8 8 (func_tail ty) (func_tail_quiet ty)) (λ u. tt)
     load_within who (access.Whole size align) ty =
         go_on (InReach rows (Some (reach writes site (Some size)))) Anything (load_block rows size align p.address p.prov)
-            (λ ds. Give (values.Whole ds (Some p.address)))
+        (λ ds. Give (values.Whole ds (Some p.address)))
         (got size align (λ at ds. Give (retagged (declared_of at.life) at.from ds)) (λ at ds. tt)) (λ u. tt)
 
     update_within : (who : Event) (c : Change) (old : Bool) (ty : CType) (n : ℤ)
@@ -461,18 +461,18 @@ module _ (rows : List Row) where
       → (sized ≡ true → StoredFits how v) → Within (Some (reach true site (store_limit sized how))) (put rows first how ty p v)
   put_within site sized first (access.Integer k) ty p v h f =
       go_on (InReach rows (Some (reach true site (Some (bytes_of_kind k))))) Anything
-          (store rows first (scalar (int k)) (bytes_of_kind k) p.address p.prov (int_bytes k (integer_of v))) (λ u. Give Nothing)
+      (store rows first (scalar (int k)) (bytes_of_kind k) p.address p.prov (int_bytes k (integer_of v))) (λ u. Give Nothing)
       (store_points site first (scalar (int k)) (bytes_of_kind k) p (int_bytes k (integer_of v)) (Some (bytes_of_kind k)) h
       (no_more (bytes_of_kind k) _ (number_length (bytes_of_kind k) (low_bits (integer_of v))))) (λ u. tt)
   put_within site sized first access.Pointer ty p v h f =
       go_on (InReach rows (Some (reach true site (Some 8)))) Anything
-          (store rows first (scalar ty) 8 p.address p.prov (pointer_bytes 8 0 (pointer_of v).prov (pointer_of v).address))
+      (store rows first (scalar ty) 8 p.address p.prov (pointer_bytes 8 0 (pointer_of v).prov (pointer_of v).address))
       (λ u. Give Nothing)
       (store_points site first (scalar ty) 8 p (pointer_bytes 8 0 (pointer_of v).prov (pointer_of v).address) (Some 8) h
       (no_more 8 _ (pointer_length 8 0 (pointer_of v).prov (pointer_of v).address))) (λ u. tt)
   put_within site sized first access.Function ty p v h f =
       go_on (InReach rows (Some (reach true site (Some 8)))) Anything (store rows first (scalar ty) 8 p.address p.prov (number_bytes 8 (function_in v)))
-          (λ u. Give Nothing)
+      (λ u. Give Nothing)
       (store_points site first (scalar ty) 8 p (number_bytes 8 (function_in v)) (Some 8) h (no_more 8 _ (number_length 8 (function_in v)))) (λ u. tt)
   put_within site sized first (access.Whole size align) ty p v h f = whole_within site sized first size align p v h f
 

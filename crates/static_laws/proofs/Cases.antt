@@ -554,7 +554,7 @@ module _ (world : World) (f : Scene) (b : Begun) (root : Typed) (is : b.root ≡
           let at = node_there root n ∙ ap seen q in
           let same : expr_of t ≡ expr h ty line (more a es) = (let k : Some (expr_of t) ≡ Some (expr h ty line (more a es)) = sym at ∙ et in cc) in
           let hs = heads (head_in (node_in t) (own_type t)) h (own_type t) ty (out-Typed t).line line (exprs_of (operands_in t)) (more a es)
-              (sym (expr_at t) ∙ same) in
+          (sym (expr_at t) ∙ same) in
           let fit = (all_small root n t few q).0 in
           fact_by n t (node_in t) (operands_in t) h ty line a es (omega (arith, fit, few)) e same refl hs.0 hs.1
           (subst (λ o. is_some (spared_where o n u v) ≡ true) q s)

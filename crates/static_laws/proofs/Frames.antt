@@ -149,8 +149,12 @@ module _ (world : World) where
   control_moves f (Enter k ds ∷ rest) n = record { path = refl; turn = omega arith; fresh = λ b h. absurd (not_none f n b h) }
   control_moves f (Leave k ds ∷ rest) n = record { path = refl; turn = omega arith; fresh = λ b h. absurd (not_none f n b h) }
   control_moves f (Begin e what ∷ rest) n =
-      record { path = refl; turn = omega arith; fresh = λ b h.
-          (omega arith, λ u. (let k : record { root = e; given = λ u. None; what = what } ≡ b = cc in ap (λ z. z.given u) (sym k))) }
+      record {
+        path = refl;
+        turn = omega arith;
+        fresh = λ b h.
+            (omega arith, λ u. (let k : record { root = e; given = λ u. None; what = what } ≡ b = cc in ap (λ z. z.given u) (sym k)));
+      }
   control_moves f (Go_to k ∷ rest) n = record { path = refl; turn = omega arith; fresh = λ b h. absurd (not_none f n b h) }
   control_moves f (Go_out ∷ rest) n = record { path = refl; turn = omega arith; fresh = λ b h. absurd (not_none f n b h) }
   control_moves f (Go_on ∷ rest) n = record { path = refl; turn = omega arith; fresh = λ b h. absurd (not_none f n b h) }

@@ -116,14 +116,14 @@ module _ (sized : Bool) (world : World) (knows : Knows world sized) (rows : AreR
   no_objects h =
       either (λ x y. other_objects x y ≡ true)
       (λ z w pair x y ix iy ez ew k. objects_differ world rows f race.falls.0 race.falls.1 p function sized b root usual.count usual.low z w pair x y ix iy ez
-          ew k)
+      ew k)
       h.two h.holds
 
   no_bytes : AccessesBy (other_bytes sized) p function root u v → ⊥
   no_bytes h =
       either (λ x y. other_bytes sized root x y ≡ true)
       (λ z w pair x y ix iy ez ew k. bytes_differ world rows f race.falls.0 race.falls.1 p function sized b root usual.count usual.low z w pair x y ix iy ez ew
-          k)
+      k)
       h.two h.holds
 
   no_sequenced : AccessesBy sequenced p function root u v → ⊥

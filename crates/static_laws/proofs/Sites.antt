@@ -290,7 +290,7 @@ module _ (world : World) where
         subst (λ z. Gives s (member world.rows offset z)) (sym k)
         (need (λ i. Unit {0}) (λ w. w ≡ at s) _ InvalidPointer (shifted world.rows (pointer_at world.rows t) (pos offset))
         (λ g. subst (λ z. Gives z (shifted world.rows (pointer_at world.rows t) (pos offset))) l.0
-            (moves t (t.0, t.1 + offset) (pos offset) (omega arith) refl)))
+        (moves t (t.0, t.1 + offset) (pos offset) (omega arith) refl)))
 
     further : (b o n : ℕ) (d : ℤ) → pos o +ℤ d ≡ pos n → unsigned_abs (pos (b + o) +ℤ d) ≡ b + n
     further b o n d h = (let k : pos (b + o) +ℤ d ≡ pos (b + n) = omega (arith, ints, h) in ap unsigned_abs k)

@@ -30,7 +30,7 @@ members_by : (tags : List Tag) (known : Option Extent) (t : Tag) (members : List
     → known ≡ below.extent_of_tag (below.extents tags) (Some t) → (known ≡ None → t.members ≡ []) → is_some known ≡ has_members (Some (tag_seen t))
 members_by tags known t [] e is filled =
     none_false known (is ∙ ap (λ ms. below.if_any ms (below.and_then (below.members_extent t.kind (below.extents tags) (Some below.no_members) t.members)
-        below.padded)) e)
+    below.padded)) e)
     ∙ sym (ap (λ ms. has_members (Some (record { kind = t.kind; members = map member_seen ms }))) e)
 members_by tags known t (m ∷ ms) e is filled =
     some_by known m ms t.members (sym e) filled
@@ -113,7 +113,7 @@ may_by kind number tags members d e =
     ap (λ b. not (has_members (slice_get (map tag_seen tags) number))
     && (is_complete (completed (map tag_seen tags) number (map member_seen members)) (tagged kind number) && b)) e
     ∙ ap (λ b. not (has_members (slice_get (map tag_seen tags) number)) && b)
-        (and_true (is_complete (completed (map tag_seen tags) number (map member_seen members)) (tagged kind number)))
+    (and_true (is_complete (completed (map tag_seen tags) number (map member_seen members)) (tagged kind number)))
     ∙ ap (λ b. not (has_members (slice_get (map tag_seen tags) number)) && b)
     (ap (λ ts. is_complete ts (tagged kind number)) (completed_seen tags number members) ∙ complete_tagged (below.completed tags number members) kind number)
   where

@@ -120,7 +120,7 @@ clash_is t tags before m symbols others named brings apart kind number behind en
     (plain (tagged kind number), record env { tags = now })
     (λ none whole.
     let kept : Keeps tags now = keeps_both tags env.tags now keeps
-        (completed_keeps env.tags number ms (not_true (has_members (slice_get env.tags number)) none)) in
+    (completed_keeps env.tags number ms (not_true (has_members (slice_get env.tags number)) none)) in
     not_distinct t (symbols ++ others) (all_brought f before ++ brought_by f m) (all_brought f behind) (names now number)
     (symbols_more t symbols others (all_brought f before) (brought_by f m) (named now kept) (brings now kept)) apart
     (names_completed env.tags number ms (sym (complete_number now kind number) ∙ whole)

@@ -146,7 +146,7 @@ objects_kept n s now us number same here others has = (
 -- an object is used
 pub objects_used : (n : Naming) → IsOneToOne n → (s now : State) (us : List Use) (number : ℕ) (count : Option ℕ) → now.functions ≡ s.functions
     → ((t : Target) (vs : List Use) → IsUsedObject t vs (row_in s number) →
-        IsUsedObject t (vs ++ record { target = t; count = count } ∷ []) (row_in now number))
+    IsUsedObject t (vs ++ record { target = t; count = count } ∷ []) (row_in now number))
     → ((m : ℕ) → m ≢ number → row_in now m ≡ row_in s m) → HasUses n s us
     → HasUses n now (us ++ record { target = target.Static (n number); count = count } ∷ [])
 objects_used n one s now us number count same used others has =

@@ -34,8 +34,13 @@ impl Model for Scopes {
     ghost coded = { Prim.hlevel (codes, meaning.the_row.coded) };
 
     ghost view = { λ s.
-        record { ordinary = s.ordinary; tags = s.tags; depth = s.depth;
-            kept_ordinary = reverse (map declared_of s.kept_ordinary.items); kept_tags = reverse (map declared_of s.kept_tags.items) } };
+        record {
+          ordinary = s.ordinary;
+          tags = s.tags;
+          depth = s.depth;
+          kept_ordinary = reverse (map declared_of s.kept_ordinary.items);
+          kept_tags = reverse (map declared_of s.kept_tags.items);
+        } };
 
     ghost invariant = { λ s. AreNested 0 s.depth s.ordinary × AreNested 0 s.depth s.tags };
 }

@@ -180,7 +180,7 @@ module _ (size : Sizes) (world : World) where
     through_fits d es all who None e ts = tt
     through_fits d es all who (Some ty) e ts =
         by_fits d es all who ty (function_is (target (first_type es)) ty e) (is_function (target (first_type es)) ty e) ts (later_values all)
-            (called_by world all) refl
+        (called_by world all) refl
 
     pub call_fits : (who : Event) (h : Head) (es : Exprs) (vs : List Value) → Gives world.rows (IsCalled h es vs) (call_act world who h es vs)
     call_fits who (Call d) es vs = through_fits d es vs who (function_type (target (first_type es))) refl (argument_types es)

@@ -16,4 +16,4 @@ loop-row-preserved c =
     let keeps : breaks c.loop-row.map row ≡ false = search rules in
     let is : c.add.new.self ≡ insert_row row c.loop-row.map = search rules in
     one_more c.loop-row.map c.add.new.self row _ _ _ keeps is (from_row c.args.rows.now c.loop-row.row-index none_there c.loop-row-test.true)
-        c.loop-row.invariant
+    c.loop-row.invariant

@@ -138,7 +138,7 @@ returns-in-Realloc-clause-exact c =
 pub returns-in-Malloc-clause-made : goal.returns-in-Malloc-clause-made
 returns-in-Malloc-clause-made c = λ is call.
     does_made c.allocate.new.m c.allocate.result c.allocate.new.t (store_of c.allocate.new.m c.args.io.now) _
-        (c.allocate.ensures.exact c.args.io.now call.known)
+    (c.allocate.ensures.exact c.args.io.now call.known)
     c.allocate.ensures.made
 
 pub returns-in-Calloc-clause-made : goal.returns-in-Calloc-clause-made

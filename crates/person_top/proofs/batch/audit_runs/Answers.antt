@@ -18,6 +18,6 @@ returns-in-Err-clause-ends g c = inr (record {
   breaks = c.in-Err.ensures.cut;
   ends = break_ends c.in-Err.fault (g.O.Sink.told c.audit_all.new.out) (g.O.Sink.told c.put_break.new.out) (g.O.Sink.faults c.args.out.now)
       (g.O.Sink.faults c.audit_all.new.out) (g.O.Sink.faults c.put_break.new.out) c.put_break.result c.in-Err.ensures.later
-          (λ is. c.in-Err.ensures.failed (ap Err is))
+      (λ is. c.in-Err.ensures.failed (ap Err is))
       c.put_break.ensures;
 })

@@ -20,7 +20,7 @@ returns-clause-exact c = λ can given.
     let m = c.args.machine.now in
     let number : to_z w128 (of_z w128 c.integer-operand.result) ≡ integer_of (given_by m c.args.operand.now) =
     to_z-of_z w128 c.integer-operand.result (search rules) ∙ given_as m c.args.operand.now integer_of c.integer-operand.result c.integer-operand.ensures given
-        in
+    in
     let out : to_z w128 (of_z w128 c.convert-number.result) ≡ c.convert-number.result = to_z-of_z w128 c.convert-number.result (search rules) in
     let is : to_z w128 (of_z w128 c.convert-number.result) ≡ conv c.args.kind (integer_of (given_by m c.args.operand.now)) =
     out ∙ c.convert-number.ensures ∙ ap (λ (z : ℤ). conv c.args.kind z) number in

@@ -7,7 +7,7 @@ pub returns-then-pointers-clause-exact : goal.returns-then-pointers-clause-exact
 returns-then-pointers-clause-exact c = λ can given.
     let m = c.args.machine.now in
     subst (λ (b : Bool). Does m c.pointer_relation.new.machine c.args.event (act.Related c.args.op b c.args.left.now c.args.right.now)
-        c.pointer_relation.result)
+    c.pointer_relation.result)
     (sym c.if-pointers.true) (c.pointer_relation.ensures.exact can given)
 
 pub returns-then-pointers-clause-changes : goal.returns-then-pointers-clause-changes
@@ -20,7 +20,7 @@ pub returns-else-pointers-clause-exact : goal.returns-else-pointers-clause-exact
 returns-else-pointers-clause-exact c = λ can given.
     let m = c.args.machine.now in
     subst (λ (b : Bool). Does m c.integer_relation.new.machine c.args.event (act.Related c.args.op b c.args.left.now c.args.right.now)
-        c.integer_relation.result)
+    c.integer_relation.result)
     (sym c.if-pointers.false) (c.integer_relation.ensures.exact can given)
 
 pub returns-else-pointers-clause-changes : goal.returns-else-pointers-clause-changes

@@ -14,7 +14,7 @@ returns-in-Printf-clause-exact c =
     subst (λ (f : LibFunc). CanCall m f hs → IsAnswered m (record m { memory = c.format.new.m; streams = c.format.new.io; items = c.format.new.t }) f who
     (types_seen c.args.call.now.types) hs c.format.result) (sym c.in-Printf.is)
     (subst (λ (ts : List Qual). CanCall m Printf hs → IsAnswered m (record m { memory = c.format.new.m; streams = c.format.new.io; items = c.format.new.t })
-        Printf who
+    Printf who
     (types_seen ts) hs c.format.result) c.as_slice-types.ensures
     (answers_printf m c.format.new.m c.format.new.io c.format.new.t who hs c.as_slice-types.result.now c.format.result c.format.ensures.exact
     c.format.ensures.kept c.format.ensures.made))
@@ -25,10 +25,10 @@ returns-in-Fprintf-clause-exact c =
     let hs = c.args.arguments.now in
     let who = c.args.event in
     subst (λ (f : LibFunc). CanCall m f hs → IsAnswered m (record m { memory = c.format_to.new.m; streams = c.format_to.new.io; items = c.format_to.new.t }) f
-        who
+    who
     (types_seen c.args.call.now.types) hs c.format_to.result) (sym c.in-Fprintf.is)
     (subst (λ (ts : List Qual). CanCall m Fprintf hs → IsAnswered m
-        (record m { memory = c.format_to.new.m; streams = c.format_to.new.io; items = c.format_to.new.t }) Fprintf who
+    (record m { memory = c.format_to.new.m; streams = c.format_to.new.io; items = c.format_to.new.t }) Fprintf who
     (types_seen ts) hs c.format_to.result) c.as_slice-types.ensures
     (answers_fprintf m c.format_to.new.m c.format_to.new.io c.format_to.new.t who hs c.as_slice-types.result.now c.format_to.result c.format_to.ensures.exact
     c.format_to.ensures.kept c.format_to.ensures.made))
@@ -41,10 +41,10 @@ returns-in-Sprintf-clause-exact c =
     subst (λ (f : LibFunc). CanCall m f hs → IsAnswered m (record m { memory = c.format_into.new.m; streams = m.streams; items = c.format_into.new.t }) f who
     (types_seen c.args.call.now.types) hs c.format_into.result) (sym c.in-Sprintf.is)
     (subst (λ (ts : List Qual). CanCall m Sprintf hs → IsAnswered m
-        (record m { memory = c.format_into.new.m; streams = m.streams; items = c.format_into.new.t }) Sprintf who
+    (record m { memory = c.format_into.new.m; streams = m.streams; items = c.format_into.new.t }) Sprintf who
     (types_seen ts) hs c.format_into.result) c.as_slice-types.ensures
     (answers_sprintf m c.format_into.new.m m.streams c.format_into.new.t who hs c.as_slice-types.result.now c.format_into.result
-        (c.format_into.ensures.exact m.streams)
+    (c.format_into.ensures.exact m.streams)
     c.format_into.ensures.kept c.format_into.ensures.made))
 
 pub returns-in-Snprintf-clause-exact : goal.returns-in-Snprintf-clause-exact
@@ -53,13 +53,13 @@ returns-in-Snprintf-clause-exact c =
     let hs = c.args.arguments.now in
     let who = c.args.event in
     subst (λ (f : LibFunc). CanCall m f hs → IsAnswered m (record m { memory = c.format_within.new.m; streams = m.streams; items = c.format_within.new.t }) f
-        who
+    who
     (types_seen c.args.call.now.types) hs c.format_within.result) (sym c.in-Snprintf.is)
     (subst (λ (ts : List Qual). CanCall m Snprintf hs → IsAnswered m
-        (record m { memory = c.format_within.new.m; streams = m.streams; items = c.format_within.new.t }) Snprintf who
+    (record m { memory = c.format_within.new.m; streams = m.streams; items = c.format_within.new.t }) Snprintf who
     (types_seen ts) hs c.format_within.result) c.as_slice-types.ensures
     (answers_snprintf m c.format_within.new.m m.streams c.format_within.new.t who hs c.as_slice-types.result.now c.format_within.result
-        (c.format_within.ensures.exact m.streams)
+    (c.format_within.ensures.exact m.streams)
     c.format_within.ensures.kept c.format_within.ensures.made))
 
 pub returns-in_default : goal.returns-in_default

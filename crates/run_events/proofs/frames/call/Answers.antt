@@ -23,7 +23,7 @@ returns-in_err-number-clause-calls c =
     c.designated-address.result _ c.in-Some.is
     (c.designated-address.ensures h given m.memory)
     (refused m c.args.call.now.arguments.items c.args.call.now.types c.args.event agree (type_by (signature_of ty.now))
-        (function_of fs 0 c.designated-address.result)
+    (function_of fs 0 c.designated-address.result)
     c.in_err-number.field-0.0 m.memory.rows (store_in m) (c.in_err-number.ensures few fs are agree agrees m.memory.rows (store_in m))))
 
 pub returns-in-Some-library_of-clause-calls : goal.returns-in-Some-library_of-clause-calls
@@ -34,7 +34,7 @@ returns-in-Some-library_of-clause-calls c = λ fs agree h few are agrees given.
     by_type m c.args.call.now.arguments.items c.args.call.now.types c.args.event c.call_library.new.machine c.call_library.result agree c.args.call.now.ty ty fs
     c.designated-address.result _ c.in-Some.is (c.designated-address.ensures h given m.memory)
     (runs_found m c.args.call.now.arguments.items c.args.call.now.types c.args.event c.call_library.new.machine c.call_library.result agree
-        (type_by (signature_of ty.now))
+    (type_by (signature_of ty.now))
     (function_of fs 0 c.designated-address.result) n m.memory.rows (store_in m) (c.in_ok-number.ensures few fs are agree agrees m.memory.rows (store_in m))
     (λ f found. runs_by m c.args.call.now.arguments.items c.args.call.now.types c.args.event c.call_library.new.machine c.call_library.result n
     (Some c.in-Some-library_of.library) f.library
@@ -46,13 +46,13 @@ returns-in-None-clause-calls c = λ fs agree h few are agrees given.
     let ty = c.in-Some.ty in
     let n = c.in_ok-number.number in
     by_type m c.args.call.now.arguments.items c.args.call.now.types c.args.event c.start_function.new.machine c.start_function.result agree c.args.call.now.ty
-        ty fs
+    ty fs
     c.designated-address.result _ c.in-Some.is (c.designated-address.ensures h given m.memory)
     (runs_found m c.args.call.now.arguments.items c.args.call.now.types c.args.event c.start_function.new.machine c.start_function.result agree
-        (type_by (signature_of ty.now))
+    (type_by (signature_of ty.now))
     (function_of fs 0 c.designated-address.result) n m.memory.rows (store_in m) (c.in_ok-number.ensures few fs are agree agrees m.memory.rows (store_in m))
     (λ f found. runs_by m c.args.call.now.arguments.items c.args.call.now.types c.args.event c.start_function.new.machine c.start_function.result n None
-        f.library
+    f.library
     (c.in-None.ensures ∙ library_is m.program.now.functions fs c.designated-address.result n f are found) c.start_function.ensures.opens))
 
 pub returns-in-None-clause-streams : goal.returns-in-None-clause-streams

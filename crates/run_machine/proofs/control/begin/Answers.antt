@@ -14,7 +14,7 @@ pub returns-clause-keeps : goal.returns-clause-keeps
 returns-clause-keeps c = λ closed.
     begins_so c.args.machine.now c.grow.new.self c.show_begun.new.machine c.choose_at_once.new.machine c.saturating_add-machine.result c.args.number
     c.saturating_add-size.result c.args.how _ _ closed c.in-Some.ensures.found.0 c.in-Some.ensures.own c.in-Some.ensures.found.1
-        c.saturating_add-machine.ensures
+    c.saturating_add-machine.ensures
     c.in_ok-grow.ensures.rest c.saturating_add-size.ensures c.in_ok-grow.ensures.count c.grow.ensures.fewest c.in_ok-show_begun.ensures.shown
     c.in_ok-choose_at_once.ensures.chosen
 

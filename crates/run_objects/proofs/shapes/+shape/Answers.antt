@@ -62,7 +62,7 @@ place_member-single_shape-requires t c =
     c.as_slice.ensures c.in-Some-get.ensures.lookup.0 c.in-Some-get.ensures.lookup.1 in (
       subst (λ (n : ℕ). 2 * weight_with (weight_by c.args.current.depth c.args.tags.now) (type_of c.single_of-ty.result.now) + 2 < n) c.decreases
           (falls c.args.tags.now c.args.current c.in-Some.content.now c.in-Some-get.member.now c.in-Some.ensures there (type_of c.single_of-ty.result.now)
-              c.single_of-ty.ensures),
+          c.single_of-ty.ensures),
       tt,
     )
 

@@ -89,6 +89,6 @@ returns-in_err-create_argument-2-clause-unplaced c = λ e sound few.
     let p = err_from_is_err_and c.from_residual-in_err-create_argument-2.result c.from_residual-in_err-create_argument-2.ensures.1 in
     let fault = ap Err (fault_of _ p.0 _ p.1 p.2 e) in
     some_argument c.args.m.now c.loop-arg.m c.create_argument-in-loop-arg.new.m c.args.args.now c.loop-arg.arg-index (length c.loop-arg.all) c.arg-item.result
-        c.as_bytes.result.now
+    c.as_bytes.result.now
     inv.count c.loop-arg-test.true c.arg-item.is c.as_bytes.ensures.value (inv.created sound few) (c.in_err-create_argument-2.ensures.same fault)
     (c.in_err-create_argument-2.ensures.unplaced fault (omega (arith, few, inv.count, c.loop-arg-test.true)))

@@ -53,7 +53,7 @@ returns-in_err-addr-clause-unplaced c = λ e sound none few.
     let p = err_from_is_err_and c.from_residual.result c.from_residual.ensures.1 in
     let fault = ap Err (fault_of _ p.0 _ p.1 p.2 e) in
     some_literal c.args.m.now c.loop-literal.m c.create_text.new.m c.as_slice-literal-items.result.now c.args.p.now.literals c.loop-literal.literal-index
-        c.count_of.result _
+    c.count_of.result _
     c.literal-item.result (number ∙ are.count) c.as_slice-literal-items.ensures c.loop-literal-test.true c.literal-item.is c.len.ensures
     (c.loop-literal.invariant.created sound none (omega (arith, few, ap length c.as_slice-literal-items.ensures)))
     (c.in_err-addr.ensures.same fault) (c.in_err-addr.ensures.unplaced fault)

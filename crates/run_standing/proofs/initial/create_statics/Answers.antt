@@ -53,7 +53,7 @@ returns-in_err-addr-clause-unplaced c = λ e sound none few.
     let p = err_from_is_err_and c.from_residual.result c.from_residual.ensures.1 in
     let fault = ap Err (fault_of _ p.0 _ p.1 p.2 e) in
     some_static c.args.m.now c.loop-object.m c.create_static.new.m c.args.p.now.tags c.as_slice-object-items.result.now c.args.p.now.statics
-        c.loop-object.object-index c.count_of.result
+    c.loop-object.object-index c.count_of.result
     c.object-item.result (number ∙ are.count) c.as_slice-object-items.ensures c.loop-object-test.true c.object-item.is
     (c.loop-object.invariant.created sound none (omega (arith, few, ap length c.as_slice-object-items.ensures)))
     (c.in_err-addr.ensures.same fault) (c.in_err-addr.ensures.unplaced fault)

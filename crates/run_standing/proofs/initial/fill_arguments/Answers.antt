@@ -26,7 +26,7 @@ loop-argument-preserved c =
           lives_then c.args.m.now c.loop-argument.m c.fill_text.new.m (inv.live above words are wait)
           (argument_room c.args.m.now c.loop-argument.m words c.args.arguments.now c.loop-argument.argument-index c.argument-item.result c.as_slice.result.now
           inv.keeps (inv.live above words are wait) above are c.loop-argument-test.true c.argument-item.is c.as_slice.ensures wait
-              c.in_ok-fill_text.ensures.room);
+          c.in_ok-fill_text.ensures.room);
     }
 
 pub returns-clause-exact : goal.returns-clause-exact

@@ -38,7 +38,7 @@ loop-argument-preserved c =
           (pointer_room c.args.m.now c.loop-argument.m c.args.vector words c.args.arguments.now c.loop-argument.argument-index c.loop-argument.at
           c.argument-item.result c.value.result _ sound (inv.keeps sound made) made c.loop-argument-test.true c.argument-item.is inv.offset
           (c.value.ensures c.loop-argument.m) c.in_ok-bytes.ensures.bytes (inv.live sound made stands above words are few waits) inv.alike stands above are
-              waits c.in_ok-put.ensures.room);
+          waits c.in_ok-put.ensures.room);
     }
 
 pub returns-in_err-put-clause-kept : goal.returns-in_err-put-clause-kept
@@ -69,7 +69,7 @@ returns-in_err-put-clause-room c = λ sound made stands above words are few wait
     (pointer_room c.args.m.now c.loop-argument.m c.args.vector words c.args.arguments.now c.loop-argument.argument-index c.loop-argument.at
     c.argument-item.result c.value.result _ sound (inv.keeps sound made) made c.loop-argument-test.true c.argument-item.is inv.offset
     (c.value.ensures c.loop-argument.m) c.in_ok-bytes.ensures.bytes (inv.live sound made stands above words are few waits) inv.alike stands above are waits
-        c.in_err-put.ensures.room)
+    c.in_err-put.ensures.room)
 
 pub returns-clause-room : goal.returns-clause-room
 returns-clause-room c = λ sound made stands above words are few waits.

@@ -75,7 +75,7 @@ pub statement-returns-in-None-clause-statement : goal.statement-returns-in-None-
 statement-returns-in-None-clause-statement t c =
     at_if_only c.full.new.numbers c.boxed.new.numbers c.args.body.now c.in-If.test c.get.result.now c.in-If.no c.in_ok-test-in-If.test c.in_ok-yes-in-If.yes
     (c.in-If.is ∙ ap (λ y. body.If c.in-If.test y c.in-If.no) (sym c.get.ensures)) c.in-None.is c.in_ok-yes-in-If.ensures.grows
-        c.in_ok-test-in-If.ensures.number
+    c.in_ok-test-in-If.ensures.number
     c.in_ok-yes-in-If.ensures.statement
 
 pub statement-returns-in_ok-boxed-in-Some-clause-statement : goal.statement-returns-in_ok-boxed-in-Some-clause-statement

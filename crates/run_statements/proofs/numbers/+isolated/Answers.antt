@@ -14,7 +14,7 @@ loop-operand-init t c = elim c.match-root.branch [
     subst (Grows c.args.numbers.now) (sym w.numbers-is) (
       λ n x at. w.in_ok-isolated.ensures.grows.0 n x
           (subst (λ z. slice_get z n ≡ Some x) (sym w.in_ok-push.ensures.items)
-              (slice_get-front c.args.numbers.now.roots.items (w.get-tree.result ∷ []) n x at)),
+          (slice_get-front c.args.numbers.now.roots.items (w.get-tree.result ∷ []) n x at)),
       λ n x at. w.in_ok-isolated.ensures.grows.1 n x at,
     ),
     start_isolated c.args.root.now w.get-tree.result.now w.in-Isolated.tree c.as_slice-operand-items.result.now c.args.numbers.now.roots.items

@@ -40,7 +40,7 @@ returns-clause-ok c n env =
     (member_added n c.args.source.now c.args.state.now env c.in-Some.name q c.args.list.members c.add_name.new.self.members c.add.new.self.members
     (record { name = c.in_ok-name.name; qual = c.args.member.qual }) (sym c.is_complete_qual.ensures ∙ c.if-not-is_complete_qual.false)
     (ap (λ (l : MemberList). l.members) c.add_name.ensures.rest) c.in_ok-add.ensures.ok
-        (λ i. record { name = (c.in_ok-name.ensures ∙ c.spelling.ensures) i; qual = q }))
+    (λ i. record { name = (c.in_ok-name.ensures ∙ c.spelling.ensures) i; qual = q }))
 
 pub returns-then-not-is_complete_qual-clause-twice : goal.returns-then-not-is_complete_qual-clause-twice
 returns-then-not-is_complete_qual-clause-twice c other n env at is text has some =

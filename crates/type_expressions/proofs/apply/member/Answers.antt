@@ -30,7 +30,7 @@ returns-else-arrow c n =
     let x = c.args.a in
     told n (told_for c.args.line MemberOfValue MemberOfValue) c.member_of_value-made.result c.placed_for-else-arrow.result
     (member_by false (layouts s.tags) (expression_of x) c.spelling-name.result.now c.args.line) _ refl c.member_of_value-made.ensures
-        c.placed_for-else-arrow.ensures
+    c.placed_for-else-arrow.ensures
     (ap (λ b. member_by b (layouts_in s) (operand_seen n x) (text_at c.args.source.now c.args.name) c.args.line) c.if-arrow.false
     ∙ ap (λ tags. member_by false tags (operand_seen n x) (text_at c.args.source.now c.args.name) c.args.line) (layouts_same s.tags)
     ∙ ap (λ t. member_by false (layouts s.tags) (operand_seen n x) t c.args.line) (sym c.spelling-name.ensures)

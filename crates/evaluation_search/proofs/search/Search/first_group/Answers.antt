@@ -38,7 +38,7 @@ loop-group-preserved c =
           (c.loop-group.group - 1) c.loop-group.best c.nearer-best.result c.nearer-best.ensures) (c.loop-group.invariant.some sorted);
       first = λ sorted. group_step c.args.self.now.under.map.now c.args.segments.now c.args.self.now.log.events.now c.args.self.now.log.items.now c.args.sought
           c.args.at (c.loop-group.group - 1) c.loop-group.group (holds c.in_ok-foot.foot) (holds c.loop-group.rest) c.loop-group.best c.nearer-best.result e le
-              own
+          own
           (c.loop-group.invariant.rest sorted) c.nearer-best.ensures (c.loop-group.invariant.first sorted);
     }
 

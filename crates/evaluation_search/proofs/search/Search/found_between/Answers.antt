@@ -11,8 +11,8 @@ returns-in-Some-clause-first c = λ sorted rising once.
     (IsOfPair c.args.self.now.under.frames.now c.args.self.now.under.map.now c.args.self.now.place c.args.self.now.log.events.now c.args.self.now.log.items.now
     (AreBetween c.args.segments.now c.args.self.now.log.events.now c.args.at)) c.in-Some.race
     (subst (λ (o : Option Found). IsFirstOf c.args.self.now.under.frames.now
-        (IsSoughtPair Races c.args.self.now.under.frames.now c.args.self.now.under.map.now c.args.self.now.place c.args.self.now.log.events.now
-        c.args.self.now.log.items.now
+    (IsSoughtPair Races c.args.self.now.under.frames.now c.args.self.now.under.map.now c.args.self.now.place c.args.self.now.log.events.now
+    c.args.self.now.log.items.now
     (AreBetween c.args.segments.now c.args.self.now.log.events.now c.args.at)) o) c.in-Some.is
     (c.in_ok-race.ensures.first sorted rising once))
 
@@ -20,19 +20,19 @@ pub returns-in-None-clause-first : goal.returns-in-None-clause-first
 returns-in-None-clause-first c = λ sorted rising once.
     ok_weaker
     (IsFirstOf c.args.self.now.under.frames.now (IsSoughtPair Any c.args.self.now.under.frames.now c.args.self.now.under.map.now c.args.self.now.place
-        c.args.self.now.log.events.now c.args.self.now.log.items.now
+    c.args.self.now.log.events.now c.args.self.now.log.items.now
     (AreBetween c.args.segments.now c.args.self.now.log.events.now c.args.at)))
     (IsFirstOf c.args.self.now.under.frames.now (IsOfPair c.args.self.now.under.frames.now c.args.self.now.under.map.now c.args.self.now.place
-        c.args.self.now.log.events.now c.args.self.now.log.items.now
+    c.args.self.now.log.events.now c.args.self.now.log.items.now
     (AreBetween c.args.segments.now c.args.self.now.log.events.now c.args.at)))
     c.least_between-in-None.result
     (λ o. races_none c.args.self.now.under.frames.now c.args.self.now.under.map.now c.args.self.now.place c.args.self.now.log.events.now
-        c.args.self.now.log.items.now
+    c.args.self.now.log.items.now
     (IsOfPair c.args.self.now.under.frames.now c.args.self.now.under.map.now c.args.self.now.place c.args.self.now.log.events.now c.args.self.now.log.items.now
     (AreBetween c.args.segments.now c.args.self.now.log.events.now c.args.at)) o
     (subst (λ (o : Option Found). IsFirstOf c.args.self.now.under.frames.now
-        (IsSoughtPair Races c.args.self.now.under.frames.now c.args.self.now.under.map.now c.args.self.now.place c.args.self.now.log.events.now
-        c.args.self.now.log.items.now
+    (IsSoughtPair Races c.args.self.now.under.frames.now c.args.self.now.under.map.now c.args.self.now.place c.args.self.now.log.events.now
+    c.args.self.now.log.items.now
     (AreBetween c.args.segments.now c.args.self.now.log.events.now c.args.at)) o) c.in-None.is
     (c.in_ok-race.ensures.first sorted rising once)))
     (c.least_between-in-None.ensures.first sorted rising once)

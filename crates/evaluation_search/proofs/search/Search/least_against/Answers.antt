@@ -37,19 +37,19 @@ returns-clause-none c = λ sought. if_none_by c.least_of_two.result _ (λ e.
 pub returns-in_default-clause-first : goal.returns-in_default-clause-first
 returns-in_default-clause-first c =
     against_none c.args.self.now.under.frames.now c.args.self.now.under.map.now c.args.self.now.place c.args.self.now.log.events.now
-        c.args.self.now.log.items.now c.args.sought c.args.event
+    c.args.self.now.log.items.now c.args.sought c.args.event
     c.args.range.0 c.args.range.1 c.in_ok-foot.foot (λ j. c.in_ok-foot.ensures j)
     (subst (λ (o : Option ℕ). LeastOther c.args.self.now.under.frames.now c.args.self.now.under.map.now c.args.self.now.place c.args.self.now.log.events.now
-        c.args.self.now.log.items.now
+    c.args.self.now.log.items.now
     c.args.sought c.args.event c.args.range.0 c.args.range.1 c.in_ok-foot.foot (λ j. c.in_ok-foot.ensures j) o) c.in_default.is c.in_ok-other.ensures.first)
 
 pub returns-clause-first : goal.returns-clause-first
 returns-clause-first c =
     against_some c.args.self.now.under.frames.now c.args.self.now.under.map.now c.args.self.now.place c.args.self.now.log.events.now
-        c.args.self.now.log.items.now c.args.sought c.args.event
+    c.args.self.now.log.items.now c.args.sought c.args.event
     c.args.range.0 c.args.range.1 c.in_ok-foot.foot (λ j. c.in_ok-foot.ensures j) c.in-Some.other c.in_ok-other_foot.other_foot c.least_of_two.result
     (λ j. c.in_ok-other_foot.ensures j)
     (subst (λ (o : Option ℕ). LeastOther c.args.self.now.under.frames.now c.args.self.now.under.map.now c.args.self.now.place c.args.self.now.log.events.now
-        c.args.self.now.log.items.now
+    c.args.self.now.log.items.now
     c.args.sought c.args.event c.args.range.0 c.args.range.1 c.in_ok-foot.foot (λ j. c.in_ok-foot.ensures j) o) c.in-Some.is c.in_ok-other.ensures.first)
     (c.least_of_two.ensures.first (λ j. c.in_ok-foot.ensures j) (λ j. c.in_ok-other_foot.ensures j)) c.least_of_two.ensures.none

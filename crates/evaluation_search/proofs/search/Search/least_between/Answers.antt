@@ -31,7 +31,7 @@ returns-in-None-clause-none c = λ sorted. at_none _ c.in_ok-group.field-0 c.in-
 pub returns-in-None-clause-first : goal.returns-in-None-clause-first
 returns-in-None-clause-first c = λ sorted rising once.
     between_clean c.args.self.now.under.frames.now c.args.self.now.under.map.now c.args.self.now.place c.args.self.now.log.events.now
-        c.args.self.now.log.items.now
+    c.args.self.now.log.items.now
     c.args.segments.now c.args.sought c.args.at sorted rising
     (at_none _ c.in_ok-group.field-0 c.in-None.is (c.in_ok-group.ensures.none sorted))
 
@@ -47,17 +47,17 @@ returns-in-Some-clause-first c = λ sorted rising once.
     c.in_ok-group.field-0 c.in-Some.group c.in-Some.is (c.in_ok-group.ensures.some sorted) in
     ok_both
     (IsFirstOf c.args.self.now.under.frames.now (IsSoughtPair c.args.sought c.args.self.now.under.frames.now c.args.self.now.under.map.now c.args.self.now.place
-        c.args.self.now.log.events.now c.args.self.now.log.items.now
+    c.args.self.now.log.events.now c.args.self.now.log.items.now
     (AreFrom c.args.segments.now c.args.self.now.log.events.now c.in-Some.group)))
     (λ r. IfNone r (NoClash c.args.sought c.args.self.now.under.map.now
     (operand_has c.args.sought c.args.segments.now c.args.self.now.log.events.now c.args.self.now.log.items.now c.in-Some.group)
     (behind_has c.args.sought c.args.segments.now c.args.self.now.log.events.now c.args.self.now.log.items.now c.in-Some.group)))
     (IsFirstOf c.args.self.now.under.frames.now (IsSoughtPair c.args.sought c.args.self.now.under.frames.now c.args.self.now.under.map.now c.args.self.now.place
-        c.args.self.now.log.events.now c.args.self.now.log.items.now
+    c.args.self.now.log.events.now c.args.self.now.log.items.now
     (AreBetween c.args.segments.now c.args.self.now.log.events.now c.args.at)))
     c.least_from.result
     (λ r own none. between_first c.args.self.now.under.frames.now c.args.self.now.under.map.now c.args.self.now.place c.args.self.now.log.events.now
-        c.args.self.now.log.items.now
+    c.args.self.now.log.items.now
     c.args.segments.now c.args.sought c.args.at sorted rising
     c.in-Some.group r first.0 first.1 clash own none)
     (c.least_from.ensures.first (once_from c.args.segments.now c.args.self.now.log.events.now c.args.at c.in-Some.group sorted first.0 once))

@@ -54,7 +54,7 @@ returns-clause-first c = λ once.
     c.args.segments.now c.args.sought c.args.group c.segment_start.result c.segment_end.result c.segment_start.ensures c.segment_end.ensures
     (holds c.in_ok-rest.rest) (λ j. c.in_ok-rest.ensures j)
     (subst (λ (o : Option ℕ). LeastOwn c.args.self.now.under.frames.now c.args.self.now.under.map.now c.args.self.now.place c.args.self.now.log.events.now
-        c.args.self.now.log.items.now
+    c.args.self.now.log.items.now
     c.args.segments.now c.args.sought c.args.group c.segment_start.result c.segment_end.result c.segment_start.ensures c.segment_end.ensures
     (holds c.in_ok-rest.rest) (λ j. c.in_ok-rest.ensures j) o)
     c.in-None.is c.in_ok-event.ensures.first)
@@ -67,23 +67,23 @@ returns-in-Some-clause-first c = λ once.
     c.in-Some.event c.in-Some.is c.in_ok-event.ensures.some in
     ok_both
     (IsFirstOf c.args.self.now.under.frames.now (IsSoughtPair c.args.sought c.args.self.now.under.frames.now c.args.self.now.under.map.now c.args.self.now.place
-        c.args.self.now.log.events.now c.args.self.now.log.items.now
+    c.args.self.now.log.events.now c.args.self.now.log.items.now
     (λ a b. (a ≡ c.in-Some.event) × (c.segment_end.result ≤ b) × (b < length c.args.self.now.log.events.now))))
     (λ r. IfNone r (NoClash c.args.sought c.args.self.now.under.map.now (event_has c.args.self.now.log.items.now
     (slice_get c.args.self.now.log.events.now c.in-Some.event))
     (range_has c.args.self.now.log.events.now c.args.self.now.log.items.now c.args.sought c.segment_end.result
     (length c.args.self.now.log.events.now - c.segment_end.result))))
     (IsFirstOf c.args.self.now.under.frames.now (IsSoughtPair c.args.sought c.args.self.now.under.frames.now c.args.self.now.under.map.now c.args.self.now.place
-        c.args.self.now.log.events.now c.args.self.now.log.items.now
+    c.args.self.now.log.events.now c.args.self.now.log.items.now
     (AreFrom c.args.segments.now c.args.self.now.log.events.now c.args.group)))
     c.least_against.result
     (λ r first none. from_some c.args.self.now.under.frames.now c.args.self.now.under.map.now c.args.self.now.place c.args.self.now.log.events.now
-        c.args.self.now.log.items.now
+    c.args.self.now.log.items.now
     c.args.segments.now c.args.sought c.args.group c.segment_start.result c.segment_end.result c.segment_start.ensures c.segment_end.ensures
     (holds c.in_ok-rest.rest) (λ j. c.in_ok-rest.ensures j)
     once c.in-Some.event r
     (subst (λ (o : Option ℕ). LeastOwn c.args.self.now.under.frames.now c.args.self.now.under.map.now c.args.self.now.place c.args.self.now.log.events.now
-        c.args.self.now.log.items.now
+    c.args.self.now.log.items.now
     c.args.segments.now c.args.sought c.args.group c.segment_start.result c.segment_end.result c.segment_start.ensures c.segment_end.ensures
     (holds c.in_ok-rest.rest) (λ j. c.in_ok-rest.ensures j) o)
     c.in-Some.is c.in_ok-event.ensures.first) first none)

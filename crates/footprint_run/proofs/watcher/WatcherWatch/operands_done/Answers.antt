@@ -8,6 +8,6 @@ pub invariant_of-self : goal.invariant_of-self
 invariant_of-self c =
     let w = c.args.self.now in
     let after = seen_after (HasStopped (Some w.calls)) (trees_at w.roots.now) w.seen c.operands_done.new.seen c.operands_done.result
-        c.operands_done.ensures.sees c.operands_done.ensures.unseen
+    c.operands_done.ensures.sees c.operands_done.ensures.unseen
     w.stopped w.apart in
     record { stopped = after.0; apart = after.1 }

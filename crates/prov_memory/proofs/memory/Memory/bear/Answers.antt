@@ -41,7 +41,7 @@ returns-in_err-add_last-clause-kept c =
     let origins = c.in_err-add_last.ensures.taken c.self-2.inside.origins c.args.name c.in_ok-origin.ensures.ok in
     failed_kept _ c.args.self.now (record c.base_for.new.self { created = 2 ^ 62 }) _
     ((λ i. record (the_view c.self-2.inside) { objects = c.in_err-add_last.ensures.err i; origins = origins i; created = 2 ^ 62 }) ∙ full)
-        c.in_ok-base.ensures.kept
+    c.in_ok-base.ensures.kept
 
 pub returns-in_err-origin-clause-failed : goal.returns-in_err-origin-clause-failed
 returns-in_err-origin-clause-failed c =

@@ -45,7 +45,7 @@ returns-clause-value c =
     pointer_value c.args.self.now c.access.new.self c.resolved.new.self c.settle.new.self c.in_ok-found.found
     (named_in c.access.new.self.origins c.pointer_seen-seen.result.1)
     c.in_ok-target.target c.access.ensures.same c.in_ok-found.ensures.found c.pointer_seen-seen.ensures.pointer c.in_ok-target.ensures.value
-        c.settle.ensures.rest
+    c.settle.ensures.rest
     c.settle.ensures.cells
 
 pub returns-clause-made : goal.returns-clause-made

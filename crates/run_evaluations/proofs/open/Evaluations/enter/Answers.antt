@@ -24,5 +24,5 @@ pub returns-clause-follows : goal.returns-clause-follows
 returns-clause-follows c = λ os f.
     let a = c.args.self.now in
     follow_entered a (record a { levels = c.push.new.self }) _ refl refl refl refl c.in_ok-push.ensures.items (c.len-3.ensures ∙ a.segments.ok.0)
-        (c.len.ensures ∙ a.events.ok.0)
+    (c.len.ensures ∙ a.events.ok.0)
     c.args.frame os refl refl (returns-clause-kept c f.holds.kept) (returns-clause-loose c f.holds.loose) f

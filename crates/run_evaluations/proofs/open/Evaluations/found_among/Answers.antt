@@ -16,9 +16,9 @@ loop-i-init c = record {
   none = λ small e k less low. absurd (omega (arith, less, low));
   first = λ small. range_none c.args.under.frames.now (λ i. IsOfPair c.args.under.frames.now c.args.under.map.now
       (expression_in (slice_get c.args.self.now.levels.items (length c.args.self.now.levels.items - 1))) c.args.self.now.events.items
-          c.args.self.now.items.items
+      c.args.self.now.items.items
       (IsListedAt (taken_in c.args.order.taken.now) (tree_of c.args.order.root.now) c.args.self.now.events.items c.args.self.now.loose.items c.args.event i))
-          c.args.loose;
+      c.args.loose;
 }
 
 pub loop-i-preserved : goal.loop-i-preserved
@@ -30,9 +30,9 @@ loop-i-preserved c = record {
       c.args.loose c.loop-i.i c.first_of-best.ensures.first (c.loop-i.invariant.none small) (c.in_ok-found.ensures.none small);
   first = λ small. first_rise c.args.under.frames.now (λ i. IsOfPair c.args.under.frames.now c.args.under.map.now
       (expression_in (slice_get c.args.self.now.levels.items (length c.args.self.now.levels.items - 1))) c.args.self.now.events.items
-          c.args.self.now.items.items
+      c.args.self.now.items.items
       (IsListedAt (taken_in c.args.order.taken.now) (tree_of c.args.order.root.now) c.args.self.now.events.items c.args.self.now.loose.items c.args.event i))
-          c.args.loose c.loop-i.i c.loop-i.best c.in_ok-found.found
+      c.args.loose c.loop-i.i c.loop-i.best c.in_ok-found.found
       c.first_of-best.result c.first_of-best.ensures.first c.loop-i.auto.i (c.loop-i.invariant.first small) (c.in_ok-found.ensures.first small);
 }
 
@@ -42,7 +42,7 @@ returns-clause-none c = λ small. if_none_by c.loop-i.best _ (λ e.
     (expression_in (slice_get c.args.self.now.levels.items (length c.args.self.now.levels.items - 1))) c.args.self.now.events.items c.args.self.now.items.items
     (taken_in c.args.order.taken.now) (tree_of c.args.order.root.now) c.args.self.now.loose.items
     c.args.event c.args.loose c.loop-i.i (omega (arith, c.loop-i-test.false, c.args.self.now.loose.ok.0, c.len-i-end.ensures))
-        (c.loop-i.invariant.none small e))
+    (c.loop-i.invariant.none small e))
 
 pub returns-clause-first : goal.returns-clause-first
 returns-clause-first c = λ small.

@@ -16,9 +16,9 @@ loop-at-init c = record {
   none = λ small kept e k less low. absurd (omega (arith, less, low));
   first = λ small kept. range_none c.args.under.frames.now (λ k. IsOfPair c.args.under.frames.now c.args.under.map.now
       (expression_in (slice_get c.args.self.now.levels.items (length c.args.self.now.levels.items - 1))) c.args.self.now.events.items
-          c.args.self.now.items.items
+      c.args.self.now.items.items
       (AreListedWith (taken_in c.args.order.taken.now) (tree_of c.args.order.root.now) c.args.self.now.events.items c.args.self.now.loose.items k c.args.loose))
-          c.args.own;
+      c.args.own;
 }
 
 pub loop-at-preserved : goal.loop-at-preserved
@@ -30,9 +30,9 @@ loop-at-preserved c = record {
       c.first_of-best.ensures.first (c.loop-at.invariant.none small kept) (c.in_ok-found.ensures.none small kept);
   first = λ small kept. first_rise c.args.under.frames.now (λ k. IsOfPair c.args.under.frames.now c.args.under.map.now
       (expression_in (slice_get c.args.self.now.levels.items (length c.args.self.now.levels.items - 1))) c.args.self.now.events.items
-          c.args.self.now.items.items
+      c.args.self.now.items.items
       (AreListedWith (taken_in c.args.order.taken.now) (tree_of c.args.order.root.now) c.args.self.now.events.items c.args.self.now.loose.items k c.args.loose))
-          c.args.own c.loop-at.at c.loop-at.best c.in_ok-found.found
+      c.args.own c.loop-at.at c.loop-at.best c.in_ok-found.found
       c.first_of-best.result c.first_of-best.ensures.first c.loop-at.auto.at (c.loop-at.invariant.first small kept) (c.in_ok-found.ensures.first small kept);
 }
 

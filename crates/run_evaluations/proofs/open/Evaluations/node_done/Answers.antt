@@ -40,7 +40,7 @@ returns-clause-apart c = λ t ts f own alone o.
     if_none_by c.in_ok-found.found (NoneOfNode c.args.map.now t c.args.node) (λ e.
     none_below c.args.self.now t ts c.args.node f own alone (taken_in c.args.order.taken.now) (tree_of c.args.order.root.now) o c.own_events-own.result
     c.loose_start-loose.result c.loose_start-loose.ensures c.own_events-own.ensures.low c.own_events-own.ensures.least c.own_events-own.ensures.own
-        c.args.map.now
+    c.args.map.now
     (clean_moved c.args.map.now a.events.items b.events.items a.items.items b.items.items a.loose.items b.loose.items g.rest.events g.rest.items g.loose
     (taken_in c.args.order.taken.now) (tree_of c.args.order.root.now) c.own_events-own.result c.loose_start-loose.result
     (none_at _ c.in_ok-found.found e (c.in_ok-found.ensures.none o.small (c.gather_loose.ensures.right
@@ -58,21 +58,21 @@ returns-clause-first c = λ t ts f own alone o.
     first_alike c.args.frames.now
     (IsOfPair c.args.frames.now c.args.map.now p a.events.items a.items.items
     (AreListed (taken_in c.args.order.taken.now) (tree_of c.args.order.root.now) a.events.items a.loose.items c.own_events-own.result
-        c.loose_start-loose.result))
+    c.loose_start-loose.result))
     (IsConflictIn c.args.frames.now c.args.map.now t (AreOfNode t c.args.node)) c.in_ok-found.found
     (node_told c.args.self.now t ts c.args.node f own alone (taken_in c.args.order.taken.now) (tree_of c.args.order.root.now) o c.own_events-own.result
     c.loose_start-loose.result c.loose_start-loose.ensures c.own_events-own.ensures.low c.own_events-own.ensures.least c.own_events-own.ensures.own
-        c.args.frames.now c.args.map.now p is)
+    c.args.frames.now c.args.map.now p is)
     (node_from c.args.self.now t ts c.args.node f own alone (taken_in c.args.order.taken.now) (tree_of c.args.order.root.now) o c.own_events-own.result
     c.loose_start-loose.result c.loose_start-loose.ensures c.own_events-own.ensures.low c.own_events-own.ensures.least c.own_events-own.ensures.own
-        c.args.frames.now c.args.map.now p is)
+    c.args.frames.now c.args.map.now p is)
     (first_some c.args.frames.now
     (IsOfPair c.args.frames.now c.args.map.now p a.events.items a.items.items
     (AreListed (taken_in c.args.order.taken.now) (tree_of c.args.order.root.now) a.events.items a.loose.items c.own_events-own.result
-        c.loose_start-loose.result))
+    c.loose_start-loose.result))
     c.in_ok-found.found
     (node_moved c.args.frames.now c.args.map.now a.events.items b.events.items a.items.items b.items.items a.loose.items b.loose.items a.levels.items
-        b.levels.items
+    b.levels.items
     g.rest.events g.rest.items g.loose g.rest.levels (taken_in c.args.order.taken.now) (tree_of c.args.order.root.now) c.own_events-own.result
     c.loose_start-loose.result c.in_ok-found.found (c.in_ok-found.ensures.first o.small (c.gather_loose.ensures.right
     (subst (λ (n : ℕ). LooseKept c.args.self.now.segments.items c.args.self.now.events.items c.args.self.now.items.items c.args.self.now.loose.items n)

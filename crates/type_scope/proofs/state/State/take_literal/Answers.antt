@@ -12,5 +12,5 @@ pub returns-clause-literals : goal.returns-clause-literals
 returns-clause-literals c le =
     c.forget_literals.ensures.literals
     ∙ removed_before (λ (l : Literal). l.bytes) ((c.args.self.now).literals).items c.remove-taken.new.self.items c.args.mark.literals c.args.number le
-        c.requires
+    c.requires
     c.remove-taken.ensures.items
