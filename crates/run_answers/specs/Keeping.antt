@@ -76,8 +76,8 @@ abbrev pub first_stage : ℕ → Expression → Stage
 first_stage number laid =
     record { expression = number; first = laid.first; cursor = laid.first; end = laid.end; straight = true; value = laid.value }
 
--- A full expression of the function whose objects the top frame sees began in it, where none was open (6.8p4). There are rooms for its values. It is shown above
--- those of the frames below (`BelowIsShown`), with just the operands chosen that are chosen at once.
+-- A full expression of the function whose objects the top frame sees began in it, where none was open (6.8p4). There are rooms for its
+-- values. It is shown above those of the frames below (`BelowIsShown`), with just the operands chosen that are chosen at once.
 pub record BeginsExpression (old new : Machine) : Type 0 where
   pub keeps : KeepsFrames old new
   pub closed : old.top.stage ≡ None

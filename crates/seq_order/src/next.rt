@@ -111,7 +111,8 @@ fn first_beside_bodies(
 ) -> Result<u32, Place>
     ensures { nodes_of (tree_of root.now) < 2 ^ 32 → k + nodes_of (tree_of tree.now) < 2 ^ 32
         → result ≡ walked (k + nodes_of (tree_of tree.now))
-        (first_place (is_free_beside (tree_of root.now) (taken_in taken.now) (done_in done.now)) (events_if evaluated (taken_in taken.now) k (tree_of tree.now))) }
+        (first_place (is_free_beside (tree_of root.now) (taken_in taken.now) (done_in done.now))
+        (events_if evaluated (taken_in taken.now) k (tree_of tree.now))) }
 {
     if !evaluated {
         return Ok(k.saturating_add(size(tree)));

@@ -114,7 +114,16 @@ impl Types {
     // Whether just these stand among them, each as often, and neither `void` nor `_Bool`.
     fn is(self, character: u8, short: u8, int: u8, long: u8, signed: u8, unsigned: u8) -> bool
         ensures { result
-            ≡ are_same self (record { void = 0; boolean = 0; character = character; short = short; int = int; long = long; signed = signed; unsigned = unsigned }) }
+            ≡ are_same self (record {
+              void = 0;
+              boolean = 0;
+              character = character;
+              short = short;
+              int = int;
+              long = long;
+              signed = signed;
+              unsigned = unsigned;
+            }) }
     {
         self.is_same(Types {
             void: 0,
