@@ -187,6 +187,11 @@ size_none d inside x env is e =
     ap (λ y. derivations y env) is ∙ size_step inside x env
     ∙ ap (λ (q : Option (List Derivation × Env)). and_then q (λ ds. constant x >>= λ m. pure (array_of (Some m) ∷ ds))) e
 
+pub any_none : (d inside : Declarator) (o : Option Expr) (env : Env) → d ≡ declarator.Array inside o → derivations inside env ≡ None
+    → derivations d env ≡ None
+any_none d inside None env is e = array_none d inside env is e
+any_none d inside (Some x) env is e = size_none d inside x env is e
+
 pub count_none : (t : TokenText) (mid new : State) (d inside : Declarator) (x : Expr) (first held_before : List held.Derivation) (name : Option ℕ)
     (e : TypeFault) → d ≡ declarator.Array inside (Some x) → ReadsAs (λ _ (k : ℤ). k) t mid new (λ _. constant x) (Err e) → e ≢ NoMemory
     → (n : Namings) (off : Bool) (before : Past) (env : Env)

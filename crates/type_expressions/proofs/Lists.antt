@@ -1,6 +1,6 @@
 -- Lists of operands, as the definition reads them: each behind those before it (6.5.2.2, 6.5.17).
 use Rattle.std.proofs.Common.{◌≡◌, ◌∙◌, refl, sym, ap, subst, ℕ, ◌+◌, ◌<◌, ◌≤◌, Bool, List, [], ◌∷◌, ◌++◌, map, length, get_or, drop}
-use Rattle.std.proofs.Common.{append_assoc, append-nil}
+use Rattle.std.proofs.Common.{append_assoc, append-nil, Vec, Global}
 use Rattle.std.specs.Prelude.{Option, Some, None, Ok, Err}
 use Rattle.std.proofs.Math.ListN.{drop_of_length-le}
 use Rattle.std.proofs.Math.Path.{fun_ext}
@@ -38,6 +38,10 @@ row_plain t [] h = tt
 row_plain t (e ∷ es) h = (h.0, row_plain t es h.1)
 
 -- 2. After the first of them.
+
+-- operands, as they are seen
+abbrev pub operands_view : Namings → Vec Operand Global → List Expression
+operands_view n v = map (operand_seen n) v.items
 
 -- behind these
 abbrev pub behind : List Expression → Option (List Expression × Env) → Option (List Expression × Env)

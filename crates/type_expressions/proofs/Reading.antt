@@ -195,6 +195,11 @@ pub size_inside : (t : TokenText) (d inside : Declarator) (x : Expr) → d ≡ d
     → IsPlainDeclarator t inside × (IsPlain t x.node × Small x)
 size_inside t d inside x is h = inner_size t inside x (subst (IsPlainDeclarator t) is h)
 
+pub any_inside : (t : TokenText) (d inside : Declarator) (o : Option Expr) → d ≡ declarator.Array inside o → IsPlainDeclarator t d
+    → IsPlainDeclarator t inside
+any_inside t d inside None is h = array_inside t d inside is h
+any_inside t d inside (Some x) is h = (size_inside t d inside x is h).0
+
 pub function_inside : (t : TokenText) (d inside : Declarator) (ps : List Param) (v : Bool) → d ≡ declarator.Function inside ps v → IsPlainDeclarator t d
     → IsPlainDeclarator t inside × (AllPlainParams t ps × (length ps < 2 ^ 32))
 function_inside t d inside ps v is h = inner_function t inside ps v (subst (IsPlainDeclarator t) is h)
@@ -202,6 +207,9 @@ function_inside t d inside ps v is h = inner_function t inside ps v (subst (IsPl
 -- as the code names its parts
 pub pointer_is : (d inside got : Declarator) (words : List Word) → d ≡ declarator.Pointer words inside → got ≡ inside → d ≡ declarator.Pointer words got
 pointer_is d inside got words is same = is ∙ ap (λ x. declarator.Pointer words x) (sym same)
+
+pub any_is : (d inside got : Declarator) (o : Option Expr) → d ≡ declarator.Array inside o → got ≡ inside → d ≡ declarator.Array got o
+any_is d inside got o is same = is ∙ ap (λ x. declarator.Array x o) (sym same)
 
 pub array_is : (d inside got : Declarator) → d ≡ declarator.Array inside None → got ≡ inside → d ≡ declarator.Array got None
 array_is d inside got is same = is ∙ ap (λ x. declarator.Array x None) (sym same)

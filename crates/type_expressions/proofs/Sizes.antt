@@ -1,9 +1,10 @@
 -- Sizes and alignments, and the operand of `sizeof`, as the definition reads them (6.5.3.4).
-use Rattle.std.proofs.Common.{◌≡◌, ◌∙◌, refl, sym, ap, subst, ℕ, Bool, List, [], ◌++◌, length}
+use Rattle.std.proofs.Common.{◌≡◌, ◌∙◌, refl, sym, ap, subst, ℕ, Bool, List, [], ◌++◌, length, rules}
 use Rattle.std.specs.Prelude.{true, Option, Some, None, Result, Ok, Err}
 use Rattle.c_lex.specs.TokenText.{TokenText}
-use Rattle.c_types.specs.Types.{CType}
+use Rattle.c_types.specs.Types.{CType, type_of, qualified_of}
 use Rattle.c_types.specs.declared.tags.Extent.{Extent}
+use Rattle.c_types.specs.declared.ty.Qual.{Qual, the_lemmas}
 use Rattle.type_operands.specs.Terms.{Expression, Term, term, type_at, expression_of}
 use Rattle.type_operands.specs.declared.operand.Operand.{Operand}
 use Rattle.typing_env.specs.Env.{Env, Typing, and_then, found_in, if_found, ◌>>=◌, pure, unevaluated, without_uses, line_of}
@@ -22,6 +23,10 @@ use Rattle.type_expressions.specs.Tells.{Tells, and_literals, ReadsAs, ReadsMore
 use Rattle.type_expressions.proofs.Following.{then_follows, found_follows, line_told, tags_told}
 use Rattle.type_expressions.proofs.Numbers.{by_number, names_hold}
 use Rattle.type_expressions.proofs.Uses.{Forgets, within, renamed, nothing_more, suspended, resumed}
+
+-- the type without its qualifier
+pub qualified_type : (q : Qual) → (qualified_of q).ty ≡ type_of q.ty
+qualified_type q = search (rules, the_lemmas)
 
 of_extent : (measure : Extent → ℕ) (line : ℕ) (o : Option Extent) (env : Env)
     → and_then (found_in env o) (λ e. pure (unsigned_long line (measure e))) ≡ found_in env (measured_by line measure o)

@@ -1,5 +1,5 @@
 // Expressions, and the declarations inside them: type names, specifiers and declarators (6.5, 6.7.2 to 6.7.7).
-ghost use Rattle.std.specs.Prelude.{◌≡◌, ℕ, ◌<◌, ◌^◌, ◌==◌, Bool, not, ◌&&◌, List, map, length, IfOk, Option, None};
+ghost use Rattle.std.specs.Prelude.{◌≡◌, ℕ, ◌<◌, ◌^◌, ◌==◌, Bool, not, ◌&&◌, List, map, length, IfOk, Option, Some, None};
 ghost use Rattle.c_grammar.specs.Grammar.{name_of};
 ghost use Rattle.c_types.specs.Types.{type_of, qualified_of, params_of};
 ghost use Rattle.type_conversions.specs.Casts as casts;
@@ -16,7 +16,7 @@ ghost use Rattle.type_expressions.specs.Plain.{IsPlainEnumerator, operands_of};
 ghost use Rattle.type_expressions.specs.Seen.{Namings, operand_seen};
 ghost use Rattle.type_expressions.specs.Tells.{Tells, Past, ReadsAs, ReadsMore, line_by, read_then};
 ghost use Rattle.type_expressions.specs.TypeNames.{type_by, type_before, parameter_in, parameters_of, value_in, enumerators_of, enumeration_with};
-ghost use Rattle.type_expressions.specs.TypeNames.{AllPlainOption, FollowsSo, IsSpecified, IsParameter, AreParts};
+ghost use Rattle.type_expressions.specs.TypeNames.{FollowsSo, IsSpecified, IsParameter, AreParts};
 
 use crate::apply;
 use c_ast::{
@@ -324,8 +324,8 @@ pub fn type_name(
     if !are_qualified(&words) {
         return Err(source.fault(at, Reason::TypeName));
     }
-    let Declared { name: _, qual } = declared(source, state, &name.declarator, base, at)?;
-    Ok(qual)
+    let found = declared(source, state, &name.declarator, base, at)?;
+    Ok(found.qual)
 }
 
 // Whether they are qualifiers and type specifiers alone (6.7.7).
@@ -382,62 +382,60 @@ fn type_before(
             union,
             tag,
             members,
-        } => {
-            let ty = tagged(source, state, *union, *tag, members, at, alone)?;
-            Ok(declarator::unqualified(ty))
-        }
-        Base::Enumerated { tag, enumerators } => {
-            let listed = enumeration(source, state, *tag, enumerators, at)?;
-            Ok(declarator::unqualified(listed))
-        }
+        } => match members {
+            None => {
+                let kind = tag::kind_of(*union);
+                let ty = tag::reference(source, state, kind, *tag, at, alone)?;
+                Ok(declarator::unqualified(ty))
+            }
+            Some(entries) => {
+                let ty = tagged(source, state, *union, *tag, entries.as_slice(), at)?;
+                Ok(declarator::unqualified(ty))
+            }
+        },
+        Base::Enumerated { tag, enumerators } => match enumerators {
+            None => {
+                let ty = tag::enumeration(source, state, *tag, at)?;
+                Ok(declarator::unqualified(ty))
+            }
+            Some(list) => {
+                let ty = enumeration(source, state, *tag, list.as_slice())?;
+                Ok(declarator::unqualified(ty))
+            }
+        },
     }
 }
 
-// A structure, or a union where `union` is true: one that is named, or one with its member list (6.7.2.1, 6.7.2.3).
+// A structure, or a union where `union` is true, with its member list (6.7.2.1).
 #[cycle(expression)]
 fn tagged(
     source: &Source<'_>,
     state: &mut State,
     union: bool,
     tag: Option<u32>,
-    members: &Option<Items<MemberEntry>>,
+    entries: &[MemberEntry],
     at: u32,
-    alone: bool,
-) -> Result<Ty, TypeFault>
-    ensures { members.now ≡ None → ReadsAs (λ _ ty. spec_words.plain (type_of ty)) source.now state.old state.new
-        (λ _. spec_words.reference alone (spec_words.kind_of_tag union) tag) result }
-{
+) -> Result<Ty, TypeFault> {
     let kind = tag::kind_of(union);
-    match members {
-        None => tag::reference(source, state, kind, tag, at, alone),
-        Some(entries) => {
-            let number = tag::open(source, state, kind, tag)?;
-            let list = structure(source, state, entries.as_slice(), at)?;
-            tag::close(source, state, kind, number, list, at)
-        }
-    }
+    let number = tag::open(source, state, kind, tag)?;
+    let list = structure(source, state, entries, at)?;
+    tag::close(source, state, kind, number, list, at)
 }
 
-// An enumeration: one that is named, or one with its list (6.7.2.2, 6.7.2.3).
+// An enumeration with its list (6.7.2.2).
 #[cycle(expression)]
 fn enumeration(
     source: &Source<'_>,
     state: &mut State,
     tag: Option<u32>,
-    enumerators: &Option<Items<Enumerator>>,
-    at: u32,
+    list: &[Enumerator],
 ) -> Result<Ty, TypeFault>
-    ensures { AllPlainOption source.now enumerators.now → ReadsAs (λ _ ty. spec_words.plain (type_of ty)) source.now state.old state.new
-        (λ _. enumeration_with tag enumerators.now) result }
+    ensures { AllPlainEnumerators source.now list.now → ReadsAs (λ _ ty. spec_words.plain (type_of ty)) source.now state.old state.new
+        (λ _. enumeration_with tag (Some list.now)) result }
 {
-    match enumerators {
-        None => tag::enumeration(source, state, tag, at),
-        Some(list) => {
-            let number = tag::open_enumeration(source, state, tag)?;
-            enumerated(source, state, list.as_slice())?;
-            Ok(tag::close_enumeration(state, number))
-        }
-    }
+    let number = tag::open_enumeration(source, state, tag)?;
+    enumerated(source, state, list)?;
+    Ok(tag::close_enumeration(state, number))
 }
 
 // The members of a structure or union (6.7.2.1).
@@ -571,16 +569,24 @@ fn derivations(
             parts.push(declarator::pointer_part(source, words.as_slice(), at)?)?;
             Ok(name)
         }
-        Declarator::Array(d, None) => {
+        Declarator::Array(d, size) => {
             let name = derivations(source, state, d.get(), at, parts)?;
-            parts.push(Derivation::Array(None))?;
-            Ok(name)
-        }
-        Declarator::Array(d, Some(count)) => {
-            let name = derivations(source, state, d.get(), at, parts)?;
-            let number = constant(source, state, count.get(), Reason::LeftOutVariableLength)?;
-            parts.push(Derivation::Array(Some(number)))?;
-            Ok(name)
+            match size {
+                None => {
+                    parts.push(Derivation::Array(None))?;
+                    Ok(name)
+                }
+                Some(count) => {
+                    let number = constant(
+                        source,
+                        state,
+                        count.get(),
+                        Reason::LeftOutVariableLength,
+                    )?;
+                    parts.push(Derivation::Array(Some(number)))?;
+                    Ok(name)
+                }
+            }
         }
         Declarator::Function(d, params, variadic) => {
             let name = derivations(source, state, d.get(), at, parts)?;
