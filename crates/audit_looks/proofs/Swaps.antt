@@ -13,7 +13,7 @@ use Rattle.audit_verdict.specs.Answer.{IsRunnable}
 use Rattle.c_typed.specs.declared.program.Program.{Program}
 use Rattle.command.specs.declared.request.AuditRequest.{AuditRequest}
 use Rattle.elaborate.specs.Expressions.{program_trees}
-use Rattle.footprint_run.specs.Apart.{AreApart}
+use Rattle.conflict_detector.specs.Apart.{AreApart}
 use Rattle.person_top.specs.declared.explain.Page.{Page}
 
 -- both orders of a program

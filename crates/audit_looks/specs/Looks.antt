@@ -44,7 +44,7 @@ use Rattle.person_command.specs.declared.person_request.Exploration.TheVariants.
 use Rattle.person_command.specs.declared.person_request.StoryRequest.{StoryRequest}
 use Rattle.command.specs.declared.request.AuditRequest.{AuditRequest}
 use Rattle.elaborate.specs.Expressions.{program_trees}
-use Rattle.footprint_run.specs.Apart.{AreApart}
+use Rattle.conflict_detector.specs.Apart.{AreApart}
 use Rattle.order_swap.specs.Texts.{swapped_text}
 use Rattle.order_swap.specs.Turns.{AllSteps, IsChosen, IsFair, IsTurnOf, MayBeTaken, place_of}
 use Rattle.order_swap.specs.declared.answer.Swapped.{Swapped}

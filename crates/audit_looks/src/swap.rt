@@ -2,7 +2,8 @@
 ghost use Rattle.std.specs.Prelude.{◌≡◌, ◌≤◌, ◌^◌, List, false, None, length, IfOk, IfSome, option_copied};
 ghost use Rattle.audit_batch.specs.Moment.{moment};
 ghost use Rattle.c_typed.specs.Tree.{Tree};
-ghost use Rattle.footprint_run.specs.Apart.{AreApart, StandsApart};
+ghost use Rattle.conflict_detector.specs.Apart.{AreApart};
+ghost use Rattle.footprint_run.specs.Apart.{StandsApart};
 ghost use Rattle.audit_looks.specs.Looks.{AreBothOrders, IsProgramSwap, IsTextSwap, IsSwap, Quiet, SwapTold, swap_status};
 
 use crate::judged::judged_report;

@@ -1,8 +1,7 @@
 // Whether a canonical order has a finding, as the audit of a run finds it.
-ghost use Rattle.std.specs.Prelude.{OnOk};
 
 use c_typed::Typed;
-use footprint_run::{Detector, Go, Seen};
+use conflict_detector::{Detector, Seen};
 use run_machine::{Completed, Pick, View};
 use std::alloc::Global;
 use ub_base::{Event, Item, NoMemory};
@@ -34,21 +33,21 @@ impl<'p> Findings<'p> {
             return Ok(());
         }
         match pick {
-            Pick::Step(_) => self.pick(view, None, items)?,
-            Pick::Starts(event) => self.pick(view, Some(event), items)?,
+            Pick::Step(_) => self.detector.step(view, items)?,
+            Pick::Starts(event) => self.event(view, event, items)?,
             Pick::Event(event, completed, _) => {
-                if self.pick(view, Some(event), items)? == Go::Stop {
-                    return Ok(());
+                self.event(view, event, items)?;
+                if !self.found() {
+                    self.completed(view, event, completed)?;
                 }
-                self.completed(view, event, completed)?
             }
-        };
+        }
         Ok(())
     }
 
-    fn pick(&mut self, view: &View, event: Option<Event>, items: &[Item]) -> Result<Go, NoMemory> {
-        self.detector
-            .pick(self.roots, view, event, items, &mut self.seen)
+    fn event(&mut self, view: &View, event: Event, items: &[Item]) -> Result<(), NoMemory> {
+        self.seen = self.detector.event(self.roots, view, event, items)?;
+        Ok(())
     }
 
     fn completed(
@@ -56,17 +55,22 @@ impl<'p> Findings<'p> {
         view: &View,
         event: Event,
         completed: Completed,
-    ) -> Result<Go, NoMemory> {
-        let seen = &mut self.seen;
+    ) -> Result<(), NoMemory> {
         match completed {
-            Completed::Nothing => Ok(Go::On),
-            Completed::Node => self.detector.node_done(self.roots, view, event.node, seen),
+            Completed::Nothing => Ok(()),
+            Completed::Node => self.node_done(view, event.node),
             Completed::Operands(above) => {
-                match self.detector.node_done(self.roots, view, event.node, seen)? {
-                    Go::Stop => Ok(Go::Stop),
-                    Go::On => self.detector.operands_done(self.roots, view, above, seen),
+                self.node_done(view, event.node)?;
+                if !self.found() {
+                    self.seen = self.detector.operands_done(self.roots, view, above)?;
                 }
+                Ok(())
             }
         }
+    }
+
+    fn node_done(&mut self, view: &View, node: u32) -> Result<(), NoMemory> {
+        self.seen = self.detector.node_done(self.roots, view, node)?;
+        Ok(())
     }
 }

@@ -1,12 +1,12 @@
 -- What a watch answers, and what it has seen where a run ended.
-use Rattle.std.specs.Prelude.{◌≡◌, List, Option, Some, None, IsSome}
+use Rattle.std.specs.Prelude.{◌≡◌, List, Option, IsSome}
 use Rattle.c_typed.specs.Tree.{Tree}
 use Rattle.core_run.specs.declared.watch.Go.{Go}
 use Rattle.core_run.specs.declared.watch.Go.TheVariants.{On, Stop}
 use Rattle.core_run.specs.declared.watch.Ran.{Ran}
 use Rattle.core_run.specs.declared.watch.Ran.TheVariants as ran
-use Rattle.footprint_run.specs.Apart.{SeenApart}
-use Rattle.footprint_run.specs.declared.seen.Seen.{Seen}
+use Rattle.conflict_detector.specs.Apart.{SeenApart}
+use Rattle.conflict_detector.specs.declared.seen.Seen.{Seen}
 
 -- a call goes on where it has seen nothing more, and stops where it has seen a conflict whose two evaluations stand apart
 abbrev pub Sees : List Tree → Option Seen → Option Seen → Go → Type 0

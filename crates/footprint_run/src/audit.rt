@@ -4,15 +4,16 @@ ghost use Rattle.core_run.specs.Calls.{AnswersEnd, StartedBy, picks_in};
 ghost use Rattle.core_run.specs.Ends as ends;
 ghost use Rattle.c_typed.specs.Tree.{Tree};
 ghost use Rattle.elaborate.specs.Expressions.{program_trees};
-ghost use Rattle.footprint_run.specs.Apart.{AreApart, SeenApart, StandsApart};
+ghost use Rattle.conflict_detector.specs.Apart.{AreApart, SeenApart};
+ghost use Rattle.footprint_run.specs.Apart.{StandsApart};
 ghost use Rattle.footprint_run.specs.Findings.{picks_of, IsOutOfSteps, ItemsConflict, IsConflict, Tells};
 ghost use Rattle.footprint_run.specs.Record.{HasSeen};
 
 use crate::finding::{Audit, Finding, Race};
 use crate::progress::{Progress, ToldWatcher};
-use crate::seen::Seen;
 use crate::watcher::Watcher;
 use addr_map::Mode;
+use conflict_detector::Seen;
 use core_ir::CoreProgram;
 use core_run::{Ran, RunState, run};
 use elaborate::roots_of;

@@ -1,0 +1,10 @@
+mod Stands
+mod Pairs
+mod Leaving
+mod Rules
+mod Known
+mod Moved
+mod Sees
+mod Telling
+mod Parts
+mod RunEnds

@@ -1,8 +1,0 @@
-use Rattle.footprint_run.proofs.Stand.{found_at}
-use Rattle.footprint_run.proofs.detector.are_apart_at.Goals as goal
-
-pub returns-in-Some : goal.returns-in-Some
-returns-in-Some c = λ h.
-    let f = c.in-Some.ensures.lookup in
-    found_at c.args.roots.now c.args.number c.in-Some.root.now _ c.args.found.now.race c.args.found.now.event c.args.found.now.against f.3.0 f.1
-    (c.are_apart_in.ensures h)
