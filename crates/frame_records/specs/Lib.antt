@@ -1,0 +1,4 @@
+pub mod Frames
+pub mod Kept
+pub mod Kinds
+pub mod Told
