@@ -38,8 +38,7 @@ pub record HeldRecorded (world : World) (trace : List Entry) (f : Local) (u : Pl
   pub behind : StandsBehind t last
 
 -- a body of its full expression is done, whose frame has ended, but isn't left yet: so what was told of the body isn't closed
-pub record EndedRecorded (world : World) (trace : List Entry) (f : Scene) (e : Begun) (t : Opened) : Type 0 where
-  pub body : Place
+pub record EndedRecorded (world : World) (trace : List Entry) (f : Scene) (e : Begun) (body : Place) (t : Opened) : Type 0 where
   pub kind : body.kind ≡ Body
   pub passed : List Place
   pub ahead : List Place
@@ -67,7 +66,6 @@ pub data AllRecorded (world : World) (st : State) (left : List (Scene × Begun))
       → RestsRecorded world st.top.scene t → HeldAre world st.trace left st.held ts → AllRecorded world st left n (t ∷ ts)
   opens : (n : ℕ) (e : Begun) (t : Opened) (ts : List Opened) → Counts n left → st.top.begun ≡ Some e
       → OpenRecorded world st.trace st.top.scene e t → HeldAre world st.trace left st.held ts → AllRecorded world st left n (t ∷ ts)
-  ended : (n : ℕ) (e : Begun) (gone t : Opened) (ts : List Opened) → Counts n left → st.top.begun ≡ Some e
-      → (here : EndedRecorded world st.trace st.top.scene e t)
-      → RestsRecorded world (record st.top.scene { path = (st.top.scene.turn, here.body.node) ∷ st.top.scene.path }) gone
-      → HeldAre world st.trace left st.held ts → AllRecorded world st left n (gone ∷ t ∷ ts)
+  ended : (n : ℕ) (e : Begun) (u : Place) (gone t : Opened) (ts : List Opened) → Counts n left → st.top.begun ≡ Some e
+      → EndedRecorded world st.trace st.top.scene e u t
+      → gone.frame.0 ≡ world.number ((st.top.scene.turn, u.node) ∷ st.top.scene.path) → HeldAre world st.trace left st.held ts → AllRecorded world st left n (gone ∷ t ∷ ts)

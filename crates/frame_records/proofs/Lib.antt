@@ -1,0 +1,5 @@
+pub mod Ended
+pub mod Held
+pub mod Kinds
+pub mod Passed
+pub mod Steps
