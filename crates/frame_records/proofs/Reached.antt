@@ -19,12 +19,13 @@ use Rattle.finding_laws.specs.LeastPairs.{HasItems}
 use Rattle.run_evaluations.specs.Told.{Evaluation, Opened, given, last_given, has as has_item}
 use Rattle.telling_laws.specs.Standing.{StandsBehind, StandsTold, completed_in, places, with_completed}
 use Rattle.telling_laws.proofs.Splits.{append_one, at_last, given_last, last_split, places_push}
-use Rattle.telling_laws.proofs.Stands.{completes_standing}
+use Rattle.telling_laws.proofs.Stands.{completes_standing, gives_standing}
 use Rattle.detector_laws.specs.Frames.{AreFree, TopStands}
 use Rattle.detector_laws.specs.Records.{Records}
 use Rattle.detector_laws.proofs.Bodies.{body_completes_none}
 use Rattle.ending_laws.proofs.Ending.{same_ends}
 use Rattle.ending_laws.proofs.Recorded.{gives_ending}
+use Rattle.frame_records.specs.Asked.{ReachesOpen, StandsOpen}
 use Rattle.frame_records.specs.Frames.{AllRecorded, EndedRecorded, HeldAre, OpenRecorded, idle, rests, opens, ended}
 use Rattle.frame_records.specs.Kept.{ReachesTop}
 use Rattle.frame_records.specs.Told.{GivesAll}
@@ -41,49 +42,88 @@ first_is t u ts us q = ap first q
     first [] = t
     first (v ∷ vs) = v
 
-module _ (world : World) (trace : List Entry) (f : Scene) (e : Begun) where
-  -- ---- a body is closed as its frame is left
-  module _ (formed : is_formed (tree_of e.root) ≡ true) (u : Place) (t : Opened) (r : EndedRecorded world trace f e u t) (body : Item → Bool)
-      (all : GivesAll trace f (given body t)) where
-    last_now : Evaluation
-    last_now = record r.last { body = body }
+-- ---- a body of which the frame is left
+module _ (world : World) (trace : List Entry) (f : Scene) (e : Begun) (formed : is_formed (tree_of e.root) ≡ true) (u : Place) (t : Opened)
+    (r : EndedRecorded world trace f e u t) (body : Item → Bool) where
+  last_now : Evaluation
+  last_now = record r.last { body = body }
 
-    split : (front : List Evaluation) × (t.done ≡ front ++ (r.last ∷ []))
-    split = last_split t.done r.last r.behind.some r.behind.at
+  split : (front : List Evaluation) × (t.done ≡ front ++ (r.last ∷ []))
+  split = last_split t.done r.last r.behind.some r.behind.at
 
-    given_is : last_given body t.done ≡ split.0 ++ (last_now ∷ [])
-    given_is = ap (last_given body) split.1 ∙ given_last body split.0 r.last
+  given_is : last_given body t.done ≡ split.0 ++ (last_now ∷ [])
+  given_is = ap (last_given body) split.1 ∙ given_last body split.0 r.last
 
-    last_place : r.last.place ≡ u
-    last_place = (same_ends (places split.0) r.passed r.last.place u (sym (ap places split.1 ∙ places_push split.0 r.last) ∙ r.records.places)).1
+  told_places : places split.0 ++ r.last.place ∷ [] ≡ r.passed ++ u ∷ []
+  told_places = sym (ap places split.1 ∙ places_push split.0 r.last) ∙ r.records.places
 
+  last_place : r.last.place ≡ u
+  last_place = (same_ends (places split.0) r.passed r.last.place u told_places).1
+
+  given_places : places (given body t).done ≡ r.passed ++ u ∷ []
+  given_places = ap places given_is ∙ (places_push split.0 last_now ∙ told_places)
+
+  behind : StandsBehind (given body t) last_now
+  behind = (gives_standing t body).1 r.last r.behind
+
+  listed : events (taken_by world f e) 0 (tree_of e.root) ≡ r.passed ++ u ∷ r.ahead
+  listed = sym r.along.listed ∙ append_one r.passed u r.ahead
+
+  -- it completes nothing
+  completes_none : completed_in (given body t) last_now.place.node ≡ Incomplete
+  completes_none =
+      ap (λ (z : Place). completed_in (given body t) z.node) last_place
+      ∙ (ap (λ z. completed_by (given body t).scope.tree (given body t).scope.taken (has z) u.node) given_places
+      ∙ (ap₂ (λ (z : Tree) (c : Taken). completed_by z c (has (r.passed ++ u ∷ [])) u.node) r.records.tree r.records.taken
+      ∙ body_completes_none (tree_of e.root) (taken_by world f e) r.passed r.ahead u formed listed r.kind))
+
+  stands : StandsTold (given body t)
+  stands =
+      subst (λ c. StandsTold (with_completed c (given body t))) completes_none
+      (completes_standing (given body t) last_now (ap is_formed r.records.tree ∙ formed) behind)
+
+  pub left_open : StandsOpen world f e (given body t)
+  left_open = record {
+    passed = r.passed ++ u ∷ [];
+    ahead = r.ahead;
+    along = r.along;
+    frame = r.records.frame;
+    turn = r.records.turn;
+    tree = r.records.tree;
+    taken = r.records.taken;
+    places = given_places;
+    told = stands;
+  }
+
+  -- with all that the trace has of it, it is closed
+  module _ (all : GivesAll trace f (given body t)) where
     at_end : slice_get (given body t).done (length (given body t).done - 1) ≡ Some last_now
     at_end = ap (λ z. slice_get z (length z - 1)) given_is ∙ at_last split.0 last_now
 
     has_all : HasItems (has_item last_now) (items_by trace trace f.path f.turn u)
     has_all = subst (λ z. HasItems (has_item last_now) (items_by trace trace f.path f.turn z)) last_place (all last_now at_end)
 
-    gives : Records world trace f e (r.passed ++ u ∷ []) (r.passed ++ u ∷ []) (given body t) × StandsBehind (given body t) last_now
-    gives = gives_ending world trace f e u r.passed t r.last body r.records r.behind has_all
-
-    -- it completes nothing
-    completes_none : completed_in (given body t) last_now.place.node ≡ Incomplete
-    completes_none =
-        ap (λ (z : Place). completed_in (given body t) z.node) last_place
-        ∙ (ap (λ z. completed_by (given body t).scope.tree (given body t).scope.taken (has z) u.node) gives.0.places
-        ∙ (ap₂ (λ (z : Tree) (c : Taken). completed_by z c (has (r.passed ++ u ∷ [])) u.node) gives.0.tree gives.0.taken
-        ∙ body_completes_none (tree_of e.root) (taken_by world f e) r.passed r.ahead u formed listed r.kind))
-      where
-        listed : events (taken_by world f e) 0 (tree_of e.root) ≡ r.passed ++ u ∷ r.ahead
-        listed = sym r.along.listed ∙ append_one r.passed u r.ahead
-
-    stands : StandsTold (given body t)
-    stands =
-        subst (λ c. StandsTold (with_completed c (given body t))) completes_none
-        (completes_standing (given body t) last_now (ap is_formed gives.0.tree ∙ formed) gives.1)
-
     pub closed : OpenRecorded world trace f e (given body t)
-    closed = record { passed = r.passed ++ u ∷ []; ahead = r.ahead; along = r.along; records = gives.0; told = stands }
+    closed = record {
+      passed = r.passed ++ u ∷ [];
+      ahead = r.ahead;
+      along = r.along;
+      records = (gives_ending world trace f e u r.passed t r.last body r.records r.behind has_all).0;
+      told = stands;
+    }
+
+pub open_as : (world : World) (trace : List Entry) (f : Scene) (e : Begun) (t : Opened) → OpenRecorded world trace f e t → StandsOpen world f e t
+open_as world trace f e t r = record {
+  passed = r.passed;
+  ahead = r.ahead;
+  along = r.along;
+  frame = r.records.frame;
+  turn = r.records.turn;
+  tree = r.records.tree;
+  taken = r.records.taken;
+  places = r.records.places;
+  told = r.told;
+}
 
 -- ---- which frames are left
 -- none, where the top one is that frame
@@ -145,6 +185,27 @@ module _ (world : World) (st : State) (left : List (Scene × Begun)) (e : Begun)
       (closed world st.trace st.top.scene e formed_of u t
       (subst (λ z. EndedRecorded world st.trace st.top.scene z u t) (some_of d e st.top.begun b q) f) one.0
       (subst (GivesAll st.trace st.top.scene) top all), h)
+
+  stands_as : (t u : Opened) → t ≡ u → StandsOpen world st.top.scene e t → StandsOpen world st.top.scene e u
+  stands_as t u is r = subst (StandsOpen world st.top.scene e) is r
+
+  pub reaches_open_so : (n : ℕ) (os fs : List Opened) → 0 < n → (r : IsReached g os fs) → AllRecorded world st left n os →
+      StandsOpen world st.top.scene e r.top
+  reaches_open_so _ _ fs some r (idle os w bare) = absurd (omega (arith, some))
+  reaches_open_so _ _ fs some r (rests n t ts c l b f h) = absurd (none_some st.top.begun b q)
+  reaches_open_so _ _ fs some r (opens n d t ts c b f h) =
+      stands_as t r.top
+      (sym (first_is r.top t r.below ts (sym r.is ∙ none_left g fs (t ∷ ts) t ts refl (named t d f.passed f.passed f.records) r.left)))
+      (open_as world st.trace st.top.scene e t (subst (λ z. OpenRecorded world st.trace st.top.scene z t) (some_of d e st.top.begun b q) f))
+  reaches_open_so _ _ fs some r (ended n d u gone t ts c b f number h) =
+      let one = one_left g fs (gone ∷ t ∷ ts) gone t r.top ts r.below refl (other_frame gone u number)
+      (named t d f.passed (f.passed ++ u ∷ []) f.records) r.is r.name r.left in
+      stands_as (given one.0 t) r.top (sym (first_is r.top (given one.0 t) r.below ts (sym r.is ∙ one.1)))
+      (left_open world st.trace st.top.scene e formed_of u t
+      (subst (λ z. EndedRecorded world st.trace st.top.scene z u t) (some_of d e st.top.begun b q) f) one.0)
+
+pub reaches_open : ReachesOpen
+reaches_open world st left n os fs g e numbers a r some q name reached = reaches_open_so world st left e numbers a q g name n os fs some reached r
 
 pub reaches_top : ReachesTop
 reaches_top world st left n os fs g e numbers a r some q name reached all = reaches world st left e numbers a q g name n os fs some reached all r
