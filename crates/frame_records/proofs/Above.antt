@@ -227,7 +227,7 @@ module _ (taken : Taken) where
               (subst Listed q (subst (λ z. operand_events taken class (taken z) 0 (suc z) ts ≡ passed ++ u ∷ []) (sym same) a)) at below l g
               (ap (goes c (taken p)) (sym (sum_zero j)) ∙ on)
             where
-              abbrev Listed : Tree → Type 0
+              Listed : Tree → Type 0
               Listed (node y ys) = operand_events taken y (taken p) 0 (suc p) ys ≡ passed ++ u ∷ []
           at_root same (x ∷ xs) a b =
               let r = (operands_in taken class (taken k) ts 0 (suc k) v

@@ -198,7 +198,7 @@ module _ (t : Opened) (last : Evaluation) (formed : is_formed t.scope.tree ≡ t
       o : IsOperandIn s p n
       o = operands_parent t last p formed stands is
 
-      abbrev all : List Side
+      all : List Side
       all = sides_from (suc p) o.operands
 
       loud : (q : ℕ) × (d : Side) × (slice_get (behind_side o.index all) q ≡ Some d) × (is_quiet d.tree ≡ false)

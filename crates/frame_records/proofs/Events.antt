@@ -13,6 +13,7 @@ use Rattle.c_model.specs.Program.{tree_of}
 use Rattle.c_model.specs.Runs.{Entry, Running, State, canonical_pick, step}
 use Rattle.c_model.specs.Steps.{Begun, Control, Ev, Local, Pick, Scene, is_done, taken_by, with_given}
 use Rattle.c_model.specs.World.{NumbersFrames, World}
+use Rattle.conflict_detector.specs.Telling.{IsReached}
 use Rattle.elaborate.specs.Formed.{is_formed}
 use Rattle.listing_laws.specs.Along.{StandsAlong}
 use Rattle.run_evaluations.specs.Told.{Evaluation, Opened, chosen_by, entered, evaluation, gathered, told}
@@ -30,7 +31,7 @@ use Rattle.frame_records.specs.Frames.{AllRecorded, Counts, HeldAre, HeldRecorde
 use Rattle.frame_records.specs.Kept.{EventsKeep}
 use Rattle.frame_records.specs.Kinds.{PicksSo}
 use Rattle.frame_records.specs.Kinds as kind
-use Rattle.frame_records.specs.Told.{TellsOf, completed_at, tells, enters, told_with}
+use Rattle.frame_records.specs.Told.{GivesAll, TellsOf, completed_at, tells, enters, told_with}
 use Rattle.frame_records.proofs.Held.{begun_more, held_count, held_stay, some_of}
 use Rattle.frame_records.proofs.Kinds.{longer, picks_are_so}
 use Rattle.frame_records.proofs.Passed.{same_passed}
@@ -87,23 +88,24 @@ with_records world trace f e closed done t Incomplete r = r
 with_records world trace f e closed done t Own_node r = r
 with_records world trace f e closed done t (Operands_of p) r = gathers_recorded world trace f e closed done t p r
 
-pub completed_now : (world : World) (trace : List Entry) (g : Local) (e : Begun) (passed ahead : List Place) (u : Place) (t : Opened) (last : Evaluation) →
-    is_formed (tree_of e.root) ≡ true → StandsAlong world g.scene e None passed ahead → last.place ≡ u → Records world trace g.scene e passed passed t →
-    StandsBehind t last → OpenRecorded world trace g.scene e (with_completed (completed_at world g (Some e) u) t)
-completed_now world trace g e passed ahead u t last formed along at r behind = record {
-  passed = passed;
-  ahead = ahead;
-  along = along;
-  records = with_records world trace g.scene e passed passed t (completed_at world g (Some e) u) r;
-  told = subst (λ c. StandsTold (with_completed c t)) same (completes_standing t last (ap is_formed r.tree ∙ formed) behind);
-}
-  where
-    same : completed_in t last.place.node ≡ completed_at world g (Some e) u
-    same =
-        ap (λ (z : Place). completed_in t z.node) at
-        ∙ (ap (λ z. completed_by t.scope.tree t.scope.taken (has z) u.node) r.places
-        ∙ (ap₂ (λ (z : Tree) (c : Taken). completed_by z c (has passed) u.node) r.tree r.taken
-        ∙ ap (λ d. completed_by (tree_of e.root) (taken_by world g.scene e) d u.node) (sym (done_as world g.scene e passed ahead along))))
+module _ (world : World) (trace : List Entry) (g : Local) (e : Begun) (passed ahead : List Place) (u : Place) (t : Opened)
+    (along : StandsAlong world g.scene e None passed ahead) (r : Records world trace g.scene e passed passed t) where
+  pub completed_same : completed_in t u.node ≡ completed_at world g (Some e) u
+  completed_same =
+      ap (λ z. completed_by t.scope.tree t.scope.taken (has z) u.node) r.places
+      ∙ (ap₂ (λ (z : Tree) (c : Taken). completed_by z c (has passed) u.node) r.tree r.taken
+      ∙ ap (λ d. completed_by (tree_of e.root) (taken_by world g.scene e) d u.node) (sym (done_as world g.scene e passed ahead along)))
+
+  pub completed_now : (last : Evaluation) → is_formed (tree_of e.root) ≡ true → last.place ≡ u → StandsBehind t last →
+      OpenRecorded world trace g.scene e (with_completed (completed_at world g (Some e) u) t)
+  completed_now last formed at behind = record {
+    passed = passed;
+    ahead = ahead;
+    along = along;
+    records = with_records world trace g.scene e passed passed t (completed_at world g (Some e) u) r;
+    told = subst (λ c. StandsTold (with_completed c t)) (ap (λ (z : Place). completed_in t z.node) at ∙ completed_same)
+        (completes_standing t last (ap is_formed r.tree ∙ formed) behind);
+  }
 
 -- ---- all frames
 module _ (world : World) (st after : State) (left : List (Scene × Begun)) (n : ℕ) (os : List Opened) (u : Place) (items : List Item)
@@ -120,48 +122,66 @@ module _ (world : World) (st after : State) (left : List (Scene × Begun)) (n : 
   held_all x ts is h = held_stay world st.trace x left st.top.scene.path st.held ts (under_at x is) clear.free.held h
 
   -- an event that stays in its frame
+  module _ (e : Begun) (x : Entry) (q : st.top.begun ≡ Some e) (took : TakesEvent world st.trace after.trace st.top.scene e u after.top)
+      (newest : after.trace ≡ x ∷ st.trace) (is : IsEntryOf st.top.scene u x) (f : Frame) (fs : List Opened) (reached : IsReached f os fs)
+      (name : f.0 ≡ world.number st.top.scene.path) (all : GivesAll st.trace st.top.scene reached.top) where
+    top_now : OpenRecorded world st.trace st.top.scene e reached.top × HeldAre world st.trace left st.held reached.below
+    top_now = reaches_top world st left n os fs f e numbers clear.free r some q name reached all
+
+    -- it is told of the frame on top, in this scene
+    abbrev pub told_as : Scene → Begun → Opened
+    told_as z d = told_with (taken_by world z d) u items reached.top
+
+    abbrev Told : (later : List Entry) → TakesEvent world st.trace later st.top.scene e u after.top → Type 0
+    Told later t = Records world later st.top.scene (with_given e u t.value) (t.passed ++ u ∷ []) (t.passed ++ u ∷ [])
+        (told_as st.top.scene (with_given e u t.value)) × StandsBehind (told_as st.top.scene (with_given e u t.value)) (evaluation u.node u.kind items)
+
+    pub told_top : Told after.trace took
+    told_top =
+        subst (λ z. (t : TakesEvent world st.trace z st.top.scene e u after.top) → Told z t) (sym newest)
+        (λ t. told_now world st.trace x st.top.scene e u reached.top items is after.top t (fresh_at e q) (has_items x st.trace newest) top_now.0) took
+
+    -- so it is told in the scene behind it
+    module _ (now : Begun) (begins : after.top.begun ≡ Some now) where
+      pub now_is : with_given e u took.value ≡ now
+      now_is = some_of (with_given e u took.value) now after.top.begun took.begun begins
+
+      pub same_told : told_as after.top.scene now ≡ told_as st.top.scene (with_given e u took.value)
+      same_told = ap₂ (λ (z : Scene) (d : Begun). told_as z d) took.scene (sym now_is)
+
+      pub along_now : StandsAlong world after.top.scene now None (took.passed ++ u ∷ []) took.further
+      along_now =
+          subst (λ d. StandsAlong world after.top.scene d None (took.passed ++ u ∷ []) took.further) now_is
+          (subst (λ z. StandsAlong world z (with_given e u took.value) None (took.passed ++ u ∷ []) took.further) (sym took.scene) took.along)
+
+      abbrev At : Scene → Begun → Type 0
+      At z d = Records world after.trace z d (took.passed ++ u ∷ []) (took.passed ++ u ∷ []) (told_as z d)
+
+      pub records_now : At after.top.scene now
+      records_now =
+          subst (λ d. At after.top.scene d) now_is (subst (λ z. At z (with_given e u took.value)) (sym took.scene) told_top.0)
+
+      behind_now : StandsBehind (told_as after.top.scene now) (evaluation u.node u.kind items)
+      behind_now = subst (λ (z : Opened). StandsBehind z (evaluation u.node u.kind items)) (sym same_told) told_top.1
+
+      formed_now : is_formed (tree_of now.root) ≡ true
+      formed_now = ap (λ (d : Begun). is_formed (tree_of d.root)) (sym now_is) ∙ took.before.formed
+
+      pub takes_so : after.held ≡ st.held → AllRecorded world after left n
+          (with_completed (completed_at world after.top (Some now) u) (told_as after.top.scene now) ∷ reached.below)
+      takes_so held =
+          opens n now (with_completed (completed_at world after.top (Some now) u) (told_as after.top.scene now)) reached.below
+          (counted world st left n os some r) begins
+          (completed_now world after.trace after.top now (took.passed ++ u ∷ []) took.further u (told_as after.top.scene now) along_now records_now
+          (evaluation u.node u.kind items) formed_now refl behind_now)
+          (subst (λ z. HeldAre world z left after.held reached.below) (sym newest)
+          (subst (λ z. HeldAre world (x ∷ st.trace) left z reached.below) (sym held) (held_all x reached.below is top_now.1)))
+
   takes_keep : (ps : List Opened) (e : Begun) (x : Entry) → st.top.begun ≡ Some e → (took : TakesEvent world st.trace after.trace st.top.scene e u after.top) →
       after.trace ≡ x ∷ st.trace → IsEntryOf st.top.scene u x → after.held ≡ st.held → TellsOf world st after u items os ps →
       AllRecorded world after left n ps
-  takes_keep _ e x q took newest is held (tells f now os fs reached name all path begins) =
-      opens n now (with_completed (completed_at world after.top (Some now) u) (told_with (taken_by world after.top.scene now) u items reached.top)) reached.below
-      (counted world st left n os some r) begins
-      (subst (λ z. OpenRecorded world z after.top.scene now
-      (with_completed (completed_at world after.top (Some now) u) (told_with (taken_by world after.top.scene now) u items reached.top))) (sym newest) open_now)
-      (subst (λ z. HeldAre world z left after.held reached.below) (sym newest)
-      (subst (λ z. HeldAre world (x ∷ st.trace) left z reached.below) (sym held) (held_all x reached.below is top.1)))
-    where
-      top : OpenRecorded world st.trace st.top.scene e reached.top × HeldAre world st.trace left st.held reached.below
-      top = reaches_top world st left n os fs f e numbers clear.free r some q name reached all
-
-      took_now : TakesEvent world st.trace (x ∷ st.trace) st.top.scene e u after.top
-      took_now = subst (λ z. TakesEvent world st.trace z st.top.scene e u after.top) newest took
-
-      told_so : Records world (x ∷ st.trace) st.top.scene (with_given e u took_now.value) (took_now.passed ++ u ∷ []) (took_now.passed ++ u ∷ [])
-          (told_with (taken_by world st.top.scene (with_given e u took_now.value)) u items reached.top) ×
-          StandsBehind (told_with (taken_by world st.top.scene (with_given e u took_now.value)) u items reached.top) (evaluation u.node u.kind items)
-      told_so = told_now world st.trace x st.top.scene e u reached.top items is after.top took_now (fresh_at e q) (has_items x st.trace newest) top.0
-
-      now_is : with_given e u took_now.value ≡ now
-      now_is = some_of (with_given e u took_now.value) now after.top.begun took_now.begun begins
-
-      abbrev Open : Begun → Type 0
-      Open d = OpenRecorded world (x ∷ st.trace) after.top.scene d
-          (with_completed (completed_at world after.top (Some d) u) (told_with (taken_by world after.top.scene d) u items reached.top))
-
-      abbrev told_as : Scene → Opened
-      told_as z = told_with (taken_by world z (with_given e u took_now.value)) u items reached.top
-
-      open_now : Open now
-      open_now = subst Open now_is (completed_now world (x ∷ st.trace) after.top (with_given e u took_now.value) (took_now.passed ++ u ∷ [])
-          took_now.further u (told_as after.top.scene) (evaluation u.node u.kind items) took_now.before.formed
-          (subst (λ z. StandsAlong world z (with_given e u took_now.value) None (took_now.passed ++ u ∷ []) took_now.further) (sym took_now.scene)
-          took_now.along)
-          refl
-          (subst (λ z. Records world (x ∷ st.trace) z (with_given e u took_now.value) (took_now.passed ++ u ∷ []) (took_now.passed ++ u ∷ []) (told_as z))
-          (sym took_now.scene) told_so.0)
-          (subst (λ z. StandsBehind (told_as z) (evaluation u.node u.kind items)) (sym took_now.scene) told_so.1))
-  takes_keep _ e x q took newest is held (enters f g d os fs reached name all other number begins) =
+  takes_keep _ e x q took newest is held (tells f now fs reached name all path begins) = takes_so e x q took newest is f fs reached name all now begins held
+  takes_keep _ e x q took newest is held (enters f g d fs reached name all other number begins) =
       absurd (other (ap (λ (z : Scene). z.path) took.scene))
 
   -- one that starts a frame
@@ -169,9 +189,9 @@ module _ (world : World) (st after : State) (left : List (Scene × Begun)) (n : 
       StandsFree world st.trace st.top.scene e passed (u ∷ ahead) → after.trace ≡ x ∷ st.trace → IsEntryOf st.top.scene u x → after.top.begun ≡ None →
       after.top.scene.path ≡ (st.top.scene.turn, u.node) ∷ st.top.scene.path → after.held ≡ (st.top, u) ∷ st.held → TellsOf world st after u items os ps →
       AllRecorded world after left n ps
-  starts_keep _ e x passed ahead q s newest is none path held (tells f now os fs reached name all same begins) =
+  starts_keep _ e x passed ahead q s newest is none path held (tells f now fs reached name all same begins) =
       absurd (longer (st.top.scene.turn, u.node) st.top.scene.path (sym same ∙ path))
-  starts_keep _ e x passed ahead q s newest is none path held (enters f g d os fs reached name all other number begins) =
+  starts_keep _ e x passed ahead q s newest is none path held (enters f g d fs reached name all other number begins) =
       rests n (entered g) (now ∷ reached.below) (counted world st left n os some r)
       (let y = ap (λ hs. length (begun_below hs)) held in
       let z = begun_more world st.top.scene st.top.begun e (begun_below st.held) q in
@@ -192,7 +212,7 @@ module _ (world : World) (st after : State) (left : List (Scene × Begun)) (n : 
       same_begun : e ≡ d
       same_begun = some_of e d st.top.begun q begins
 
-      abbrev Held : Begun → Type 0
+      Held : Begun → Type 0
       Held z = HeldRecorded world (x ∷ st.trace) st.top u (told_with (taken_by world st.top.scene z) u items reached.top)
 
       held_here : Held e

@@ -1,5 +1,11 @@
+pub mod Above
+pub mod Answers
+pub mod Asked
+pub mod Audit
 pub mod Ended
+pub mod Events
 pub mod Held
 pub mod Kinds
 pub mod Passed
+pub mod Reached
 pub mod Steps

@@ -15,9 +15,9 @@ data Fronts (xs zs : List Place) : Type 0 where
   shorter : (u : Place) (r : List Place) → xs ≡ zs ++ u ∷ r → Fronts xs zs
 
 behind : (x z : Place) (xs zs : List Place) → x ≡ z → Fronts xs zs → Fronts (x ∷ xs) (z ∷ zs)
-behind x z xs zs q (same h) = same (ap₂ (λ a as. a ∷ as) q h)
-behind x z xs zs q (further u r h) = further u r (ap₂ (λ a as. a ∷ as) (sym q) h)
-behind x z xs zs q (shorter u r h) = shorter u r (ap₂ (λ a as. a ∷ as) q h)
+behind x z xs zs q (same h) = same (ap₂ (λ a ws. a ∷ ws) q h)
+behind x z xs zs q (further u r h) = further u r (ap₂ (λ a ws. a ∷ ws) (sym q) h)
+behind x z xs zs q (shorter u r h) = shorter u r (ap₂ (λ a ws. a ∷ ws) q h)
 
 fronts : (xs ys zs ws : List Place) → xs ++ ys ≡ zs ++ ws → Fronts xs zs
 fronts [] ys [] ws h = same refl

@@ -140,9 +140,11 @@ one_left g fs _ gone t top ts rest is other name at top_name leaving.stays =
 one_left g fs _ gone t top ts rest is other name at top_name (leaving.left v u us body ne more) =
     let tails = tail_of v gone (u ∷ us) (t ∷ ts) is in
     let same = first_is u t us ts tails in
-    let below = tail_of u t us ts tails in
-    (body, none_left g fs (given body u ∷ us) (given body u) us refl (ap (λ (z : Opened). z.frame) same ∙ name) more
-    ∙ ap₂ (λ z zs. given body z ∷ zs) same below)
+    let below = tail_of u t us ts tails in (
+      body,
+      none_left g fs (given body u ∷ us) (given body u) us refl (ap (λ (z : Opened). z.frame) same ∙ name) more
+          ∙ ap₂ (λ z zs. given body z ∷ zs) same below,
+    )
 
 module _ (world : World) (st : State) (left : List (Scene × Begun)) (e : Begun) (numbers : NumbersFrames world.number) (a : AreFree world st)
     (q : st.top.begun ≡ Some e) (g : Frame) (name : g.0 ≡ world.number st.top.scene.path) where
@@ -159,9 +161,10 @@ module _ (world : World) (st : State) (left : List (Scene × Begun)) (e : Begun)
   named t d closed done r = same_frame t.frame g (r.frame ∙ sym name)
 
   reached_as : (t u : Opened) (ts us : List Opened) → u ∷ us ≡ t ∷ ts → Reached t ts → Reached u us
-  reached_as t u ts us is r =
-      (subst (OpenRecorded world st.trace st.top.scene e) (sym (first_is u t us ts is)) r.0,
-      subst (HeldAre world st.trace left st.held) (sym (tail_of u t us ts is)) r.1)
+  reached_as t u ts us is r = (
+    subst (OpenRecorded world st.trace st.top.scene e) (sym (first_is u t us ts is)) r.0,
+    subst (HeldAre world st.trace left st.held) (sym (tail_of u t us ts is)) r.1,
+  )
 
   -- the frame that ended has another number
   other_frame : (gone : Opened) (u : Place) → gone.frame.0 ≡ world.number ((st.top.scene.turn, u.node) ∷ st.top.scene.path) → gone.frame ≡ g → ⊥
@@ -181,10 +184,12 @@ module _ (world : World) (st : State) (left : List (Scene × Begun)) (e : Begun)
       let one = one_left g fs (gone ∷ t ∷ ts) gone t r.top ts r.below refl (other_frame gone u number)
       (named t d f.passed (f.passed ++ u ∷ []) f.records) r.is r.name r.left in
       let top = first_is r.top (given one.0 t) r.below ts (sym r.is ∙ one.1) in
-      reached_as (given one.0 t) r.top ts r.below (sym r.is ∙ one.1)
-      (closed world st.trace st.top.scene e formed_of u t
-      (subst (λ z. EndedRecorded world st.trace st.top.scene z u t) (some_of d e st.top.begun b q) f) one.0
-      (subst (GivesAll st.trace st.top.scene) top all), h)
+      reached_as (given one.0 t) r.top ts r.below (sym r.is ∙ one.1) (
+        closed world st.trace st.top.scene e formed_of u t
+            (subst (λ z. EndedRecorded world st.trace st.top.scene z u t) (some_of d e st.top.begun b q) f) one.0
+            (subst (GivesAll st.trace st.top.scene) top all),
+        h,
+      )
 
   stands_as : (t u : Opened) → t ≡ u → StandsOpen world st.top.scene e t → StandsOpen world st.top.scene e u
   stands_as t u is r = subst (StandsOpen world st.top.scene e) is r

@@ -1,3 +1,6 @@
+pub mod Answers
+pub mod Asked
+pub mod Audit
 pub mod Frames
 pub mod Kept
 pub mod Kinds

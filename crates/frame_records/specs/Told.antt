@@ -50,12 +50,12 @@ GivesAll trace f t = (last : Evaluation) → slice_get t.done (length t.done - 1
 
 -- The frames above that of the event are left, each of which gives all; the event is told of that frame, on top, with what it completes there; or it starts
 -- a frame.
-pub data TellsOf (world : World) (st next : State) (u : Place) (items : List Item) : List Opened → List Opened → Type 0 where
-  tells : (f : Frame) (now : Begun) (os fs : List Opened) (r : IsReached f os fs) → f.0 ≡ world.number st.top.scene.path
+pub data TellsOf (world : World) (st next : State) (u : Place) (items : List Item) (os : List Opened) : List Opened → Type 0 where
+  tells : (f : Frame) (now : Begun) (fs : List Opened) (r : IsReached f os fs) → f.0 ≡ world.number st.top.scene.path
       → GivesAll st.trace st.top.scene r.top → next.top.scene.path ≡ st.top.scene.path → next.top.begun ≡ Some now
       → TellsOf world st next u items os (with_completed (completed_at world next.top (Some now) u)
       (told_with (taken_by world next.top.scene now) u items r.top) ∷ r.below)
-  enters : (f g : Frame) (e : Begun) (os fs : List Opened) (r : IsReached f os fs) → f.0 ≡ world.number st.top.scene.path
+  enters : (f g : Frame) (e : Begun) (fs : List Opened) (r : IsReached f os fs) → f.0 ≡ world.number st.top.scene.path
       → GivesAll st.trace st.top.scene r.top → (next.top.scene.path ≡ st.top.scene.path → ⊥) → g.0 ≡ world.number next.top.scene.path
       → st.top.begun ≡ Some e
       → TellsOf world st next u items os (entered g ∷ told_with (taken_by world st.top.scene e) u items r.top ∷ r.below)
