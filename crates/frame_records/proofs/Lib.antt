@@ -3,6 +3,7 @@ pub mod Answers
 pub mod Asked
 pub mod Audit
 pub mod Ended
+pub mod Ends
 pub mod Events
 pub mod Held
 pub mod Kinds

@@ -35,7 +35,7 @@ use Rattle.frame_records.proofs.Kinds.{longer, tail_of}
 same_frame : (f g : Frame) → f.0 ≡ g.0 → f ≡ g
 same_frame f g q = λ i. record { 0 = q i }
 
-first_is : (t u : Opened) (ts us : List Opened) → t ∷ ts ≡ u ∷ us → t ≡ u
+pub first_is : (t u : Opened) (ts us : List Opened) → t ∷ ts ≡ u ∷ us → t ≡ u
 first_is t u ts us q = ap first q
   where
     first : List Opened → Opened

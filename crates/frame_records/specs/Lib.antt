@@ -1,6 +1,7 @@
 pub mod Answers
 pub mod Asked
 pub mod Audit
+pub mod Ends
 pub mod Frames
 pub mod Kept
 pub mod Kinds

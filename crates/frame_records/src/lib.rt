@@ -5,6 +5,7 @@
 ghost use Rattle.frame_records.specs.Answers.{AnswersAreFirst};
 ghost use Rattle.frame_records.specs.Asked.{AboveMayBeTold, AreStartedSo, BehindMayBeTold, BodiesMayEnd, EventsMayBeTold, ReachesOpen, TopIsOpen};
 ghost use Rattle.frame_records.specs.Audit.{AuditGoesFree, AuditSeesFirst, StartsBare};
+ghost use Rattle.frame_records.specs.Ends.{AuditEnds, AuditPassesLimit, AuditRaises, AuditReturns, AuditUsesBudget};
 ghost use Rattle.frame_records.specs.Kept.{EventsKeep, ReachesTop, StepsKeep};
 ghost use Rattle.frame_records.specs.Kinds.{PicksAreSo};
 
@@ -42,4 +43,14 @@ pub fn law_audit()
     ensures starts { StartsBare }
     ensures free { AuditGoesFree }
     ensures sees { AuditSeesFirst }
+{}
+
+/// So where the run ends the first conflict of all that was told, or none, is the first finding, as is a clause that is raised, a limit that is passed, or a
+/// budget that is used up.
+pub fn law_audit_ends()
+    ensures ends { AuditEnds }
+    ensures returns { AuditReturns }
+    ensures raises { AuditRaises }
+    ensures limits { AuditPassesLimit }
+    ensures budget { AuditUsesBudget }
 {}
