@@ -171,6 +171,7 @@ module _ (taken : Taken) where
       elim (split (operand taken c choice o m t) (operand_events taken c choice (suc o) (m + size t) ts) passed [] u h) [
         | left rest a b ↦ in_first j l g on (nil_right rest (operand_events taken c choice (suc o) (m + size t) ts) b)
         | right before a b ↦ in_rest i j l at g on before b
+            (λ q w qa ql wg won. last_going c choice ts (suc o) (m + size t) q w before u d e b qa is ql wg won)
       ]
     where
       sum_next : (a b : ℕ) → suc a + b ≡ a + suc b
@@ -181,17 +182,20 @@ module _ (taken : Taken) where
       in_first zero l g on none_left = absurd (omega (arith, l))
       in_first (suc j) l g on none_left = none_going c choice ts (suc o) (m + size t) j e none_left g (ap (goes c choice) (sum_next o j) ∙ on)
 
+      Again : Type 0
+      Again = (q w : ℕ) → slice_get (sides_from (m + size t) ts) q ≡ Some d → q < w → slice_get (sides_from (m + size t) ts) w ≡ Some e →
+          goes c choice (suc o + w) ≡ true → is_quiet e.tree ≡ true
+
       in_rest : (i j : ℕ) → i < j → slice_get (sides_from m (more t ts)) i ≡ Some d → slice_get (sides_from m (more t ts)) j ≡ Some e →
           goes c choice (o + j) ≡ true → (before : List Place) → operand_events taken c choice (suc o) (m + size t) ts ≡ before ++ u ∷ [] →
-          is_quiet e.tree ≡ true
-      in_rest zero j l at g on before b =
+          Again → is_quiet e.tree ≡ true
+      in_rest zero j l at g on before b again =
           let same : m ≡ d.number = ap (λ (z : Side). z.number) (same_Some (side m t) d at) in
           let r = (operands_in taken c choice ts (suc o) (m + size t) u (ap (λ z. has z u) b ∙ has_at before [] u)).0 in
           let some = size_some t in
           absurd (omega (arith, same, is, r, some))
-      in_rest (suc i) zero l at g on before b = absurd (omega (arith, l))
-      in_rest (suc i) (suc j) l at g on before b =
-          last_going c choice ts (suc o) (m + size t) i j before u d e b at is (omega (arith, l)) g (ap (goes c choice) (sum_next o j) ∙ on)
+      in_rest (suc i) zero l at g on before b again = absurd (omega (arith, l))
+      in_rest (suc i) (suc j) l at g on before b again = again i j at (omega (arith, l)) g (ap (goes c choice) (sum_next o j) ∙ on)
 
   module _ (p i j : ℕ) (c : Class) (all : Trees) (d e : Side) (at : slice_get (sides_from (suc p) all) i ≡ Some d) (l : i < j)
       (g : slice_get (sides_from (suc p) all) j ≡ Some e) (on : goes c (taken p) j ≡ true) (u v : Place) (below : u.node ≡ d.number)
@@ -207,7 +211,8 @@ module _ (taken : Taken) where
           is_quiet e.tree ≡ true
       up_last (node class ts) k passed rest h listed =
           elim (split (operand_events taken class (taken k) 0 (suc k) ts) (own_events k class) passed (v ∷ rest) u listed) [
-            | left xs a b ↦ by_test (p == k) (λ q. at_root (number_is p k q) xs a b) (λ q. further q xs a b)
+            | left xs a b ↦ by_test (p == k) (λ q. at_root (number_is p k q) xs a b) (λ q. further q xs a b
+                (λ ys eq. up_among class (taken k) ts 0 (suc k) passed ys (sym (if_false _ _ _ q) ∙ h) eq))
             | right before a b ↦
                 (let x = own_of k class u (ap (λ z. has z u) b ∙ has_at before (v ∷ rest) u) in
                 let q = u_low in
@@ -243,51 +248,57 @@ module _ (taken : Taken) where
                   append_one (y ∷ us) vs = ap (λ z. y ∷ z) (append_one us vs)
 
           further : (p == k) ≡ false → (xs : List Place) → operand_events taken class (taken k) 0 (suc k) ts ≡ passed ++ u ∷ xs →
-              v ∷ rest ≡ xs ++ own_events k class → is_quiet e.tree ≡ true
-          further q [] a b =
+              v ∷ rest ≡ xs ++ own_events k class →
+              ((ys : List Place) → operand_events taken class (taken k) 0 (suc k) ts ≡ passed ++ u ∷ v ∷ ys → is_quiet e.tree ≡ true) →
+              is_quiet e.tree ≡ true
+          further q [] a b again =
               let x = own_of k class v (ap (λ z. has z v) (sym b) ∙ has_itself v rest) in
               let r = (among_range (suc k) ts p (node c all) (sym (if_false _ _ _ q) ∙ h)).low in
               absurd (omega (arith, x, own, r))
-          further q (x ∷ xs) a b =
-              up_among class (taken k) ts 0 (suc k) passed xs (sym (if_false _ _ _ q) ∙ h)
-              (a ∙ ap (λ z. passed ++ u ∷ z ∷ xs) (sym (head_is v x rest (xs ++ own_events k class) b)))
+          further q (x ∷ xs) a b again = again xs (a ∙ ap (λ z. passed ++ u ∷ z ∷ xs) (sym (head_is v x rest (xs ++ own_events k class) b)))
 
       up_among : (class : Class) (choice : Option ℕ) (ts : Trees) (o m : ℕ) (passed rest : List Place) → part_among m ts p ≡ Some (node c all) →
           operand_events taken class choice o m ts ≡ passed ++ u ∷ v ∷ rest → is_quiet e.tree ≡ true
       up_among class choice none o m passed rest h listed = absurd (cc)
-      up_among class choice (more t ts) o m passed rest h listed = by_test (nat_lt p (m + size t)) in_first in_rest
+      up_among class choice (more t ts) o m passed rest h listed = by_test (nat_lt p (m + size t))
+          (λ q. in_first (sym (if_true _ _ _ q) ∙ h)
+          (λ ys eq. up_last t m passed ys (sym (if_true _ _ _ q) ∙ h) (operand_split taken class choice o m t passed (v ∷ ys) u eq)))
+          (λ q. in_rest q (λ before eq. up_among class choice ts (suc o) (m + size t) before rest (sym (if_false _ _ _ q) ∙ h) eq))
         where
-          in_first : nat_lt p (m + size t) ≡ true → is_quiet e.tree ≡ true
-          in_first q =
-              let part : part_in m t p ≡ Some (node c all) = sym (if_true _ _ _ q) ∙ h in
+          behind : List Place
+          behind = operand_events taken class choice (suc o) (m + size t) ts
+
+          First : Type 0
+          First = (ys : List Place) → operand taken class choice o m t ≡ passed ++ u ∷ v ∷ ys → is_quiet e.tree ≡ true
+
+          with_rest : part_in m t p ≡ Some (node c all) → (xs : List Place) → operand taken class choice o m t ≡ passed ++ u ∷ xs →
+              v ∷ rest ≡ xs ++ behind → First → is_quiet e.tree ≡ true
+          with_rest part [] a b again =
+              let x = (operands_in taken class choice ts (suc o) (m + size t) v (ap (λ z. has z v) (sym b) ∙ has_itself v rest)).0 in
+              let r = (part_range m t p (node c all) part).high in
+              let z = size_some (node c all) in
+              absurd (omega (arith, x, r, own, z))
+          with_rest part (x ∷ xs) a b again = again xs (a ∙ ap (λ z. passed ++ u ∷ z ∷ xs) (sym (head_is v x rest (xs ++ behind) b)))
+
+          in_first : part_in m t p ≡ Some (node c all) → First → is_quiet e.tree ≡ true
+          in_first part again =
               let r = (part_range m t p (node c all) part).high in
               let n = u_high in
-              elim (split (operand taken class choice o m t) (operand_events taken class choice (suc o) (m + size t) ts) passed (v ∷ rest) u listed) [
-                | left xs a b ↦ with_rest part xs a b
+              elim (split (operand taken class choice o m t) behind passed (v ∷ rest) u listed) [
+                | left xs a b ↦ with_rest part xs a b again
                 | right before a b ↦
                     (let x = (operands_in taken class choice ts (suc o) (m + size t) u (ap (λ z. has z u) b ∙ has_at before (v ∷ rest) u)).0 in
                     absurd (omega (arith, x, r, n)))
               ]
-            where
-              with_rest : part_in m t p ≡ Some (node c all) → (xs : List Place) → operand taken class choice o m t ≡ passed ++ u ∷ xs →
-                  v ∷ rest ≡ xs ++ operand_events taken class choice (suc o) (m + size t) ts → is_quiet e.tree ≡ true
-              with_rest part [] a b =
-                  let x = (operands_in taken class choice ts (suc o) (m + size t) v (ap (λ z. has z v) (sym b) ∙ has_itself v rest)).0 in
-                  let r = (part_range m t p (node c all) part).high in
-                  let z = size_some (node c all) in
-                  absurd (omega (arith, x, r, own, z))
-              with_rest part (x ∷ xs) a b =
-                  up_last t m passed xs part (operand_split taken class choice o m t passed (v ∷ xs) u
-                  (a ∙ ap (λ z. passed ++ u ∷ z ∷ xs)
-                  (sym (head_is v x rest (xs ++ operand_events taken class choice (suc o) (m + size t) ts) b))))
 
-          in_rest : nat_lt p (m + size t) ≡ false → is_quiet e.tree ≡ true
-          in_rest q =
+          in_rest : nat_lt p (m + size t) ≡ false → ((before : List Place) → behind ≡ before ++ u ∷ v ∷ rest → is_quiet e.tree ≡ true) →
+              is_quiet e.tree ≡ true
+          in_rest q again =
               let past = not_less_is p (m + size t) q in
               let n = u_low in
-              elim (split (operand taken class choice o m t) (operand_events taken class choice (suc o) (m + size t) ts) passed (v ∷ rest) u listed) [
+              elim (split (operand taken class choice o m t) behind passed (v ∷ rest) u listed) [
                 | left xs a b ↦
                     (let x = (events_in taken t m u (ap (λ z. has z u) (operand_split taken class choice o m t passed xs u a) ∙ has_at passed xs u)).1 in
                     absurd (omega (arith, x, past, n)))
-                | right before a b ↦ up_among class choice ts (suc o) (m + size t) before rest (sym (if_false _ _ _ q) ∙ h) b
+                | right before a b ↦ again before b
               ]

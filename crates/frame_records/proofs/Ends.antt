@@ -143,11 +143,13 @@ module _ (world : World) (trace : List Entry) (x : Entry) (frames : List FrameRo
   all_told : (path : Path) (hs : List (Local × Place)) (ts es : List Opened) (t : Opened) → is_under x.path path ≡ true → AllWaitFree world trace path hs →
       AllEndIn world trace later hs → AreEnded (t ∷ ts) (t ∷ es) → length es ≡ length (begun_below hs) → AllGiven later (begun_below hs) es →
       AreListed world frames (begun_below hs) → HeldAre world trace [] hs ts → All (begun_below hs) es
-  all_told path _ _ es t under waits ends ended count given listed (below hs ts is bare) =
+  all_told path _ _ es t under waits ends ended count gives listed (below hs ts is bare) =
       let none : length (begun_below hs) ≤ 0 = let z = ap length is in omega (arith, z) in
       subst (All (begun_below hs)) (sym (no_more es (length (begun_below hs)) count none)) (none_all (begun_below hs) none)
-  all_told path _ _ es t under waits ends ended count given listed (more h hs u us r rest) =
+  all_told path _ _ es t under waits ends ended count gives listed (more h hs u us r rest) =
       by_cases (ended_cases (t ∷ u ∷ us) (t ∷ es) t u us es refl refl ended)
+      (λ body gs left many g. all_told h.0.scene.path hs us gs (given body u) (under_tail x.path (h.0.scene.turn, h.1.node) h.0.scene.path under_h) waits.2
+      ends.1 left many g (listed_rest h.0.scene h.0.begun e (begun_below hs) q listed) rest)
     where
       under_h : is_under x.path ((h.0.scene.turn, h.1.node) ∷ h.0.scene.path) ≡ true
       under_h = subst (λ z. is_under x.path z ≡ true) waits.0 under
@@ -158,25 +160,28 @@ module _ (world : World) (trace : List Entry) (x : Entry) (frames : List FrameRo
       q : h.0.begun ≡ Some e
       q = ends.0.1
 
-      with_body : (body : Item → Bool) → AreEnded (given body u ∷ us) es → (rest_is : (gs : List Opened) × (es ≡ given body u ∷ gs)) →
+      Again : Type 0
+      Again = (body : Item → Bool) (gs : List Opened) → AreEnded (given body u ∷ us) (given body u ∷ gs) → length gs ≡ length (begun_below hs) →
+          AllGiven later (begun_below hs) gs → All (begun_below hs) gs
+
+      with_body : (body : Item → Bool) → AreEnded (given body u ∷ us) es → (rest_is : (gs : List Opened) × (es ≡ given body u ∷ gs)) → Again →
           All (begun_in h.0.scene h.0.begun (begun_below hs)) es
-      with_body body left rest_is =
+      with_body body left rest_is again =
           subst (All (begun_in h.0.scene h.0.begun (begun_below hs))) (sym rest_is.1)
           (with_first h.0.scene h.0.begun e (begun_below hs) (given body u) rest_is.0 q
           (told_held h.0 h.1 u e ends.0.2 q (held_goes world trace x h.0 h.1 u waits.1 under_h r) body g.0) listed
-          (all_told h.0.scene.path hs us rest_is.0 (given body u) (under_tail x.path (h.0.scene.turn, h.1.node) h.0.scene.path under_h) waits.2 ends.1
-          (subst (AreEnded (given body u ∷ us)) rest_is.1 left)
-          (let z = ap length rest_is.1 in let w = begun_more world h.0.scene h.0.begun e (begun_below hs) q in omega (arith, z, w, count)) g.1
-          (listed_rest h.0.scene h.0.begun e (begun_below hs) q listed) rest))
+          (again body rest_is.0 (subst (AreEnded (given body u ∷ us)) rest_is.1 left)
+          (let z = ap length rest_is.1 in let w = begun_more world h.0.scene h.0.begun e (begun_below hs) q in omega (arith, z, w, count)) g.1))
         where
           g : GivesAll later h.0.scene (given body u) × AllGiven later (begun_below hs) rest_is.0
           g = given_first h.0.scene h.0.begun e (begun_below hs) (given body u) rest_is.0 q
-              (subst (AllGiven later (begun_in h.0.scene h.0.begun (begun_below hs))) rest_is.1 given)
+              (subst (AllGiven later (begun_in h.0.scene h.0.begun (begun_below hs))) rest_is.1 gives)
 
-      by_cases : (es ≡ []) ⊎ ((body : Item → Bool) × AreEnded (given body u ∷ us) es) → All (begun_in h.0.scene h.0.begun (begun_below hs)) es
-      by_cases (inl none) =
+      by_cases : (es ≡ []) ⊎ ((body : Item → Bool) × AreEnded (given body u ∷ us) es) → Again →
+          All (begun_in h.0.scene h.0.begun (begun_below hs)) es
+      by_cases (inl none) again =
           absurd (let z = ap length none in let w = begun_more world h.0.scene h.0.begun e (begun_below hs) q in omega (arith, z, w, count))
-      by_cases (inr (body, left)) = with_body body left (ended_first (given body u) (given body u ∷ us) us es refl left)
+      by_cases (inr (body, left)) again = with_body body left (ended_first (given body u) (given body u ∷ us) us es refl left) again
 
   -- and of the frame on top
   module _ (f : Scene) (e : Begun) (u : Place) (t : Opened) (items : List Item) (is : IsEntryOf f u x) (ends : EndsIn world trace later f e u)
