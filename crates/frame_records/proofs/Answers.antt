@@ -90,7 +90,7 @@ module _ (t : Opened) (last : Evaluation) (formed : is_formed t.scope.tree ≡ t
   not_later q m v rest e o under end h =
       still s formed r.1.number r.1.tree v (side_part s q o.class o.operands o.there r.0 r.1 r.2)
       (let b = behind_at (sides_from (suc q) o.operands) o.index r.0 r.1 behind r.2 in
-      none_loud (behind_side o.index (sides_from (suc q) o.operands)) (above_last q m _ (sym (last_is q o) ∙ h)).1 b.0 r.1 b.1)
+      none_loud (behind_side o.index (sides_from (suc q) o.operands)) (above_last q m (first_loud (behind_side o.index (sides_from (suc q) o.operands))) (sym (last_is q o) ∙ h)).1 b.0 r.1 b.1)
       (due_part s.taken 0 s.tree r.1.number v r.1.tree (side_part s q o.class o.operands o.there r.0 r.1 r.2) r.3 r.4 due)
     where
       size_is : size under.part ≡ size (node o.class o.operands)
@@ -145,7 +145,7 @@ module _ (t : Opened) (last : Evaluation) (formed : is_formed t.scope.tree ≡ t
     where
       by_step : (v : Place) (rest : List Place) → l.ahead ≡ v ∷ rest → Step s n v.node → completed_in t n ≡ Operands_of m
       by_step v rest e (same q) = absurd (some (by_same t last formed stands l v rest e q))
-      by_step v rest e (up o) = by_up t last formed stands l v rest e o ∙ ap Operands_of (sym (above_last v.node m _ (sym (last_is v.node o) ∙ h)).0)
+      by_step v rest e (up o) = by_up t last formed stands l v rest e o ∙ ap Operands_of (sym (above_last v.node m (first_loud (behind_side o.index (sides_from (suc v.node) o.operands))) (sym (last_is v.node o) ∙ h)).0)
       by_step v rest e (later q o under end) = absurd (not_later q m v rest e o under end h)
 
       by_ahead : (us : List Place) → l.ahead ≡ us → completed_in t n ≡ Operands_of m

@@ -23,12 +23,13 @@ use Rattle.run_evaluations.specs.First.{IsConflictIn}
 use Rattle.run_evaluations.specs.Told.{Opened, evaluation}
 use Rattle.telling_laws.specs.FirstFound.{ByPlaces, IsFoundIn, ToldPairs}
 use Rattle.telling_laws.specs.Newly.{completed_with}
-use Rattle.telling_laws.specs.Standing.{completed_in}
+use Rattle.telling_laws.specs.Standing.{StandsBehind, completed_in}
 use Rattle.detector_laws.specs.Along.{AreClear}
-use Rattle.detector_laws.specs.Bare.{AreBare, IsBareIn}
+use Rattle.detector_laws.specs.Bare.{AreBare, IsBareIn, IsBareStore}
 use Rattle.detector_laws.specs.Frames.{AreFree, IsEntryOf, IsFormedIn, TakesEvent}
 use Rattle.detector_laws.specs.Looked.{GoesFree, IsFree, IsFreeIn, finding_of, looked_at}
 use Rattle.detector_laws.specs.Looked as looked
+use Rattle.detector_laws.specs.Records.{Records}
 use Rattle.detector_laws.specs.Shown.{all_begun, begun_below, begun_in}
 use Rattle.detector_laws.proofs.Answered.{answers_are_found}
 use Rattle.detector_laws.proofs.Barely.{picks_stay_bare}
@@ -88,7 +89,7 @@ module _ (world : World) (st after : State) where
   some_open f None e xs q = absurd (cc (q))
   some_open f (Some d) e xs q = omega arith
 
-  some_recorded : (n : ℕ) (os : List Opened) (e : Begun) → st.top.begun ≡ Some e → AllRecorded world st [] n os → 0 < n
+  pub some_recorded : (n : ℕ) (os : List Opened) (e : Begun) → st.top.begun ≡ Some e → AllRecorded world st [] n os → 0 < n
   some_recorded _ _ e q (idle os is bare) =
       let z = ap length is in
       let w = some_open st.top.scene st.top.begun e (begun_below st.held) q in
@@ -154,13 +155,14 @@ module _ (world : World) (st after : State) where
         same_now : e_now ≡ now
         same_now = now_is world st after [] n os u items numbers clear r some has_items e x q took newest is f fs reached name all now begun
 
-        told_so : _
+        told_so : Records world after.trace st.top.scene e_now (took.passed ++ u ∷ []) (took.passed ++ u ∷ []) t ×
+            StandsBehind t (evaluation u.node u.kind items)
         told_so = told_top world st after [] n os u items numbers clear r some has_items e x q took newest is f fs reached name all
 
         same_t : told_with (taken_by world after.top.scene now) u items reached.top ≡ t
         same_t = same_told world st after [] n os u items numbers clear r some has_items e x q took newest is f fs reached name all now begun
 
-        bare_at : _
+        bare_at : IsBareStore world after.trace st.top.scene e_now u.node
         bare_at = (subst (IsBareIn world after.trace st.top.scene) took.begun
             (subst (λ z. IsBareIn world after.trace z after.top.begun) took.scene bare.top)) u.node
 
@@ -232,11 +234,11 @@ module _ (world : World) (first : State) (numbers : NumbersFrames world.number) 
   first_none f None xs q = tt
   first_none f (Some e) xs q = absurd (cc (q))
 
-  formed_all : (m : ℕ) (s : State) → GoesFree world first m s → IsFormedIn s.top.begun
+  pub formed_all : (m : ℕ) (s : State) → GoesFree world first m s → IsFormedIn s.top.begun
   formed_all _ _ looked.none = first_none first.top.scene first.top.begun (begun_below first.held) empty
   formed_all _ _ (looked.more n st next before q g) = formed n st next before q
 
-  clear_at : (m : ℕ) (s : State) → GoesFree world first m s → AreClear world s
+  pub clear_at : (m : ℕ) (s : State) → GoesFree world first m s → AreClear world s
   clear_at m s g = goes_clear world first s m formed_all clear g
 
   pub walks : (k : ℕ) (st : State) (n : ℕ) (os : List Opened) → Walks world first k st n os → GoesFree world first k st × AllRecorded world st [] n os

@@ -38,7 +38,7 @@ use Rattle.frame_records.specs.Audit.{AreFormed, Walks}
 use Rattle.frame_records.specs.Ends.{AllGiven, AreListed, AuditEnds, AuditPassesLimit, AuditRaises, AuditReturns, AuditUsesBudget, TellsEnd}
 use Rattle.frame_records.specs.Frames.{AllRecorded, HeldAre, HeldRecorded, OpenRecorded, below, more}
 use Rattle.frame_records.specs.Told.{GivesAll, told_with}
-use Rattle.frame_records.proofs.Audit.{clear_at, formed_all, some_recorded, walks}
+use Rattle.frame_records.proofs.Audit.{formed_all, some_recorded, walks}
 use Rattle.frame_records.proofs.Events.{none_started}
 use Rattle.frame_records.proofs.Held.{begun_more, held_goes, some_of}
 use Rattle.frame_records.proofs.Kinds.{tail_of}
@@ -257,12 +257,12 @@ audit_ends world first st k n left status output later items frames os es r numb
     parts : ((e : Begun) × (st.top.begun ≡ Some e) × EndsIn world st.trace later st.top.scene e end.body) × AllEndIn world st.trace later st.held
     parts = bodies_end world st later now end
 
-    abbrev_for : List Entry → Type 0
-    abbrev_for z = ((e : Begun) × (st.top.begun ≡ Some e) × EndsIn world st.trace z st.top.scene e end.body) → AllEndIn world st.trace z st.held →
+    At : List Entry → Type 0
+    At z = ((e : Begun) × (st.top.begun ≡ Some e) × EndsIn world st.trace z st.top.scene e end.body) → AllEndIn world st.trace z st.held →
         TellsEnd world st z end.body items frames os es → AllToldAtEnd world st.trace z frames (all_begun st) es
 
     all : AllToldAtEnd world st.trace later frames (all_begun st) es
-    all = subst abbrev_for (sym end.newest)
+    all = subst At (sym end.newest)
         (λ a b c. all_ended world st x frames items end.body os es n numbers now h.1 entry (has_items x st.trace end.newest) a b c) parts.0 parts.1 tells
 
 -- ---- it doesn't end so

@@ -52,7 +52,7 @@ module _ (world : World) where
       (held_stay trace x left h.0.scene.path hs ts (under_tail x.path (h.0.scene.turn, h.1.node) h.0.scene.path u) w.2 rest)
 
   -- of so many full expressions that are open below
-  begun_more : (f : Scene) (o : Option Begun) (e : Begun) (xs : List (Scene × Begun)) → o ≡ Some e → length (begun_in f o xs) ≡ suc (length xs)
+  pub begun_more : (f : Scene) (o : Option Begun) (e : Begun) (xs : List (Scene × Begun)) → o ≡ Some e → length (begun_in f o xs) ≡ suc (length xs)
   begun_more f None e xs q = absurd (cc (q))
   begun_more f (Some d) e xs q = refl
 

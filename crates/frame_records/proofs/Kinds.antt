@@ -21,12 +21,12 @@ use Rattle.detector_laws.proofs.Goes.{picks_come_to, same_state, through_limited
 use Rattle.frame_records.specs.Kinds.{PicksAreSo, PicksSo, rests, settles, begins, ends, takes, starts}
 
 -- ---- lists
+abbrev rest_of : {X : Type 0} → List X → List X
+rest_of [] = []
+rest_of (z ∷ zs) = zs
+
 pub tail_of : {X : Type 0} → (x y : X) (xs ys : List X) → x ∷ xs ≡ y ∷ ys → xs ≡ ys
-tail_of x y xs ys q = ap rest q
-  where
-    rest : List _ → List _
-    rest [] = []
-    rest (z ∷ zs) = zs
+tail_of x y xs ys q = ap rest_of q
 
 pub longer : {X : Type 0} → (x : X) (xs : List X) → xs ≡ x ∷ xs → ⊥
 longer x xs q = let n = ap length q in omega (arith, n)
