@@ -4,11 +4,7 @@ use Rattle.std.proofs.Common.{refl, sym, ap, subst, ◌∙◌, true≢false, ari
 use Rattle.std.specs.Prelude.{slice_get}
 use Rattle.std.proofs.lemmas.Bool.Decides.{nat_tests}
 use Rattle.std.proofs.lemmas.Option.{same_Some}
-use Rattle.ub_base.specs.declared.names.Item.{Item}
-use Rattle.ub_base.specs.declared.names.Item.TheVariants.{Read, Write}
-use Rattle.ub_base.specs.declared.names.ObjName.{ObjName}
 use Rattle.ub_base.specs.Frames.{Row as FrameRow}
-use Rattle.addr_map.specs.Conflict.{is_access, items_conflict, stands_at}
 use Rattle.addr_map.specs.declared.map.Row.{Row}
 use Rattle.c_typed.specs.declared.class.Class.{Class}
 use Rattle.c_typed.specs.declared.class.Class.TheVariants.{Object, Constant, Plain, Store, Update, Choice, Comma, Call, Isolated}
@@ -22,17 +18,16 @@ use Rattle.completion_laws.specs.Completed.{completed_next, with_above}
 use Rattle.completion_laws.proofs.Lists.{has_at}
 use Rattle.conflict_detector.specs.Complete.{IsConflictAbove, IsConflictDone, MayGather, above_of}
 use Rattle.conflict_detector.specs.Telling.{TellsAt}
+use Rattle.conflict_detector.proofs.Pairs.{conflict_clashes, none_of_two}
 use Rattle.elaborate.specs.Formed.{is_formed}
-use Rattle.evaluation_log.specs.Clashes.{Clash}
 use Rattle.evaluation_log.specs.Sides.{Side, first_loud, last_if, last_in, sides_from}
 use Rattle.evaluation_log.specs.declared.found.Found.{Found}
-use Rattle.evaluation_log.specs.declared.sought.Sought.TheVariants.{Any, Races}
-use Rattle.evaluation_search.specs.First.{IsFirst, IsFirstOf, sought_of}
+use Rattle.evaluation_search.specs.First.{IsFirst, IsFirstOf}
 use Rattle.evaluation_search.proofs.FirstLemmas.{alike}
 use Rattle.run_evaluations.specs.First.{AreOfNode, AreOfOperands, IsConflictIn}
 use Rattle.run_evaluations.specs.Scopes.{IsOperandOf, Scope, part_of}
 use Rattle.run_evaluations.specs.Shows.{AreOfTwo, NoneOfNode, NoneOfTwo}
-use Rattle.run_evaluations.specs.Told.{Evaluation, IsOperandIn, IsUnder, Opened, has as has_item}
+use Rattle.run_evaluations.specs.Told.{Evaluation, IsOperandIn, IsUnder, Opened}
 use Rattle.run_evaluations.proofs.PartLemmas.{side_at, side_part}
 use Rattle.run_evaluations.proofs.ShowLemmas.{choice_before}
 use Rattle.run_evaluations.proofs.ToldLemmas.{due_part}
@@ -90,7 +85,8 @@ module _ (t : Opened) (last : Evaluation) (formed : is_formed t.scope.tree ≡ t
   not_later q m v rest e o under end h =
       still s formed r.1.number r.1.tree v (side_part s q o.class o.operands o.there r.0 r.1 r.2)
       (let b = behind_at (sides_from (suc q) o.operands) o.index r.0 r.1 behind r.2 in
-      none_loud (behind_side o.index (sides_from (suc q) o.operands)) (above_last q m (first_loud (behind_side o.index (sides_from (suc q) o.operands))) (sym (last_is q o) ∙ h)).1 b.0 r.1 b.1)
+      none_loud (behind_side o.index (sides_from (suc q) o.operands))
+      (above_last q m (first_loud (behind_side o.index (sides_from (suc q) o.operands))) (sym (last_is q o) ∙ h)).1 b.0 r.1 b.1)
       (due_part s.taken 0 s.tree r.1.number v r.1.tree (side_part s q o.class o.operands o.there r.0 r.1 r.2) r.3 r.4 due)
     where
       size_is : size under.part ≡ size (node o.class o.operands)
@@ -145,7 +141,10 @@ module _ (t : Opened) (last : Evaluation) (formed : is_formed t.scope.tree ≡ t
     where
       by_step : (v : Place) (rest : List Place) → l.ahead ≡ v ∷ rest → Step s n v.node → completed_in t n ≡ Operands_of m
       by_step v rest e (same q) = absurd (some (by_same t last formed stands l v rest e q))
-      by_step v rest e (up o) = by_up t last formed stands l v rest e o ∙ ap Operands_of (sym (above_last v.node m (first_loud (behind_side o.index (sides_from (suc v.node) o.operands))) (sym (last_is v.node o) ∙ h)).0)
+      by_step v rest e (up o) =
+          by_up t last formed stands l v rest e o
+          ∙ ap Operands_of
+          (sym (above_last v.node m (first_loud (behind_side o.index (sides_from (suc v.node) o.operands))) (sym (last_is v.node o) ∙ h)).0)
       by_step v rest e (later q o under end) = absurd (not_later q m v rest e o under end h)
 
       by_ahead : (us : List Place) → l.ahead ≡ us → completed_in t n ≡ Operands_of m
@@ -236,19 +235,6 @@ above_may_be_told t last formed small stands some = by_above (above_of t last.pl
     by_above (Some m) e = (behind_may_be_told t last formed small stands).2 m (above_so t last formed stands m e some)
 
 -- ---- none is a conflict where none clash
-anywhere : (s t : ObjName → ℕ → Bool) (i j : Item) → is_access i ≡ true → is_access j ≡ true → items_conflict s i j ≡ items_conflict t i j
-anywhere s t (Read x a n) (Read y b m) h k = refl
-anywhere s t (Read x a n) (Write y b m) h k = refl
-anywhere s t (Write x a n) (Read y b m) h k = refl
-anywhere s t (Write x a n) (Write y b m) h k = refl
-anywhere s t (Read x a n) j h k = absurd (cc)
-anywhere s t (Write x a n) j h k = absurd (cc)
-anywhere s t i j h k = absurd (cc)
-
-clash_any : (b : Bool) (rows : List Row) (f g : Item → Bool) (i j : Item) → Clash (sought_of b) rows f g i j → Clash Any rows f g i j
-clash_any true rows f g i j c = (c.0, c.1, anywhere (stands_at rows) (λ x n. true) i j c.2 c.3 ∙ c.4)
-clash_any false rows f g i j c = c
-
 module _ (frames : List FrameRow) (rows : List Row) (t : Opened) where
   abbrev In : (Evaluation → Evaluation → Type 0) → Found → Type 0
   In Pairs = IsConflictIn frames rows t Pairs
@@ -266,13 +252,7 @@ module _ (frames : List FrameRow) (rows : List Row) (t : Opened) where
 
   none_of_node : (n : ℕ) → NoneOfNode rows t n → (f : Found) → In (AreOfNode t n) f → ⊥
   none_of_node n none f h =
-      none h.one h.other h.one_done h.other_done h.pair.0 h.pair.1 h.apart f.items.0 f.items.1
-      (clash_any f.race rows (has_item h.one) (has_item h.other) f.items.0 f.items.1 h.of.least.0)
-
-  none_of_two : (p : ℕ) → NoneOfTwo rows t p → (f : Found) → In (AreOfOperands t p) f → ⊥
-  none_of_two p none f h =
-      none h.one h.other h.one_done h.other_done h.pair h.apart f.items.0 f.items.1
-      (clash_any f.race rows (has_item h.one) (has_item h.other) f.items.0 f.items.1 h.of.least.0)
+      conflict_clashes frames rows t (AreOfNode t n) f h (none h.one h.other h.one_done h.other_done h.pair.0 h.pair.1 h.apart)
 
   module _ (n : ℕ) where
     abbrev Told : Completed → Found → Type 0
@@ -327,7 +307,7 @@ module _ (frames : List FrameRow) (rows : List Row) (t : Opened) where
 
     pub operands_told : (p : ℕ) (r : Option Found) → NoneOfNode rows t n →
         SeesOr frames (In (AreOfOperands t p)) (NoneOfTwo rows t p) r → IsFirstOf frames (Told (Operands_of p)) r
-    operands_told p None none h = λ g c. ⊎_elim (none_of_node n none g) (none_of_two p h g) (split_told p g c)
+    operands_told p None none h = λ g c. ⊎_elim (none_of_node n none g) (none_of_two frames rows t p h g) (split_told p g c)
     operands_told p (Some f) none h =
         alike frames (In (AreOfOperands t p)) (Told (Operands_of p)) (Some f) (two_told p)
         (λ g c. ⊎_elim (λ a. absurd (none_of_node n none g a)) (λ b. b) (split_told p g c))

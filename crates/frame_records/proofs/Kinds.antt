@@ -146,8 +146,8 @@ module _ (world : World) where
 
     starts_so : (o : Option Begun) (u : Place) (x : Entry) → f.begun ≡ o → TopStands world st.trace f.scene o → canonical_pick world f o ≡ Ev u →
         after.trace ≡ x ∷ st.trace → IsEntryOf f.scene u x → after.top.begun ≡ None →
-        after.top.scene.path ≡ (f.scene.turn, u.node) ∷ f.scene.path → after.held ≡ (f, u) ∷ st.held → AllWaitFree world after.trace after.top.scene.path after.held
-        → So
+        after.top.scene.path ≡ (f.scene.turn, u.node) ∷ f.scene.path → after.held ≡ (f, u) ∷ st.held →
+        AllWaitFree world after.trace after.top.scene.path after.held → So
     starts_so None u x q s is trace entry none path held waits = absurd (cc (is))
     starts_so (Some e) u x q (passed, ahead, s) is trace entry none path held waits = by_ahead ahead s
       where

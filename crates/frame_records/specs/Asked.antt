@@ -49,7 +49,8 @@ ReachesOpen = (world : World) (st : State) (left : List (Scene × Begun)) (n : �
     → NumbersFrames world.number → AreFree world st → AllRecorded world st left n os → 0 < n → st.top.begun ≡ Some e
     → f.0 ≡ world.number st.top.scene.path → (r : IsReached f os fs) → StandsOpen world st.top.scene e r.top
 
--- The next event may be told of it, of a tree of less than 2^32 nodes, with what nodes have chosen by then in the full expression that is open on top behind it.
+-- The next event may be told of it, of a tree of less than 2^32 nodes, with what nodes have chosen by then in the full expression that is open on top
+-- behind it.
 abbrev pub EventsMayBeTold : Type 0
 EventsMayBeTold = (world : World) (st next : State) (left : List (Scene × Begun)) (n : ℕ) (os fs : List Opened) (f : Frame) (u : Place)
     (y : Scene × Begun) (ys : List (Scene × Begun)) → NumbersFrames world.number → AreFree world st → AllRecorded world st left n os → 0 < n

@@ -37,7 +37,8 @@ AreListed world frames [] = Unit {0}
 AreListed world frames (x ∷ xs) = (path_of frames (world.number x.0.path) ≡ x.0.path) × AreListed world frames xs
 
 -- The body that ends the run is told, and the frames are left, up to the outermost one that is recorded; they are those whose full expressions are open.
-pub record TellsEnd (world : World) (st : State) (later : List Entry) (u : Place) (items : List Item) (frames : List FrameRow) (os es : List Opened) : Type 0 where
+pub record TellsEnd (world : World) (st : State) (later : List Entry) (u : Place) (items : List Item) (frames : List FrameRow)
+    (os es : List Opened) : Type 0 where
   pub frame : Frame
   pub named : frame.0 ≡ world.number st.top.scene.path
   pub expression : Begun

@@ -68,4 +68,5 @@ pub data AllRecorded (world : World) (st : State) (left : List (Scene × Begun))
       → OpenRecorded world st.trace st.top.scene e t → HeldAre world st.trace left st.held ts → AllRecorded world st left n (t ∷ ts)
   ended : (n : ℕ) (e : Begun) (u : Place) (gone t : Opened) (ts : List Opened) → Counts n left → st.top.begun ≡ Some e
       → EndedRecorded world st.trace st.top.scene e u t
-      → gone.frame.0 ≡ world.number ((st.top.scene.turn, u.node) ∷ st.top.scene.path) → HeldAre world st.trace left st.held ts → AllRecorded world st left n (gone ∷ t ∷ ts)
+      → gone.frame.0 ≡ world.number ((st.top.scene.turn, u.node) ∷ st.top.scene.path) → HeldAre world st.trace left st.held ts
+      → AllRecorded world st left n (gone ∷ t ∷ ts)
