@@ -33,9 +33,9 @@ use Rattle.detector_laws.specs.Frames.{AreFree, StandsFree, TakesEvent}
 use Rattle.detector_laws.specs.Shown.{all_begun, begun_below, begun_in}
 use Rattle.frame_records.specs.Asked.{AreStartedSo, BehindMayBeTold, BodiesMayEnd, EventsMayBeTold, StandsOpen, TopIsOpen}
 use Rattle.frame_records.specs.Frames.{AllRecorded, HeldAre, idle, rests, opens, ended, below, more}
-use Rattle.frame_records.specs.Kinds.{PicksSo}
-use Rattle.frame_records.specs.Kinds as kind
-use Rattle.frame_records.proofs.Kinds.{picks_are_so}
+use Rattle.frame_records.specs.Picks.{PicksSo}
+use Rattle.frame_records.specs.Picks as kind
+use Rattle.frame_records.proofs.Picks.{picks_are_so}
 use Rattle.frame_records.proofs.Passed.{same_passed}
 use Rattle.frame_records.proofs.Reached.{reaches_open}
 
@@ -160,7 +160,7 @@ module _ (world : World) (st after : State) (left : List (Scene × Begun)) (n : 
       begun_none g None xs p = refl
       begun_none g (Some d) xs p = absurd (cc (p))
 
-  place_in : Place → Pick → Place
+  abbrev place_in : Place → Pick → Place
   place_in z Control = z
   place_in z (Ev w) = w
 

@@ -42,13 +42,13 @@ use Rattle.frame_records.specs.Answers.{Answers}
 use Rattle.frame_records.specs.Audit.{AnswersOf, AreFormed, AuditGoesFree, AuditSeesFirst, StartsBare, TellsNewest, Walks, begins, steps, tells_of}
 use Rattle.frame_records.specs.Frames.{AllRecorded, Counts, idle, rests, opens, ended}
 use Rattle.frame_records.specs.Kept.{left_behind}
-use Rattle.frame_records.specs.Kinds.{PicksSo}
-use Rattle.frame_records.specs.Kinds as kind
+use Rattle.frame_records.specs.Picks.{PicksSo}
+use Rattle.frame_records.specs.Picks as kind
 use Rattle.frame_records.specs.Told.{GivesAll, Steps, TellsOf, completed_at, tells, enters, told_with}
 use Rattle.frame_records.specs.Told as told
 use Rattle.frame_records.proofs.Answers.{first_of_answers}
 use Rattle.frame_records.proofs.Events.{along_now, completed_same, events_keep, now_is, records_now, same_told, told_as, told_top}
-use Rattle.frame_records.proofs.Kinds.{picks_are_so}
+use Rattle.frame_records.proofs.Picks.{picks_are_so}
 use Rattle.frame_records.proofs.Steps.{steps_keep}
 
 -- ---- nothing is left out
@@ -186,7 +186,7 @@ module _ (world : World) (st after : State) where
             (first_of_answers frames world.rows t (evaluation u.node u.kind items) (ap is_formed told_so.0.tree ∙ took.before.formed) told_so.1
             (completed_in t u.node) a refl answers)
 
-    place_in : Place → Pick → Place
+    abbrev place_in : Place → Pick → Place
     place_in z Control = z
     place_in z (Ev w) = w
 

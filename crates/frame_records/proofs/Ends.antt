@@ -42,7 +42,7 @@ use Rattle.frame_records.specs.Told.{GivesAll, told_with}
 use Rattle.frame_records.proofs.Audit.{formed_all, some_recorded, walks}
 use Rattle.frame_records.proofs.Events.{none_started}
 use Rattle.frame_records.proofs.Held.{begun_more, held_goes, some_of}
-use Rattle.frame_records.proofs.Kinds.{tail_of}
+use Rattle.frame_records.proofs.Picks.{tail_of}
 use Rattle.frame_records.proofs.Passed.{same_passed}
 use Rattle.frame_records.proofs.Reached.{first_is, reaches_top}
 
@@ -84,10 +84,10 @@ module _ (world : World) (trace : List Entry) (x : Entry) (frames : List FrameRo
     passed_is : r.passed ≡ ends.passed
     passed_is = same_passed world f.scene e r.passed (u ∷ r.ahead) ends.passed (u ∷ ends.ahead) along_e ends.before.along
 
-    split : (front : List Evaluation) × (t.done ≡ front ++ (r.last ∷ []))
+    abbrev split : (front : List Evaluation) × (t.done ≡ front ++ (r.last ∷ []))
     split = last_split t.done r.last r.behind.some r.behind.at
 
-    last_now : Evaluation
+    abbrev last_now : Evaluation
     last_now = record r.last { body = body }
 
     last_place : r.last.place ≡ u
@@ -214,7 +214,7 @@ module _ (world : World) (st : State) (x : Entry) (frames : List FrameRow) (item
   reached = reaches_top world st [] n os k.left k.frame k.expression numbers way.clear.free recorded
       (some_recorded world st st n os k.expression k.is recorded) k.is k.named k.reached k.gives
 
-  t : Opened
+  abbrev t : Opened
   t = told_with (taken_by world st.top.scene k.expression) u items k.reached.top
 
   first : (rest : List Opened) × (es ≡ t ∷ rest)

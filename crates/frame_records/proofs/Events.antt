@@ -29,11 +29,11 @@ use Rattle.detector_laws.proofs.Paths.{under_itself}
 use Rattle.detector_laws.proofs.Recorded.{gathers_recorded, starts_recorded, tells_recorded}
 use Rattle.frame_records.specs.Frames.{AllRecorded, Counts, HeldAre, HeldRecorded, OpenRecorded, idle, rests, opens, ended, below, more}
 use Rattle.frame_records.specs.Kept.{EventsKeep}
-use Rattle.frame_records.specs.Kinds.{PicksSo}
-use Rattle.frame_records.specs.Kinds as kind
+use Rattle.frame_records.specs.Picks.{PicksSo}
+use Rattle.frame_records.specs.Picks as kind
 use Rattle.frame_records.specs.Told.{GivesAll, TellsOf, completed_at, tells, enters, told_with}
 use Rattle.frame_records.proofs.Held.{begun_more, held_count, held_stay, some_of}
-use Rattle.frame_records.proofs.Kinds.{longer, picks_are_so}
+use Rattle.frame_records.proofs.Picks.{longer, picks_are_so}
 use Rattle.frame_records.proofs.Passed.{same_passed}
 use Rattle.frame_records.proofs.Reached.{reaches_top}
 

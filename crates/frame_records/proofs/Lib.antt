@@ -6,7 +6,7 @@ pub mod Ended
 pub mod Ends
 pub mod Events
 pub mod Held
-pub mod Kinds
 pub mod Passed
+pub mod Picks
 pub mod Reached
 pub mod Steps

@@ -30,7 +30,7 @@ use Rattle.frame_records.specs.Frames.{AllRecorded, EndedRecorded, HeldAre, Open
 use Rattle.frame_records.specs.Kept.{ReachesTop}
 use Rattle.frame_records.specs.Told.{GivesAll}
 use Rattle.frame_records.proofs.Held.{some_of}
-use Rattle.frame_records.proofs.Kinds.{longer, tail_of}
+use Rattle.frame_records.proofs.Picks.{longer, tail_of}
 
 same_frame : (f g : Frame) → f.0 ≡ g.0 → f ≡ g
 same_frame f g q = λ i. record { 0 = q i }
@@ -45,10 +45,10 @@ first_is t u ts us q = ap first q
 -- ---- a body of which the frame is left
 module _ (world : World) (trace : List Entry) (f : Scene) (e : Begun) (formed : is_formed (tree_of e.root) ≡ true) (u : Place) (t : Opened)
     (r : EndedRecorded world trace f e u t) (body : Item → Bool) where
-  last_now : Evaluation
+  abbrev last_now : Evaluation
   last_now = record r.last { body = body }
 
-  split : (front : List Evaluation) × (t.done ≡ front ++ (r.last ∷ []))
+  abbrev split : (front : List Evaluation) × (t.done ≡ front ++ (r.last ∷ []))
   split = last_split t.done r.last r.behind.some r.behind.at
 
   given_is : last_given body t.done ≡ split.0 ++ (last_now ∷ [])

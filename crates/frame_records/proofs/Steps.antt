@@ -22,12 +22,12 @@ use Rattle.detector_laws.proofs.Recorded.{begins_recorded}
 use Rattle.frame_records.specs.Frames.{AllRecorded, Counts, EndedRecorded, HeldAre, HeldRecorded, OpenRecorded, RestsRecorded, below, more}
 use Rattle.frame_records.specs.Frames as all
 use Rattle.frame_records.specs.Kept.{StepsKeep, left_behind}
-use Rattle.frame_records.specs.Kinds.{PicksSo}
-use Rattle.frame_records.specs.Kinds as kind
+use Rattle.frame_records.specs.Picks.{PicksSo}
+use Rattle.frame_records.specs.Picks as kind
 use Rattle.frame_records.specs.Told.{Steps, stays, settles, closes, begins, idles, opens}
 use Rattle.frame_records.proofs.Ended.{ends_so, goes_on}
 use Rattle.frame_records.proofs.Held.{begun_more, held_stay, some_of}
-use Rattle.frame_records.proofs.Kinds.{picks_are_so, tail_of}
+use Rattle.frame_records.proofs.Picks.{picks_are_so, tail_of}
 
 begun_none : (f : Scene) (o : Option Begun) (xs : List (Scene × Begun)) → o ≡ None → begun_in f o xs ≡ xs
 begun_none f None xs q = refl
@@ -195,7 +195,7 @@ module _ (world : World) (st after : State) (a : AreFree world st) (left : List 
       waits : AllWaitFree world st.trace st.top.scene.path (h ∷ after.held)
       waits = subst (AllWaitFree world st.trace st.top.scene.path) held a.held
 
-      took_now : TakesEvent world st.trace (x ∷ st.trace) h.0.scene e h.1 after.top
+      abbrev took_now : TakesEvent world st.trace (x ∷ st.trace) h.0.scene e h.1 after.top
       took_now = subst (λ z. TakesEvent world st.trace z h.0.scene e h.1 after.top) newest took
 
       under_body : is_under x.path ((h.0.scene.turn, h.1.node) ∷ h.0.scene.path) ≡ true

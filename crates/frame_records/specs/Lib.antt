@@ -4,5 +4,5 @@ pub mod Audit
 pub mod Ends
 pub mod Frames
 pub mod Kept
-pub mod Kinds
+pub mod Picks
 pub mod Told

@@ -7,7 +7,7 @@ ghost use Rattle.frame_records.specs.Asked.{AboveMayBeTold, AreStartedSo, Behind
 ghost use Rattle.frame_records.specs.Audit.{AuditGoesFree, AuditSeesFirst, StartsBare};
 ghost use Rattle.frame_records.specs.Ends.{AuditEnds, AuditPassesLimit, AuditRaises, AuditReturns, AuditUsesBudget};
 ghost use Rattle.frame_records.specs.Kept.{EventsKeep, ReachesTop, StepsKeep};
-ghost use Rattle.frame_records.specs.Kinds.{PicksAreSo};
+ghost use Rattle.frame_records.specs.Picks.{PicksAreSo};
 
 /// Which pick comes to what: control steps and events.
 pub fn law_pick_kinds()

@@ -18,7 +18,7 @@ use Rattle.listing_laws.proofs.Going.{takes_first}
 use Rattle.detector_laws.specs.Frames.{AllWaitFree, AreFree, ComesTo, IsBareValue, IsEntryOf, StandsFree, TakesEvent, TopStands}
 use Rattle.detector_laws.specs.Frames as come
 use Rattle.detector_laws.proofs.Goes.{picks_come_to, same_state, through_limited, through_within}
-use Rattle.frame_records.specs.Kinds.{PicksAreSo, PicksSo, rests, settles, begins, ends, takes, starts}
+use Rattle.frame_records.specs.Picks.{PicksAreSo, PicksSo, rests, settles, begins, ends, takes, starts}
 
 -- ---- lists
 abbrev rest_of : {X : Type 0} → List X → List X
@@ -70,7 +70,7 @@ module _ (world : World) where
     f = st.top
 
     -- ---- what a pick did to the frames
-    data Moved (p : Pick) : Type 0 where
+    pub data Moved (p : Pick) : Type 0 where
       stay : (v : Value) → after.top ≡ next world f f.begun p v → after.held ≡ st.held → Moved p
       start : (u : Place) → p ≡ Ev u → after.held ≡ (f, u) ∷ st.held → Moved p
       end : (h : Local × Place) → p ≡ Control → st.held ≡ h ∷ after.held → Moved p
@@ -140,7 +140,7 @@ module _ (world : World) where
             omega (arith, z))
 
     -- a frame was started
-    place_of_pick : Pick → Place → Place
+    abbrev place_of_pick : Pick → Place → Place
     place_of_pick Control z = z
     place_of_pick (Ev y) z = y
 
