@@ -44,7 +44,7 @@ use Rattle.frame_records.proofs.Above.{at_behind, behind_at, behind_side, last_s
 use Rattle.frame_records.proofs.Asked.{behind_may_be_told}
 
 -- ---- which node is above
-number_of : Option ℕ → ℕ
+abbrev number_of : Option ℕ → ℕ
 number_of None = 0
 number_of (Some n) = n
 
@@ -154,7 +154,7 @@ module _ (t : Opened) (last : Evaluation) (formed : is_formed t.scope.tree ≡ t
       by_ahead (v ∷ rest) e = by_step v rest e (step_to t last formed stands l v rest e)
 
   -- ---- where there is none above, the operands of the node above are in an order
-  completed_number : Completed → ℕ
+  abbrev completed_number : Completed → ℕ
   completed_number (Operands_of q) = q
   completed_number c = 0
 
@@ -187,7 +187,7 @@ module _ (t : Opened) (last : Evaluation) (formed : is_formed t.scope.tree ≡ t
   choice_or Call = inr (λ choice j. refl)
   choice_or Isolated = inr (λ choice j. refl)
 
-  class_of : Class → Tree → Class
+  abbrev class_of : Class → Tree → Class
   class_of d (node c ts) = c
 
   pub none_apart : (frames : List FrameRow) (rows : List Row) (p : ℕ) (f : Found) → last_in 0 s.tree n ≡ None → completed_in t n ≡ Operands_of p →
@@ -316,17 +316,14 @@ module _ (frames : List FrameRow) (rows : List Row) (t : Opened) where
 -- ---- whatever it completes
 module _ (frames : List FrameRow) (rows : List Row) (t : Opened) (last : Evaluation) (formed : is_formed t.scope.tree ≡ true)
     (stands : StandsBehind t last) where
-  abbrev n : ℕ
-  n = last.place.node
-
-  above_of_own : completed_in t n ≡ Own_node → (o : Option ℕ) → above_of t n ≡ o → o ≡ None
+  above_of_own : completed_in t last.place.node ≡ Own_node → (o : Option ℕ) → above_of t last.place.node ≡ o → o ≡ None
   above_of_own is None q = refl
   above_of_own is (Some m) q =
       absurd (let z : Own_node ≡ Operands_of m = sym is ∙ above_so t last formed stands m q
       (λ e. let w : Own_node ≡ Incomplete = sym is ∙ e in cc (w)) in cc (z))
 
-  above_of_two : (p : ℕ) → completed_in t n ≡ Operands_of p → (o : Option ℕ) → above_of t n ≡ o →
-      (above_of t n ≡ Some p) ⊎ ((above_of t n ≡ None) × ((g : Found) → IsConflictIn frames rows t (AreOfOperands t p) g → ⊥))
+  above_of_two : (p : ℕ) → completed_in t last.place.node ≡ Operands_of p → (o : Option ℕ) → above_of t last.place.node ≡ o →
+      (above_of t last.place.node ≡ Some p) ⊎ ((above_of t last.place.node ≡ None) × ((g : Found) → IsConflictIn frames rows t (AreOfOperands t p) g → ⊥))
   above_of_two p is None q = inr (q, λ g c. none_apart t last formed stands frames rows p g q is c)
   above_of_two p is (Some m) q =
       let z : Operands_of p ≡ Operands_of m = sym is ∙ above_so t last formed stands m q
@@ -337,12 +334,12 @@ module _ (frames : List FrameRow) (rows : List Row) (t : Opened) (last : Evaluat
       number (Operands_of k) = k
       number c = 0
 
-  pub first_of_answers : (c : Completed) (r : Option Found) → completed_in t n ≡ c → Answers frames rows t n c r →
-      IsFirstOf frames (IsConflictIn frames rows t (ByPlaces (ToldPairs t.scope n c))) r
+  pub first_of_answers : (c : Completed) (r : Option Found) → completed_in t last.place.node ≡ c → Answers frames rows t last.place.node c r →
+      IsFirstOf frames (IsConflictIn frames rows t (ByPlaces (ToldPairs t.scope last.place.node c))) r
   first_of_answers _ _ is nothing = λ g c. c.pair
-  first_of_answers _ _ is (own r h) = own_told frames rows t n (above_of_own is (above_of t n) refl) r h
-  first_of_answers _ _ is (sees p f h) = sees_told frames rows t n p f (above_of_two p is (above_of t n) refl) h
-  first_of_answers _ _ is (operands p r none h) = operands_told frames rows t n p r none h
+  first_of_answers _ _ is (own r h) = own_told frames rows t last.place.node (above_of_own is (above_of t last.place.node) refl) r h
+  first_of_answers _ _ is (sees p f h) = sees_told frames rows t last.place.node p f (above_of_two p is (above_of t last.place.node) refl) h
+  first_of_answers _ _ is (operands p r none h) = operands_told frames rows t last.place.node p r none h
 
 pub answers_are_first : AnswersAreFirst
 answers_are_first frames rows t last r formed stands h = first_of_answers frames rows t last formed stands (completed_in t last.place.node) r refl h

@@ -21,7 +21,7 @@ use Rattle.detector_laws.specs.Frames.{TakesEvent, WaitsFree}
 use Rattle.detector_laws.specs.Records.{Records}
 use Rattle.detector_laws.proofs.Bodies.{body_completes_none}
 use Rattle.frame_records.specs.Frames.{EndedRecorded, HeldRecorded}
-use Rattle.frame_records.proofs.Held.{held_goes, some_of}
+use Rattle.frame_records.proofs.Held.{held_records, some_of}
 use Rattle.frame_records.proofs.Passed.{same_passed}
 
 -- ---- behind a body there is an event
@@ -97,4 +97,4 @@ module _ (world : World) where
       now : Records world (x ∷ trace) h.0.scene e took.passed (took.passed ++ h.1 ∷ []) t
       now = subst (λ z. Records world (x ∷ trace) h.0.scene e z (z ++ h.1 ∷ []) t) passed_now
           (subst (λ z. Records world (x ∷ trace) h.0.scene z r.passed (r.passed ++ h.1 ∷ []) t) same_expression
-          (held_goes world trace x h.0 h.1 t w under r).records)
+          (held_records world trace x h.0 h.1 t w under r))

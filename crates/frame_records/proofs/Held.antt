@@ -8,6 +8,7 @@ use Rattle.c_model.specs.Steps.{Begun, Local, Scene}
 use Rattle.c_model.specs.World.{World}
 use Rattle.run_evaluations.specs.Told.{Opened}
 use Rattle.detector_laws.specs.Frames.{AllWaitFree, StandsFree, WaitsFree}
+use Rattle.detector_laws.specs.Records.{Records}
 use Rattle.detector_laws.specs.Shown.{begun_below, begun_in}
 use Rattle.detector_laws.proofs.Paths.{under_tail}
 use Rattle.detector_laws.proofs.Recorded.{stays_recorded}
@@ -30,6 +31,12 @@ module _ (world : World) where
       subst (λ z. StandsFree world trace f.scene z w.passed (u ∷ w.ahead)) same w.stands in
       record { formed = s.formed; along = r.along; free = s.free }
 
+  pub held_records : (trace : List Entry) (x : Entry) (f : Local) (u : Place) (t : Opened) → WaitsFree world trace f u →
+      is_under x.path ((f.scene.turn, u.node) ∷ f.scene.path) ≡ true → (r : HeldRecorded world trace f u t) →
+      Records world (x ∷ trace) f.scene r.expression r.passed (r.passed ++ u ∷ []) t
+  held_records trace x f u t w under r =
+      stays_recorded world trace x f.scene r.expression u r.passed r.ahead t w.body (held_free trace f u t w r) under r.records
+
   pub held_goes : (trace : List Entry) (x : Entry) (f : Local) (u : Place) (t : Opened) → WaitsFree world trace f u →
       is_under x.path ((f.scene.turn, u.node) ∷ f.scene.path) ≡ true → HeldRecorded world trace f u t → HeldRecorded world (x ∷ trace) f u t
   held_goes trace x f u t w under r = record {
@@ -38,7 +45,7 @@ module _ (world : World) where
     passed = r.passed;
     ahead = r.ahead;
     along = r.along;
-    records = stays_recorded world trace x f.scene r.expression u r.passed r.ahead t w.body (held_free trace f u t w r) under r.records;
+    records = held_records trace x f u t w under r;
     last = r.last;
     behind = r.behind;
   }
