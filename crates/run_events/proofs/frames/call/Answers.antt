@@ -27,10 +27,10 @@ returns-in_err-number-clause-calls c =
     (function_of fs 0 c.designated-address.result)
     c.in_err-number.field-0.0 m.memory.rows (store_in m) (c.in_err-number.ensures.exact few fs are agree agrees m.memory.rows (store_in m))))
 
-pub library_of-requires-clause-there : goal.library_of-requires-clause-there
-library_of-requires-clause-there c =
+pub library_of-requires : goal.library_of-requires
+library_of-requires c =
     let found = c.in_ok-number.ensures.callable in
-    slice_get_within c.args.machine.now.program.now.functions c.in_ok-number.number found.0 found.1.0
+    slice_get_within c.args.machine.now.program.now.functions c.in_ok-number.number found.0 found.1
 
 pub returns-in-Some-library_of-clause-calls : goal.returns-in-Some-library_of-clause-calls
 returns-in-Some-library_of-clause-calls c = λ fs agree h few are agrees given.
