@@ -30,7 +30,7 @@ returns-in_err-number-clause-calls c =
 pub library_of-requires : goal.library_of-requires
 library_of-requires c =
     let found = c.in_ok-number.ensures.callable in
-    slice_get_within c.args.machine.now.program.now.functions c.in_ok-number.number found.0 found.1
+    record { there = slice_get_within c.args.machine.now.program.now.functions c.in_ok-number.number found.0 found.1 }
 
 pub returns-in-Some-library_of-clause-calls : goal.returns-in-Some-library_of-clause-calls
 returns-in-Some-library_of-clause-calls c = λ fs agree h few are agrees given.
