@@ -1,11 +1,11 @@
 use Rattle.std.proofs.Common.{◌≡◌, ◌∙◌, ◌^◌, ap, sym, subst, List, Some}
 use Rattle.addr_map.specs.Rows.{row_of, row_at}
-use Rattle.prov_memory.specs.Held.{Held}
-use Rattle.prov_memory.specs.Memory.{Kept, HaveRows}
+use Rattle.mem_objects.specs.Held.{Held}
+use Rattle.mem_objects.specs.Memory.{Kept, HaveRows}
 use Rattle.prov_memory.specs.contracts.memory.Memory.{the_view}
-use Rattle.prov_memory.specs.Made.{AreNamed}
-use Rattle.prov_memory.proofs.PieceLemmas.{named_born}
-use Rattle.prov_memory.proofs.StoreLemmas.{rows_created}
+use Rattle.mem_objects.specs.Made.{AreNamed}
+use Rattle.mem_objects.proofs.PieceLemmas.{named_born}
+use Rattle.mem_objects.proofs.StoreLemmas.{rows_created}
 use Rattle.exposure.specs.declared.prov.Prov.{Prov}
 use Rattle.prov_memory.proofs.BirthLemmas.{failed_kept, failed_row, row_left}
 use Rattle.prov_memory.proofs.KeepLemmas.{keeps_none}
