@@ -73,13 +73,13 @@ impl Object {
         requires room { size ≤ vec_capacity room }
         requires empty { room.items ≡ [] }
         ensures { result ≡ record {
-            name = name;
-            base = base;
-            size = size;
-            state = record { live = true; exposed = false; kind = kind };
-            declared = option_map (λ shape. shape.value) declared;
-            origin = origin;
-            cells = [];
+          name = name;
+          base = base;
+          size = size;
+          state = record { live = true; exposed = false; kind = kind };
+          declared = option_map (λ shape. shape.value) declared;
+          origin = origin;
+          cells = [];
         } }
     {
         Object {

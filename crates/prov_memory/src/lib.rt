@@ -7,6 +7,8 @@ mod memory;
 
 pub use laws::{law_room, law_rows};
 pub use mem_effects::{Outputs, Streams, Touched};
-pub use mem_objects::{Block, CreateFault, LibAnswer, MemByte, MemFault, ObjKind, ObjState, Origin};
-pub use mem_objects::{TypeId, Value, Values, Via};
+pub use mem_objects::{
+    Block, CreateFault, LibAnswer, MemByte, MemFault, ObjKind, ObjState, Origin, TypeId, Value,
+    Values, Via,
+};
 pub use memory::Memory;
