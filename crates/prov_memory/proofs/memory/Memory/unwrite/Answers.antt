@@ -20,9 +20,9 @@ invariant_of-self c =
 pub returns-clause-exact : goal.returns-clause-exact
 returns-clause-exact c = λ io.
     let first : c.note.new.self ≡ Alive c.args.name ∷ [] = first_noted c.clear.new.self c.note.new.self _ c.clear.ensures c.note.ensures in
-    let second : c.note-2.new.self ≡ Alive c.args.name ∷ Write c.args.name 0 c.size-len.len ∷ [] =
+    let second : c.note-2.new.self ≡ Alive c.args.name ∷ Write c.args.name 0 c.size-len.result ∷ [] =
     noted_after c.note.new.self c.note-2.new.self (Alive c.args.name ∷ []) _ first (omega arith) c.note-2.ensures in
-    let size : c.size-len.len ≡ c.in-Some.object.now.size = c.size-len.ensures in
+    let size : c.size-len.result ≡ c.in-Some.object.now.size = c.size-len.ensures in
     rw (← c.self.view_is, c.unwrite.ensures)
     (unwritten_act (the_view c.self.inside) c.args.name c.in-Some.object.now c.note-2.new.self (sym c.in-Some.ensures.object) c.in-Some.ensures.fit
     c.self.invariant (second ∙ ap (λ n. Alive c.args.name ∷ Write c.args.name 0 n ∷ []) size) io)
