@@ -13,7 +13,7 @@ ghost use Rattle.c_typed.specs.declared.program.Function.{Function as Typed};
 ghost use Rattle.c_types.specs.Types.{CType, signature_of};
 ghost use Rattle.mem_spec.specs.Script.{run};
 ghost use Rattle.mem_spec.specs.Store.{Store};
-ghost use Rattle.prov_memory.specs.Memory.{Kept, act_of};
+ghost use Rattle.mem_objects.specs.Memory.{Kept, act_of};
 ghost use Rattle.run_acts.specs.Calls.{AreFunctions, AgreesAsCompatible, call_checks, checked_call, left_of, type_by};
 ghost use Rattle.run_values.specs.Kept.{IsOf};
 ghost use Rattle.run_values.specs.Views.{value_in, value_result};
