@@ -15,12 +15,24 @@ impl Watch for Idle {
     }
 
     #[inline(always)]
-    fn node_done(&mut self, _v: &View, _frame: Frame, _turn: u64, _node: u32) -> Result<Go, NoMemory> {
+    fn node_done(
+        &mut self,
+        _v: &View,
+        _frame: Frame,
+        _turn: u64,
+        _node: u32,
+    ) -> Result<Go, NoMemory> {
         Ok(Go::On)
     }
 
     #[inline(always)]
-    fn operands_done(&mut self, _v: &View, _frame: Frame, _turn: u64, _node: u32) -> Result<Go, NoMemory> {
+    fn operands_done(
+        &mut self,
+        _v: &View,
+        _frame: Frame,
+        _turn: u64,
+        _node: u32,
+    ) -> Result<Go, NoMemory> {
         Ok(Go::On)
     }
 }
