@@ -339,8 +339,9 @@ impl Memory {
         (number, self.pointer_in(object, from))
     }
 
-    // The number of eight bytes that are the pieces, from 0 on, of one pointer value with the provenance of this number; none where they aren't.
-    #[inline(always)]
+    // The number of eight bytes that are the pieces, from 0 on, of one pointer value with the provenance of this number; none where they aren't. Not
+    // inlined, so that its loop has the registers to itself.
+    #[inline(never)]
     fn pieces_number(&self, cells: &[Cell], origin: Origin, from: u64) -> Option<u64>
         requires { from + 8 ≤ 2 ^ 47 }
         ensures number { IfSome result (λ number. Some number ≡ number_if (range_in self.now cells.now from 8)) }
