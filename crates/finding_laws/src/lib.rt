@@ -1,7 +1,7 @@
 //! Footprints, and c_model's definitions of items, their order and the least conflicting pair: one and the same.
 #![tactic(auto)]
 
-ghost use Rattle.finding_laws.specs.AtEnd.{AnyIsHad, OnlyEndsMeet, RacesAsBefore};
+ghost use Rattle.finding_laws.specs.AtEnd.{AnyIsAsked, AnyIsHad, AnyIsHadBesides, OnlyEndsMeet, RacesAsBefore};
 ghost use Rattle.finding_laws.specs.ItemOrder.{ItemsByKeys, PairsByKeys};
 ghost use Rattle.finding_laws.specs.Footprints.{EmptyIsNone, AddIsMore, UnionIsBoth};
 ghost use Rattle.finding_laws.specs.Conflicts.{ConflictsAreTold, RacesAreTold};
@@ -58,6 +58,8 @@ pub fn law_least_of_items()
 /// and they race where their items do.
 pub fn law_items_at_end()
     ensures had { AnyIsHad }
+    ensures besides { AnyIsHadBesides }
+    ensures asked { AnyIsAsked }
     ensures meet { OnlyEndsMeet }
     ensures races { RacesAsBefore }
 {}
