@@ -16,7 +16,7 @@ use Rattle.run_evaluations.specs.Told.{Evaluation, Opened}
 use Rattle.telling_laws.specs.FirstFound.{IsFoundIn}
 use Rattle.telling_laws.specs.Standing.{StandsBehind}
 use Rattle.detector_laws.specs.Frames.{StandsFree}
-use Rattle.detector_laws.specs.Records.{Records}
+use Rattle.detector_laws.specs.Records.{AllAsked, Records}
 use Rattle.ending_laws.specs.Main.{IsEnding}
 use Rattle.ending_laws.specs.Untouched.{AreOnTheWay}
 
@@ -36,13 +36,14 @@ pub record EndsIn (world : World) (trace later : List Entry) (f : Scene) (e : Be
   pub left : (w : Place) → has (passed ++ u ∷ []) w ≡ false → items_by later later f.path f.turn w ≡ []
 
 -- ---- what is told
--- that body was told last, and what was told is what the definitions have
+-- that body was told last, and what was told is what the definitions have; each access of the trace stands with the question whether its object lives
 pub record IsToldAtEnd (world : World) (trace later : List Entry) (f : Scene) (e : Begun) (t : Opened) : Type 0 where
   pub body : Place
   pub ends : EndsIn world trace later f e body
   pub last : Evaluation
   pub records : Records world later f e (ends.passed ++ body ∷ []) (ends.passed ++ body ∷ []) t
   pub stands : StandsBehind t last
+  pub asked : AllAsked later
 
 -- Then what `ended` gives is what c_model finds first in the full expression, and where it is none nothing is found in it; its events are of that frame.
 abbrev pub EndIsFound : Type 0
