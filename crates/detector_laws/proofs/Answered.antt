@@ -17,6 +17,7 @@ use Rattle.c_model.specs.Steps.{Begun, Local, Scene, is_done, taken_by, with_giv
 use Rattle.c_model.specs.World.{World}
 use Rattle.elaborate.specs.Formed.{is_formed}
 use Rattle.finding_laws.specs.FirstPairs.{IsDue}
+use Rattle.finding_laws.specs.Forgotten.{AllAsked}
 use Rattle.listing_laws.specs.Along.{StandsAlong}
 use Rattle.run_evaluations.specs.Scopes.{Scope, part_of}
 use Rattle.run_evaluations.specs.Told.{Opened}
@@ -29,7 +30,7 @@ use Rattle.telling_laws.proofs.Stands.{begins_by}
 use Rattle.detector_laws.specs.Looked.{looked_at, scope_of}
 use Rattle.detector_laws.specs.Frames.{TakesEvent}
 use Rattle.detector_laws.specs.Bare.{IsBareStore}
-use Rattle.detector_laws.specs.Records.{AllAsked, AnswersAreFound, Records}
+use Rattle.detector_laws.specs.Records.{AnswersAreFound, Records}
 use Rattle.detector_laws.proofs.Asked.{by_asked}
 use Rattle.detector_laws.proofs.Free.{done_as, done_if_shown, shown_of_quarrel, shown_of_race}
 use Rattle.detector_laws.proofs.Paths.{and_b, and_l, and_r, not_true}

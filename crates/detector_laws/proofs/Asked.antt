@@ -11,9 +11,8 @@ use Rattle.c_model.specs.Keys.{all_by_bytes, by_bytes}
 use Rattle.c_model.specs.Moments.{is_of, items_by}
 use Rattle.c_model.specs.Runs.{Entry}
 use Rattle.finding_laws.specs.Footprints.{IsAmong}
-use Rattle.finding_laws.specs.Forgotten.{AreAsked}
+use Rattle.finding_laws.specs.Forgotten.{AllAsked, AreAsked}
 use Rattle.finding_laws.proofs.Bytes.{left_of, one_of, right_of}
-use Rattle.detector_laws.specs.Records.{AllAsked}
 
 -- ---- lists
 none_asked : AreAsked []

@@ -14,7 +14,7 @@ use Rattle.c_model.specs.World.{World}
 use Rattle.evaluation_log.specs.Touched.{touched}
 use Rattle.evaluation_log.specs.declared.found.Found.{Found}
 use Rattle.evaluation_search.specs.First.{IsFirstOf}
-use Rattle.finding_laws.specs.Forgotten.{AreAsked, HasItemsBut, HasItemsOf}
+use Rattle.finding_laws.specs.Forgotten.{AllAsked, HasItemsBut, HasItemsOf}
 use Rattle.finding_laws.specs.LeastPairs.{HasItems}
 use Rattle.run_evaluations.specs.First.{IsConflictIn}
 use Rattle.run_evaluations.specs.Shows.{IsAmong}
@@ -85,12 +85,8 @@ GathersRecorded = (world : World) (trace : List Entry) (f : Scene) (e : Begun) (
     → Records world trace f e closed done t → Records world trace f e closed done (gathered n t)
 
 -- ---- what is answered
--- in each entry of the trace each access stands with the question whether its object lives
-abbrev pub AllAsked : List Entry → Type 0
-AllAsked [] = Unit {0}
-AllAsked (x ∷ xs) = AreAsked x.items × AllAsked xs
-
--- behind an event, the first conflict of the pairs of which the calls tell is what c_model finds there, and where they have none nothing is found
+-- behind an event, the first conflict of the pairs of which the calls tell is what c_model finds there, and where they have none nothing is found; in the
+-- trace each access stands with the question whether its object lives
 abbrev pub AnswersAreFound : Type 0
 AnswersAreFound = (world : World) (trace later : List Entry) (f : Scene) (e : Begun) (u : Place) (top : Local) (t : Opened) (frames : List FrameRow)
     (r : Option Found) → (took : TakesEvent world trace later f e u top)

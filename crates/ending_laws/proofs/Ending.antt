@@ -33,7 +33,7 @@ use Rattle.evaluation_search.specs.First.{IsFirstOf, sought_of}
 use Rattle.finding_laws.specs.AtEnd.{with_any}
 use Rattle.finding_laws.specs.FirstPairs.{IsDue, place_key, precedes}
 use Rattle.finding_laws.specs.Footprints.{IsAmong as IsItemOf}
-use Rattle.finding_laws.specs.Forgotten.{AreAsked, HasItemsBut, HasItemsOf, IsLost}
+use Rattle.finding_laws.specs.Forgotten.{AllAsked, AreAsked, HasItemsBut, HasItemsOf, IsLost}
 use Rattle.finding_laws.specs.LeastPairs.{HasItems}
 use Rattle.finding_laws.proofs.AtEnd.{any_is_asked, any_is_had_besides, only_ends_meet, races_as_before}
 use Rattle.finding_laws.proofs.Bytes.{right_of}
@@ -52,7 +52,7 @@ use Rattle.telling_laws.proofs.New.{key_small, neither, node_order, not_any, not
 use Rattle.telling_laws.proofs.OwnLemmas.{only_stores_conflict}
 use Rattle.telling_laws.proofs.Splits.{append_one, last_split, places_push}
 use Rattle.detector_laws.specs.Looked.{looked_at, scope_of}
-use Rattle.detector_laws.specs.Records.{AllAsked, Records}
+use Rattle.detector_laws.specs.Records.{Records}
 use Rattle.detector_laws.proofs.Asked.{by_asked}
 use Rattle.detector_laws.proofs.Free.{done_as}
 use Rattle.detector_laws.proofs.Recorded.{has_place}

@@ -11,12 +11,13 @@ use Rattle.c_model.specs.Steps.{Begun, Local, Scene, taken_by}
 use Rattle.c_model.specs.World.{World}
 use Rattle.evaluation_log.specs.declared.found.Found.{Found}
 use Rattle.evaluation_search.specs.First.{IsFirstOf}
+use Rattle.finding_laws.specs.Forgotten.{AllAsked}
 use Rattle.run_evaluations.specs.FirstAtEnd.{IsConflictAtEnd}
 use Rattle.run_evaluations.specs.Told.{Evaluation, Opened}
 use Rattle.telling_laws.specs.FirstFound.{IsFoundIn}
 use Rattle.telling_laws.specs.Standing.{StandsBehind}
 use Rattle.detector_laws.specs.Frames.{StandsFree}
-use Rattle.detector_laws.specs.Records.{AllAsked, Records}
+use Rattle.detector_laws.specs.Records.{Records}
 use Rattle.ending_laws.specs.Main.{IsEnding}
 use Rattle.ending_laws.specs.Untouched.{AreOnTheWay}
 

@@ -1,6 +1,6 @@
 -- The definition's search finds the least pair in the order of rows.
 use Rattle.std.proofs.Common.{◌≡◌, ◌⊎◌, inl, inr, ⊎_elim, ℕ, ◌≤◌, ◌<◌, arith, Bool, true, false, cond, List, [], ◌∷◌, refl, sym, ap, ◌∙◌, subst, Option, Some}
-use Rattle.std.proofs.Common.{None}
+use Rattle.std.proofs.Common.{None, ◌&&◌, ◌||◌, true≢false}
 use Rattle.std.specs.Ordering.{nat_cmp, ordering_reverse, ordering_then, MatchOrdering}
 use Rattle.std.proofs.lemmas.Cmp.{ranked}
 use Rattle.std.specs.declared.cmp.Ordering.{Ordering}
@@ -8,9 +8,11 @@ use Rattle.std.specs.declared.cmp.Ordering.TheVariants.{Less, Equal, Greater}
 use Rattle.ub_base.specs.declared.names.ObjName.{ObjName}
 use Rattle.ub_base.specs.declared.names.Item.{Item}
 use Rattle.ub_base.specs.declared.names.Item.TheVariants.{Read, Write, Born, Dies, Alive, Expose, Lookup, Narrow, Input, Output, Ending, Any}
-use Rattle.addr_map.specs.Conflict.{items_conflict, stands_at, is_access}
+use Rattle.ub_base.specs.Names.{same_object}
+use Rattle.ub_base.proofs.NameLemmas.{same_object_is, same_object_refl}
+use Rattle.addr_map.specs.Conflict.{conflicts_one, items_conflict, overlap, stands_at, is_access}
 use Rattle.ub_base.specs.Frames.{Row}
-use Rattle.footprint.specs.Holds.{holds}
+use Rattle.footprint.specs.Holds.{holds, is_forgotten}
 use Rattle.footprint.specs.Least.{item_rank, item_cmp, pair_cmp, IsLeast}
 use Rattle.footprint.specs.Least as rows_order
 use Rattle.footprint.proofs.LeastLemmas.{pair_total, both, alike, not_itself}
@@ -20,6 +22,7 @@ use Rattle.c_model.specs.Findings.{clash}
 use Rattle.c_model.specs.Keys.{lesser, least_beside, least_among, all_by_bytes, least_items}
 use Rattle.finding_laws.specs.ItemOrder.{IsKnownItem}
 use Rattle.finding_laws.specs.Footprints.{IsAmong}
+use Rattle.finding_laws.specs.Forgotten.{HasItemsBut, LeastBesides, TouchesAlone, touches}
 use Rattle.finding_laws.specs.LeastPairs.{LeastAccesses, LeastIsTold, LeastOfItems}
 use Rattle.finding_laws.proofs.Keys.{pairs_by}
 use Rattle.finding_laws.proofs.OneItem.{IsByte, pair_is}
@@ -145,6 +148,72 @@ least_of_items world trace rows is js f g pair ki kj hf hg least =
     (Among world trace rows (λ a b. ⊥) (all_by_bytes is) (all_by_bytes js)) pair
     (λ a b c. inr ((hf a).0 c.0, (hg b).0 c.1, c.2))
     (λ a b one. ⊎_elim (λ none. absurd none) (λ own. ((hf a).1 own.0, (hg b).1 own.1, own.2)) one) least)
+    (among world trace rows (all_by_bytes is) (all_by_bytes js) None (λ a b. ⊥) ki kj tt (λ a b none. none))
+
+-- ---- where accesses are forgotten
+turned : (x y : ObjName) → same_object x y ≡ true → same_object y x ≡ true
+turned x y h = subst (λ (z : ObjName). same_object z x ≡ true) (same_object_is x y h) (same_object_refl x)
+
+either_first : (p q : Bool) → (p || q) ≡ true → (p ≡ true) ⊎ (q ≡ true)
+either_first true q h = inl refl
+either_first false q h = inr h
+
+or_first : (p q : Bool) → p ≡ true → (p || q) ≡ true
+or_first p q h = ap (λ r. r || q) h
+
+or_second : (p q : Bool) → q ≡ true → (p || q) ≡ true
+or_second true q h = refl
+or_second false q h = h
+
+first_of_both : (p q : Bool) → (p && q) ≡ true → p ≡ true
+first_of_both true q h = refl
+first_of_both false q h = h
+
+-- what conflicts with a forgotten access touches its object
+module _ (stands : ObjName → ℕ → Bool) where
+  same_as : (x y z : ObjName) → same_object x y ≡ true → same_object z y ≡ true → same_object x z ≡ true
+  same_as x y z p q = subst (λ (w : ObjName). same_object x w ≡ true) (sym (same_object_is z y q)) p
+
+  other_touches : (x : ObjName) (i j : Item) → is_forgotten x i ≡ true → items_conflict stands i j ≡ true → touches x j ≡ true
+  other_touches x (Read y a n) (Write z b m) f c = same_as x y z f (first_of_both (same_object z y) _ c)
+  other_touches x (Write y a n) (Read z b m) f c =
+      same_as x y z f
+      (turned y z (first_of_both (same_object y z) _ (⊎_elim (λ l. l) (λ r. absurd (cc)) (either_first (same_object y z && overlap a n b m) false c))))
+  other_touches x (Write y a n) (Write z b m) f c =
+      same_as x y z f
+      (⊎_elim (λ l. turned y z (first_of_both (same_object y z) _ l)) (λ r. first_of_both (same_object z y) _ r)
+      (either_first (same_object y z && overlap a n b m) (same_object z y && overlap b m a n) c))
+  other_touches x (Alive y) (Born z) f c = same_as x y z f c
+  other_touches x (Alive y) (Dies z) f c = same_as x y z f c
+  other_touches x _ _ f c = absurd (cc)
+
+  exchanged : (i j : Item) → items_conflict stands i j ≡ true → items_conflict stands j i ≡ true
+  exchanged i j h =
+      ⊎_elim (λ l. or_second (conflicts_one stands j i) _ l) (λ r. or_first _ (conflicts_one stands i j) r)
+      (either_first (conflicts_one stands i j) (conflicts_one stands j i) h)
+
+  -- so of items that conflict each is had
+  held : (f : Item → Bool) (is js : List Item) → HasItemsBut f is → TouchesAlone f js → (i j : Item) → IsAmong (all_by_bytes is) i →
+      IsAmong (all_by_bytes js) j → items_conflict stands i j ≡ true → f i ≡ true
+  held f is js hf alone i j hi hj c =
+      ⊎_elim (λ own. own)
+      (λ lost. absurd (true≢false (sym (other_touches lost.0 i j lost.1 c) ∙ alone lost.0 lost.2 lost.3 j hj)))
+      (hf.all i hi)
+
+pub least_besides : LeastBesides
+least_besides world trace rows is js f g pair ki kj hf hg af ag least =
+    only_one world trace rows (Among world trace rows (λ a b. ⊥) (all_by_bytes is) (all_by_bytes js)) pair (least_items world trace is js)
+    (λ a b one. ⊎_elim (λ none. absurd none)
+    (λ own. (are_bytes is a own.0, are_bytes js b own.1, ki a own.0, kj b own.1)) one)
+    (alike rows (λ i j. (f i ≡ true) × (g j ≡ true) × (items_conflict (stands_at world.rows) i j ≡ true))
+    (Among world trace rows (λ a b. ⊥) (all_by_bytes is) (all_by_bytes js)) pair
+    (λ a b c. inr (hf.only a c.0, hg.only b c.1, c.2))
+    (λ a b one. ⊎_elim (λ none. absurd none)
+    (λ own. (
+      held (stands_at world.rows) f is js hf af a b own.0 own.1 own.2,
+      held (stands_at world.rows) g js is hg ag b a own.1 own.0 (exchanged (stands_at world.rows) a b own.2),
+      own.2,
+    )) one) least)
     (among world trace rows (all_by_bytes is) (all_by_bytes js) None (λ a b. ⊥) ki kj tt (λ a b none. none))
 
 pub least_is_told : LeastIsTold

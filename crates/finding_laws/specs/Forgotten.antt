@@ -1,17 +1,19 @@
 -- Accesses of an object that only one evaluation has to do with (own).
-use Rattle.std.specs.Prelude.{◌≡◌, ◌⊎◌, ℕ, Bool, true, false, not, List, [], ◌∷◌, if◌then◌else◌}
+use Rattle.std.specs.Prelude.{◌≡◌, ◌⊎◌, ℕ, Bool, true, false, not, List, [], ◌∷◌, Option, if◌then◌else◌}
 use Rattle.std.specs.List.{list_all}
 use Rattle.ub_base.specs.declared.names.ObjName.{ObjName}
 use Rattle.ub_base.specs.declared.names.Item.{Item}
 use Rattle.ub_base.specs.declared.names.Item.TheVariants.{Read, Write, Born, Dies, Alive}
+use Rattle.ub_base.specs.Frames.{Row}
 use Rattle.ub_base.specs.Names.{same_object}
-use Rattle.addr_map.specs.Conflict.{some_conflict}
+use Rattle.addr_map.specs.Conflict.{items_conflict, some_conflict, stands_at}
 use Rattle.footprint.specs.Holds.{is_forgotten}
+use Rattle.footprint.specs.Least.{IsLeast}
 use Rattle.c_model.specs.World.{World}
 use Rattle.c_model.specs.Runs.{Entry}
 use Rattle.c_model.specs.Keys.{all_by_bytes, least_items}
 use Rattle.finding_laws.specs.Footprints.{IsAmong}
-use Rattle.finding_laws.specs.LeastPairs.{HasItems}
+use Rattle.finding_laws.specs.LeastPairs.{AreKnown, HasItems}
 
 -- the items without the reads, the writes and the uses of an object
 abbrev pub without : ObjName → List Item → List Item
@@ -59,3 +61,27 @@ HasItemsOf false f is = HasItems f is
 pub record AreAsked (is : List Item) : Type 0 where
   pub reads : (x : ObjName) (a n : ℕ) → IsAmong (all_by_bytes is) (Read x a n) → IsAmong (all_by_bytes is) (Alive x)
   pub writes : (x : ObjName) (a n : ℕ) → IsAmong (all_by_bytes is) (Write x a n) → IsAmong (all_by_bytes is) (Alive x)
+
+-- so it is in each entry of a trace
+abbrev pub AllAsked : List Entry → Type 0
+AllAsked [] = Unit {0}
+AllAsked (e ∷ es) = AreAsked e.items × AllAsked es
+
+-- ---- the least pair, where each of the two touches alone the objects whose accesses it has forgotten
+-- a read, a write, the birth or the death of the object
+abbrev pub touches : ObjName → Item → Bool
+touches x (Read y a n) = same_object x y
+touches x (Write y a n) = same_object x y
+touches x (Born y) = same_object x y
+touches x (Dies y) = same_object x y
+touches x _ = false
+
+-- of an object of which the birth and the death are had, the list has none of these
+abbrev pub TouchesAlone : (Item → Bool) → List Item → Type 0
+TouchesAlone f js = (x : ObjName) → f (Born x) ≡ true → f (Dies x) ≡ true → (j : Item) → IsAmong (all_by_bytes js) j → touches x j ≡ false
+
+-- then the least pair that conflicts of what is had is that of all items
+abbrev pub LeastBesides : Type 0
+LeastBesides = (world : World) (trace : List Entry) (rows : List Row) (is js : List Item) (f g : Item → Bool) (pair : Option (Item × Item))
+    → AreKnown world trace rows is → AreKnown world trace rows js → HasItemsBut f is → HasItemsBut g js → TouchesAlone f js → TouchesAlone g is →
+    IsLeast rows (λ i j. (f i ≡ true) × (g j ≡ true) × (items_conflict (stands_at world.rows) i j ≡ true)) pair → pair ≡ least_items world trace is js
