@@ -69,12 +69,12 @@ module _ (world : World) (library : LibraryAsked world) where
 
   -- ---- orders of picks
   order_asks : (st : State) (ps : List Pick) (o : Outcome) → AllAsked st.trace → After world st ps o → AllAsked (trace_of o)
-  order_asks st [] o h (here st) = h
-  order_asks st (p ∷ ps) o h (refused st p ps no) = tt
-  order_asks st (p ∷ []) o h (last st p may) = step_asks st p h
-  order_asks st (p ∷ q ∷ ps) o h (more st next p q ps o may steps rest) =
+  order_asks st _ _ h (here _) = h
+  order_asks st _ _ h (refused _ p ps barred) = tt
+  order_asks st _ _ h (last _ p may) = step_asks st p h
+  order_asks st _ _ h (more _ next p q ps o may steps rest) =
       order_asks next (q ∷ ps) o (subst (λ (z : Outcome). AllAsked (trace_of z)) steps (step_asks st p h)) rest
-  order_asks st (p ∷ q ∷ ps) o h (too_late st p q ps may stopped) = tt
+  order_asks st _ _ h (too_late _ p q ps may stopped) = tt
 
 pub picks_ask : PicksAsk
 picks_ask world st p o library h is = subst (λ (z : Outcome). AllAsked (trace_of z)) is (step_asks world library st p h)
