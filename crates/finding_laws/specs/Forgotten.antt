@@ -67,21 +67,19 @@ abbrev pub AllAsked : List Entry → Type 0
 AllAsked [] = Unit {0}
 AllAsked (e ∷ es) = AreAsked e.items × AllAsked es
 
--- ---- the least pair, where each of the two touches alone the objects whose accesses it has forgotten
--- a read, a write, the birth or the death of the object
-abbrev pub touches : ObjName → Item → Bool
-touches x (Read y a n) = same_object x y
-touches x (Write y a n) = same_object x y
-touches x (Born y) = same_object x y
-touches x (Dies y) = same_object x y
-touches x _ = false
+-- ---- the least pair, where neither of the two accesses an object whose accesses the other has forgotten
+-- a read or a write of the object
+abbrev pub is_access_of : ObjName → Item → Bool
+is_access_of x (Read y a n) = same_object x y
+is_access_of x (Write y a n) = same_object x y
+is_access_of x _ = false
 
--- of an object of which the birth and the death are had, the list has none of these
-abbrev pub TouchesAlone : (Item → Bool) → List Item → Type 0
-TouchesAlone f js = (x : ObjName) → f (Born x) ≡ true → f (Dies x) ≡ true → (j : Item) → IsAmong (all_by_bytes js) j → touches x j ≡ false
+-- of an object of which the birth and the death are had, the list has none
+abbrev pub AccessesAlone : (Item → Bool) → List Item → Type 0
+AccessesAlone f js = (x : ObjName) → f (Born x) ≡ true → f (Dies x) ≡ true → (j : Item) → IsAmong (all_by_bytes js) j → is_access_of x j ≡ false
 
--- then the least pair that conflicts of what is had is that of all items
+-- Then the least pair that conflicts of what is had is that of all items: beside a question whether an object lives, its death makes a lesser one.
 abbrev pub LeastBesides : Type 0
 LeastBesides = (world : World) (trace : List Entry) (rows : List Row) (is js : List Item) (f g : Item → Bool) (pair : Option (Item × Item))
-    → AreKnown world trace rows is → AreKnown world trace rows js → HasItemsBut f is → HasItemsBut g js → TouchesAlone f js → TouchesAlone g is →
+    → AreKnown world trace rows is → AreKnown world trace rows js → HasItemsBut f is → HasItemsBut g js → AccessesAlone f js → AccessesAlone g is →
     IsLeast rows (λ i j. (f i ≡ true) × (g j ≡ true) × (items_conflict (stands_at world.rows) i j ≡ true)) pair → pair ≡ least_items world trace is js

@@ -49,7 +49,7 @@ pub fn law_first_pair()
 {}
 
 /// The least pair of items that conflict, of two evaluations that have the items of two lists, is the definition's; so are the least accesses of a race. It is
-/// so too where they have forgotten accesses of objects that each of them touches alone.
+/// so too where they have forgotten accesses of objects that the other doesn't access.
 pub fn law_least_of_items()
     ensures any { LeastOfItems }
     ensures races { LeastAccesses }
