@@ -1,5 +1,5 @@
 -- The item `any` behind those of an event.
-use Rattle.std.proofs.Common.{◌≡◌, ◌⊎◌, inl, inr, ⊎_elim, Bool, true, false, ◌||◌, List, [], ◌∷◌, ◌++◌, refl, sym, ap, ◌∙◌, if◌then◌else◌, ℕ, subst}
+use Rattle.std.proofs.Common.{◌≡◌, inl, inr, ⊎_elim, Bool, true, false, ◌||◌, List, [], ◌∷◌, ◌++◌, refl, sym, ap, ◌∙◌, if◌then◌else◌, ℕ, subst}
 use Rattle.ub_base.proofs.Tests.{or_cases, or_left, or_right}
 use Rattle.ub_base.specs.declared.names.ObjName.{ObjName}
 use Rattle.ub_base.specs.declared.names.Item.{Item}
@@ -7,12 +7,11 @@ use Rattle.ub_base.specs.declared.names.Item.TheVariants.{Read, Write, Born, Die
 use Rattle.addr_map.specs.declared.map.Row.{Row}
 use Rattle.addr_map.specs.Conflict.{conflicts_with, is_access, items_conflict, some_conflict, stands_at}
 use Rattle.footprint.specs.Holds.{stands_for}
-use Rattle.c_model.specs.Findings.{accesses, has_ending}
+use Rattle.c_model.specs.Findings.{has_ending}
 use Rattle.c_model.specs.Keys.{all_by_bytes, by_bytes}
 use Rattle.finding_laws.specs.AtEnd.{AnyIsAsked, AnyIsHad, AnyIsHadBesides, OnlyEndsMeet, RacesAsBefore, with_any}
 use Rattle.finding_laws.specs.Footprints.{IsAmong}
 use Rattle.finding_laws.specs.Forgotten.{AreAsked, HasItemsBut, IsLost}
-use Rattle.finding_laws.specs.LeastPairs.{HasItems}
 use Rattle.finding_laws.proofs.Bytes.{left_of, one_of, right_of}
 
 is_ending : Item → Bool

@@ -212,11 +212,13 @@ module _ (stands : ObjName → ℕ → Bool) where
   of_lost f g js hg alone i j lost hj c = ⊎_elim
       (λ access. absurd (true≢false (sym access ∙ alone lost.0 lost.2 lost.3 j hj)))
       (λ asks. (
-      lost.0, asks.0, lost.3,
-      ⊎_elim (λ e. subst (λ (k : Item). g k ≡ true) e (birth_had g js hg lost.0 (subst (IsAmong (all_by_bytes js)) (sym e) hj)))
-      (λ e. subst (λ (k : Item). g k ≡ true) e (death_had g js hg lost.0 (subst (IsAmong (all_by_bytes js)) (sym e) hj))) asks.1,
-      ⊎_elim (λ e. subst (λ (k : Item). items_conflict stands (Dies lost.0) k ≡ true) e (or_first _ _ (same_object_refl lost.0)))
-      (λ e. subst (λ (k : Item). items_conflict stands (Dies lost.0) k ≡ true) e (or_first _ _ (same_object_refl lost.0))) asks.1,
+        lost.0,
+        asks.0,
+        lost.3,
+        ⊎_elim (λ e. subst (λ (k : Item). g k ≡ true) e (birth_had g js hg lost.0 (subst (IsAmong (all_by_bytes js)) (sym e) hj)))
+            (λ e. subst (λ (k : Item). g k ≡ true) e (death_had g js hg lost.0 (subst (IsAmong (all_by_bytes js)) (sym e) hj))) asks.1,
+        ⊎_elim (λ e. subst (λ (k : Item). items_conflict stands (Dies lost.0) k ≡ true) e (or_first _ _ (same_object_refl lost.0)))
+            (λ e. subst (λ (k : Item). items_conflict stands (Dies lost.0) k ≡ true) e (or_first _ _ (same_object_refl lost.0))) asks.1,
       ))
       (beside_lost lost.0 i j lost.1 c)
 
@@ -248,7 +250,9 @@ module _ (rows : List Row) (stands : ObjName → ℕ → Bool) (is js : List Ite
   second_lost : (i j : Item) → All i j → IsLost g j → LesserHad i j
   second_lost i j (hi, hj, c) lost =
       let r = of_lost stands g f is hf ag j i lost hi (exchanged stands i j c) in (
-        i, Dies r.0, (r.3, r.2, exchanged stands (Dies r.0) i r.4),
+        i,
+        Dies r.0,
+        (r.3, r.2, exchanged stands (Dies r.0) i r.4),
         subst (λ (k : Item). pair_cmp rows (i, Dies r.0) (i, k) ≡ Less) r.1 (lesser_second rows r.0 i),
       )
 
