@@ -120,15 +120,14 @@ module _ (world : World)
   does_asks f (Some e) Control bs = inl tt
   does_asks f (Some e) (Ev u) bs = event_asks f.scene e u (at_node 0 e.root u.node) bs
 
+  abbrev items_in : List Item → Act Value → List Item
+  items_in is (Ended m js t) = js
+  items_in is _ = is
+
   pub ends_with : (f : Local) (b : Option Begun) (p : Pick) (s : Store) (n : ℕ) (is : List Item) (s1 : Store) → run world.rows (does world f b p) s ≡ Ended n is s1
       → is ≡ Ending ∷ []
   ends_with f b p s n is s1 h = go (does_asks f b p [])
     where
-      items_in : Act Value → List Item
-      items_in (Ended m js t) = js
-      items_in _ = is
-
       go : AskedOrEnds world.rows (does world f b p) [] → is ≡ Ending ∷ []
-      unfolding items_in
       go (inl a) = absurd (never_ends world.rows (does world f b p) [] s n is s1 a h)
-      go (inr (m, e)) = ap items_in (sym h ∙ ap (λ z. run world.rows z s) e)
+      go (inr (m, e)) = ap (items_in is) (sym h ∙ ap (λ z. run world.rows z s) e)
