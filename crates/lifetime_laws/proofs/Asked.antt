@@ -100,4 +100,5 @@ starts_ask world input vs st is =
 pub library_runs_ask : LibraryRunsAsk
 library_runs_ask world input vs st ps o library starts after =
     order_asks world
-    (λ g who ts ws bs. subst (λ l. AskedOrEnds world.rows (l g who ts ws) bs) (sym library) (library_asks world.rows g who ts ws bs)) st ps o (starts_ask world input vs st starts) after
+    (λ g who ts ws bs. subst (λ l. AskedOrEnds world.rows (l g who ts ws) bs) (sym library) (library_asks world.rows g who ts ws bs)) st ps o
+    (starts_ask world input vs st starts) after

@@ -124,7 +124,8 @@ module _ (world : World)
   items_in is (Ended m js t) = js
   items_in is _ = is
 
-  pub ends_with : (f : Local) (b : Option Begun) (p : Pick) (s : Store) (n : ℕ) (is : List Item) (s1 : Store) → run world.rows (does world f b p) s ≡ Ended n is s1
+  pub ends_with : (f : Local) (b : Option Begun) (p : Pick) (s : Store) (n : ℕ) (is : List Item) (s1 : Store) →
+      run world.rows (does world f b p) s ≡ Ended n is s1
       → is ≡ Ending ∷ []
   ends_with f b p s n is s1 h = go (does_asks f b p [])
     where

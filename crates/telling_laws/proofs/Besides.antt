@@ -30,8 +30,11 @@ module _ (stands : ObjName → ℕ → Bool) (g : Item → Bool) (js : List Item
   of_alive : (x : ObjName) → IsAmong (all_by_bytes js) (Alive x) → MeetsDeath x
   of_alive x h = ⊎_elim
       (λ held. (Alive x, held, or_a _ _ (same_object_refl x)))
-      (λ lost. (Dies lost.0, lost.3,
-      subst (λ (y : ObjName). items_conflict stands (Dies x) (Dies y) ≡ true) (sym (same_object_is lost.0 x lost.1)) (or_a _ _ (same_object_refl x))))
+      (λ lost. (
+        Dies lost.0,
+        lost.3,
+        subst (λ (y : ObjName). items_conflict stands (Dies x) (Dies y) ≡ true) (sym (same_object_is lost.0 x lost.1)) (or_a _ _ (same_object_refl x)),
+      ))
       (has.all (Alive x) h)
 
   of_birth : (x : ObjName) → IsAmong (all_by_bytes js) (Born x) → MeetsDeath x
