@@ -18,7 +18,6 @@ use Rattle.completion_laws.specs.Completed.{completed_next, with_above}
 use Rattle.completion_laws.proofs.Lists.{has_at}
 use Rattle.conflict_detector.specs.Complete.{IsConflictAbove, IsConflictDone, MayGather, above_of}
 use Rattle.conflict_detector.specs.Telling.{TellsAt}
-use Rattle.conflict_detector.proofs.Pairs.{conflict_clashes, none_of_two}
 use Rattle.elaborate.specs.Formed.{is_formed}
 use Rattle.evaluation_log.specs.Sides.{Side, first_loud, last_if, last_in, sides_from}
 use Rattle.evaluation_log.specs.declared.found.Found.{Found}
@@ -42,6 +41,7 @@ use Rattle.frame_records.specs.Answers.{Answers, AnswersAreFirst, SeesOr, nothin
 use Rattle.frame_records.specs.Asked.{AboveMayBeTold}
 use Rattle.frame_records.proofs.Above.{at_behind, behind_at, behind_side, last_side, none_loud, some_loud, up_last}
 use Rattle.frame_records.proofs.Asked.{behind_may_be_told}
+use Rattle.frame_records.proofs.Pairs.{conflict_clashes, none_of_two}
 
 -- ---- which node is above
 abbrev number_of : Option ℕ → ℕ

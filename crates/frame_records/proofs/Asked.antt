@@ -14,7 +14,6 @@ use Rattle.c_model.specs.Steps.{Begun, Control, Ev, Local, Pick, Scene, taken_by
 use Rattle.c_model.specs.World.{NumbersFrames, World}
 use Rattle.conflict_detector.specs.Complete.{AreDone, CanEnd}
 use Rattle.conflict_detector.specs.Telling.{AreStarted, IsBare, IsOpen, IsReached, TellsAt, TellsEvent}
-use Rattle.conflict_detector.proofs.Pairs.{beginnings_done}
 use Rattle.elaborate.specs.Formed.{is_formed}
 use Rattle.listing_laws.specs.Along.{StandsAlong}
 use Rattle.run_evaluations.specs.Follows.{HasStarted}
@@ -38,6 +37,7 @@ use Rattle.frame_records.specs.Picks as kind
 use Rattle.frame_records.proofs.Picks.{picks_are_so}
 use Rattle.frame_records.proofs.Passed.{same_passed}
 use Rattle.frame_records.proofs.Reached.{reaches_open}
+use Rattle.frame_records.proofs.Pairs.{beginnings_done}
 
 -- ---- each was started by an evaluation of the one below it
 done_some : (t : Opened) (us : List Opened) → 0 < length t.done → HasStarted t us

@@ -19,6 +19,7 @@ use Rattle.conflict_detector.specs.Telling.{IsBare, IsReached}
 use Rattle.elaborate.specs.Formed.{is_formed}
 use Rattle.evaluation_log.specs.declared.found.Found.{Found}
 use Rattle.evaluation_search.specs.First.{IsFirstOf}
+use Rattle.finding_laws.specs.Forgotten.{AllAsked}
 use Rattle.run_evaluations.specs.First.{IsConflictIn}
 use Rattle.run_evaluations.specs.Told.{Opened, evaluation}
 use Rattle.telling_laws.specs.FirstFound.{ByPlaces, IsFoundIn, ToldPairs}
@@ -39,7 +40,7 @@ use Rattle.detector_laws.proofs.Firsts.{conflict_is_first}
 use Rattle.detector_laws.proofs.Free.{begins_free}
 use Rattle.detector_laws.proofs.Goes.{same_state, through_limited, through_within}
 use Rattle.frame_records.specs.Answers.{Answers}
-use Rattle.frame_records.specs.Audit.{AnswersOf, AreFormed, AuditGoesFree, AuditSeesFirst, StartsBare, TellsNewest, Walks, begins, steps, tells_of}
+use Rattle.frame_records.specs.Audit.{AnswersOf, AreFormed, AsksAll, AuditGoesFree, AuditSeesFirst, StartsBare, TellsNewest, Walks, begins, steps, tells_of}
 use Rattle.frame_records.specs.Frames.{AllRecorded, Counts, idle, rests, opens, ended}
 use Rattle.frame_records.specs.Kept.{left_behind}
 use Rattle.frame_records.specs.Picks.{PicksSo}
@@ -131,7 +132,7 @@ module _ (world : World) (st after : State) where
   -- ---- what the calls answer behind an event is what is found there
   module _ (n : ℕ) (os : List Opened) (u : Place) (items : List Item) (frames : List FrameRow) (numbers : NumbersFrames world.number)
       (clear : AreClear world st) (r : AllRecorded world st [] n os) (some : 0 < n) (has_items : TellsNewest items after)
-      (bare : AreBare world after) where
+      (bare : AreBare world after) (asked : AllAsked after.trace) where
     abbrev Seen : Begun → Option Found → Type 0
     Seen d a = IsFoundIn world.rows (looked_at world after.trace after.top.scene d) a
 
@@ -144,7 +145,7 @@ module _ (world : World) (st after : State) where
     takes_found e x q took newest is f now fs reached name all begun a h =
         subst (λ d. Seen d a) same_now
         (subst (λ z. IsFoundIn world.rows (looked_at world after.trace z e_now) a) (sym took.scene)
-        (answers_are_found world st.trace after.trace st.top.scene e u after.top t frames a took told_so.0 bare_at first))
+        (answers_are_found world st.trace after.trace st.top.scene e u after.top t frames a took told_so.0 bare_at asked first))
       where
         e_now : Begun
         e_now = with_given e u took.value
@@ -229,7 +230,7 @@ module _ (world : World) (st after : State) where
 
 -- ---- from the start on
 module _ (world : World) (first : State) (numbers : NumbersFrames world.number) (clear : AreClear world first) (empty : all_begun first ≡ [])
-    (formed : AreFormed world first) where
+    (formed : AreFormed world first) (asks : AsksAll world first) where
   first_none : (f : Scene) (o : Option Begun) (xs : List (Scene × Begun)) → begun_in f o xs ≡ [] → IsFormedIn o
   first_none f None xs q = tt
   first_none f (Some e) xs q = absurd (cc (q))
@@ -256,21 +257,23 @@ module _ (world : World) (first : State) (numbers : NumbersFrames world.number) 
       let c = clear_at k st h.0 in
       let some = some_told world st next n os u is h.1 in (
         looked.more k st next h.0 q
-            (event_free world st next n os u items frames numbers c h.1 some has_items (picks_stay_bare world st next c.free c.bare q) ps t a
+            (event_free world st next n os u items frames numbers c h.1 some has_items (picks_stay_bare world st next c.free c.bare q)
+            (asks k st (Running next) h.0 q) ps t a
             (canonical_pick world st.top st.top.begun) is (picks_are_so world st next c.free q)),
         events_keep world st next [] n os ps u items numbers c h.1 some is q has_items t,
       )
 
 pub audit_goes_free : AuditGoesFree
-audit_goes_free world first st k n os numbers clear empty formed w = walks world first numbers clear empty formed k st n os w
+audit_goes_free world first st k n os numbers clear empty formed asks w = walks world first numbers clear empty formed asks k st n os w
 
 pub audit_sees_first : AuditSeesFirst
-audit_sees_first world first st next k n left os ps u items frames now f numbers clear empty formed w is q has_items t a b =
-    let h = walks world first numbers clear empty formed k st n os w in
-    let c = clear_at world first numbers clear empty formed k st h.0 in
+audit_sees_first world first st next k n left os ps u items frames now f numbers clear empty formed asks w is q has_items t a b =
+    let h = walks world first numbers clear empty formed asks k st n os w in
+    let c = clear_at world first numbers clear empty formed asks k st h.0 in
     let some = some_told world st next n os u is h.1 in
     conflict_is_first world first st next k left now f h.0 q b
     (event_found world st next n os u items frames numbers c h.1 some has_items (picks_stay_bare world st next c.free c.bare q)
+    (asks k st (Running next) h.0 q)
     (canonical_pick world st.top st.top.begun) is (picks_are_so world st next c.free q) ps t (Some f) a now b)
 
 -- ---- as a run starts

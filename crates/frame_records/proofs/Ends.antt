@@ -6,15 +6,16 @@ use Rattle.ub_base.specs.declared.clause.Kind.TheVariants.{Body}
 use Rattle.ub_base.specs.declared.names.Item.{Item}
 use Rattle.ub_base.specs.Frames.{Path, Row as FrameRow, path_of}
 use Rattle.c_typed.specs.declared.tree.Place.{Place}
+use Rattle.c_typed.specs.Order.{is_body}
 use Rattle.c_model.specs.Findings.{is_under}
 use Rattle.c_model.specs.Moments.{items_by}
-use Rattle.c_model.specs.Runs.{Entry, State, canonical_pick, entry_of, place_of}
+use Rattle.c_model.specs.Runs.{Ends, Entry, State, canonical_pick, entry_of, place_of}
 use Rattle.c_model.specs.Steps.{Begun, Ev, Local, Scene, taken_by}
 use Rattle.c_model.specs.World.{NumbersFrames, World}
 use Rattle.conflict_detector.specs.Complete.{AreEnded}
 use Rattle.conflict_detector.specs.Complete as leaving
 use Rattle.conflict_detector.specs.Telling.{IsReached}
-use Rattle.finding_laws.specs.LeastPairs.{HasItems}
+use Rattle.finding_laws.specs.Forgotten.{AllAsked, HasItemsOf}
 use Rattle.listing_laws.specs.Along.{StandsAlong}
 use Rattle.run_evaluations.specs.Told.{Evaluation, Opened, evaluation, given, last_given, told, has as has_item}
 use Rattle.telling_laws.specs.Standing.{StandsBehind, places}
@@ -65,11 +66,11 @@ ended_first : (t : Opened) (os ts fs : List Opened) → os ≡ t ∷ ts → AreE
 ended_first t _ ts _ is (leaving.one v vs) = ([], ap (λ z. z ∷ []) (first_is v t vs ts is))
 ended_first t _ ts _ is (leaving.more v u us es body rest) = (es, ap (λ z. z ∷ es) (first_is v t (u ∷ us) ts is))
 
-module _ (world : World) (trace : List Entry) (x : Entry) (frames : List FrameRow) where
+module _ (world : World) (trace : List Entry) (x : Entry) (frames : List FrameRow) (asked : AllAsked (x ∷ trace)) where
   abbrev later : List Entry
   later = x ∷ trace
 
-  -- a body that waits is given all that the trace has of it
+  -- a body that waits is given all that the trace has of it, but for forgotten accesses
   module _ (f : Local) (u : Place) (t : Opened) (e : Begun) (ends : EndsIn world trace later f.scene e u) (q : f.begun ≡ Some e)
       (r : HeldRecorded world later f u t) (body : Item → Bool) (all : GivesAll later f.scene (given body t)) where
     same_expression : r.expression ≡ e
@@ -98,8 +99,10 @@ module _ (world : World) (trace : List Entry) (x : Entry) (frames : List FrameRo
     at_end =
         ap (λ z. slice_get z (length z - 1)) (ap (last_given body) split.1 ∙ given_last body split.0 r.last) ∙ at_last split.0 last_now
 
-    has_all : HasItems (has_item last_now) (items_by later later f.scene.path f.scene.turn u)
-    has_all = subst (λ z. HasItems (has_item last_now) (items_by later later f.scene.path f.scene.turn z)) last_place (all last_now at_end)
+    has_all : HasItemsOf (is_body u.kind) (has_item last_now) (items_by later later f.scene.path f.scene.turn u)
+    has_all =
+        subst (λ (z : Place). HasItemsOf (is_body z.kind) (has_item last_now) (items_by later later f.scene.path f.scene.turn z)) last_place
+        (all last_now at_end)
 
     gives : Records world later f.scene e (r.passed ++ u ∷ []) (r.passed ++ u ∷ []) (given body t) × StandsBehind (given body t) last_now
     gives = gives_ending world later f.scene e u r.passed t r.last body records_e r.behind has_all
@@ -111,6 +114,7 @@ module _ (world : World) (trace : List Entry) (x : Entry) (frames : List FrameRo
       last = last_now;
       records = subst (λ z. Records world later f.scene e (z ++ u ∷ []) (z ++ u ∷ []) (given body t)) passed_is gives.0;
       stands = gives.1;
+      asked = asked;
     }
 
   -- ---- all frames below
@@ -197,13 +201,13 @@ module _ (world : World) (trace : List Entry) (x : Entry) (frames : List FrameRo
         (subst (λ z. Records world trace f e z z t) passed_same r.records) r.told
 
     pub told_ending : IsToldAtEnd world trace later f e (told_with (taken_by world f e) u items t)
-    told_ending = record { body = u; ends = ends; last = evaluation u.node u.kind items; records = ending.0; stands = ending.1 }
+    told_ending = record { body = u; ends = ends; last = evaluation u.node u.kind items; records = ending.0; stands = ending.1; asked = asked }
 
 -- ---- the run ends
 module _ (world : World) (st : State) (x : Entry) (frames : List FrameRow) (items : List Item) (u : Place) (os es : List Opened) (n : ℕ)
     (numbers : NumbersFrames world.number) (way : AreOnTheWay world st) (recorded : AllRecorded world st [] n os) (is : IsEntryOf st.top.scene u x)
     (tells : TellsItems items x.items) (top : (e : Begun) × (st.top.begun ≡ Some e) × EndsIn world st.trace (x ∷ st.trace) st.top.scene e u)
-    (held : AllEndIn world st.trace (x ∷ st.trace) st.held) (k : TellsEnd world st (x ∷ st.trace) u items frames os es) where
+    (held : AllEndIn world st.trace (x ∷ st.trace) st.held) (k : TellsEnd world st (x ∷ st.trace) u items frames os es) (asked : AllAsked (x ∷ st.trace)) where
   same_begun : top.0 ≡ k.expression
   same_begun = some_of top.0 k.expression st.top.begun top.1 k.is
 
@@ -221,33 +225,33 @@ module _ (world : World) (st : State) (x : Entry) (frames : List FrameRow) (item
   first = ended_first t (t ∷ k.reached.below) k.reached.below es refl k.ended
 
   given_now : GivesAll (x ∷ st.trace) st.top.scene t × AllGiven (x ∷ st.trace) (begun_below st.held) first.0
-  given_now = given_first world st.trace x frames st.top.scene st.top.begun k.expression (begun_below st.held) t first.0 k.is
+  given_now = given_first world st.trace x frames asked st.top.scene st.top.begun k.expression (begun_below st.held) t first.0 k.is
       (subst (AllGiven (x ∷ st.trace) (all_begun st)) first.1 k.given)
 
   pub all_ended : AllToldAtEnd world st.trace (x ∷ st.trace) frames (all_begun st) es
   all_ended =
       subst (AllToldAtEnd world st.trace (x ∷ st.trace) frames (all_begun st)) (sym first.1)
-      (with_first world st.trace x frames st.top.scene st.top.begun k.expression (begun_below st.held) t first.0 k.is
-      (told_ending world st.trace x frames st.top.scene k.expression u k.reached.top items is ends_top
+      (with_first world st.trace x frames asked st.top.scene st.top.begun k.expression (begun_below st.held) t first.0 k.is
+      (told_ending world st.trace x frames asked st.top.scene k.expression u k.reached.top items is ends_top
       (subst (λ o. IsFresh st.trace st.top.scene (started_in o)) k.is way.clear.fresh.top) tells reached.0) k.listed
-      (all_told world st.trace x frames st.top.scene.path st.held k.reached.below first.0 t
+      (all_told world st.trace x frames asked st.top.scene.path st.held k.reached.below first.0 t
       (subst (λ z. is_under z st.top.scene.path ≡ true) (sym is.path) (under_itself st.top.scene.path)) way.clear.free.held held
       (subst (AreEnded (t ∷ k.reached.below)) first.1 k.ended)
       (let z = ap length first.1 in
       let w = begun_more world st.top.scene st.top.begun k.expression (begun_below st.held) k.is in
       let c = k.all in
       omega (arith, z, w, c))
-      given_now.1 (listed_rest world st.trace x frames st.top.scene st.top.begun k.expression (begun_below st.held) k.is k.listed) reached.1))
+      given_now.1 (listed_rest world st.trace x frames asked st.top.scene st.top.begun k.expression (begun_below st.held) k.is k.listed) reached.1))
 
 pub audit_ends : AuditEnds
-audit_ends world first st k n left status output later items frames os es r numbers way empty formed w q end has_items tells is =
+audit_ends world first st k n left status output later items frames os es r numbers way empty formed asks w q end has_items tells is =
     end_is_first world first st k left status output later frames es r h.0 now.clear.free q all is
   where
     h : GoesFree world first k st × AllRecorded world st [] n os
-    h = walks world first numbers way.clear empty formed k st n os w
+    h = walks world first numbers way.clear empty formed asks k st n os w
 
     now : AreOnTheWay world st
-    now = stays_on_the_way world first st k (formed_all world first numbers way.clear empty formed) way h.0
+    now = stays_on_the_way world first st k (formed_all world first numbers way.clear empty formed asks) way h.0
 
     x : Entry
     x = entry_of world st.top (canonical_pick world st.top st.top.begun) end.items
@@ -258,27 +262,31 @@ audit_ends world first st k n left status output later items frames os es r numb
     parts : ((e : Begun) × (st.top.begun ≡ Some e) × EndsIn world st.trace later st.top.scene e end.body) × AllEndIn world st.trace later st.held
     parts = bodies_end world st later now end
 
+    asked : AllAsked later
+    asked = asks k st (Ends status output later) h.0 q
+
     At : List Entry → Type 0
     At z = ((e : Begun) × (st.top.begun ≡ Some e) × EndsIn world st.trace z st.top.scene e end.body) → AllEndIn world st.trace z st.held →
-        TellsEnd world st z end.body items frames os es → AllToldAtEnd world st.trace z frames (all_begun st) es
+        TellsEnd world st z end.body items frames os es → AllAsked z → AllToldAtEnd world st.trace z frames (all_begun st) es
 
     all : AllToldAtEnd world st.trace later frames (all_begun st) es
     all = subst At (sym end.newest)
-        (λ a b c. all_ended world st x frames items end.body os es n numbers now h.1 entry (has_items x st.trace end.newest) a b c) parts.0 parts.1 tells
+        (λ a b c d. all_ended world st x frames items end.body os es n numbers now h.1 entry (has_items x st.trace end.newest) a b c d) parts.0 parts.1 tells
+            asked
 
 -- ---- it doesn't end so
 pub audit_returns : AuditReturns
-audit_returns world first st k n left status output later os numbers clear empty formed w q held begun =
-    return_is_clean world first st k left status output later (walks world first numbers clear empty formed k st n os w).0 q held begun
+audit_returns world first st k n left status output later os numbers clear empty formed asks w q held begun =
+    return_is_clean world first st k left status output later (walks world first numbers clear empty formed asks k st n os w).0 q held begun
 
 pub audit_raises : AuditRaises
-audit_raises world first st k n left c later os numbers clear empty formed w none q =
-    raise_is_first world first st k left c later none (walks world first numbers clear empty formed k st n os w).0 q
+audit_raises world first st k n left c later os numbers clear empty formed asks w none q =
+    raise_is_first world first st k left c later none (walks world first numbers clear empty formed asks k st n os w).0 q
 
 pub audit_passes_limit : AuditPassesLimit
-audit_passes_limit world first st k n left c number os numbers clear empty formed w q =
-    limit_is_first world first st k left c number (walks world first numbers clear empty formed k st n os w).0 q
+audit_passes_limit world first st k n left c number os numbers clear empty formed asks w q =
+    limit_is_first world first st k left c number (walks world first numbers clear empty formed asks k st n os w).0 q
 
 pub audit_uses_budget : AuditUsesBudget
-audit_uses_budget world first st k n os numbers clear empty formed w =
-    budget_is_first world first st k (walks world first numbers clear empty formed k st n os w).0
+audit_uses_budget world first st k n os numbers clear empty formed asks w =
+    budget_is_first world first st k (walks world first numbers clear empty formed asks k st n os w).0

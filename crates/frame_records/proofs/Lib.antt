@@ -1,3 +1,4 @@
+pub mod Pairs
 pub mod Above
 pub mod Answers
 pub mod Asked

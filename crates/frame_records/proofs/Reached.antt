@@ -4,7 +4,7 @@ use Rattle.std.specs.Prelude.{slice_get}
 use Rattle.ub_base.specs.declared.names.Frame.{Frame}
 use Rattle.ub_base.specs.declared.names.Item.{Item}
 use Rattle.c_typed.specs.declared.tree.Place.{Place}
-use Rattle.c_typed.specs.Order.{Taken, events, has}
+use Rattle.c_typed.specs.Order.{Taken, events, has, is_body}
 use Rattle.c_typed.specs.Tree.{Tree}
 use Rattle.c_model.specs.Completions.{Completed, Incomplete, completed_by}
 use Rattle.c_model.specs.Moments.{items_by}
@@ -15,7 +15,7 @@ use Rattle.c_model.specs.World.{NumbersFrames, World}
 use Rattle.conflict_detector.specs.Telling.{IsReached, LeftTo}
 use Rattle.conflict_detector.specs.Telling as leaving
 use Rattle.elaborate.specs.Formed.{is_formed}
-use Rattle.finding_laws.specs.LeastPairs.{HasItems}
+use Rattle.finding_laws.specs.Forgotten.{HasItemsOf}
 use Rattle.run_evaluations.specs.Told.{Evaluation, Opened, given, last_given, has as has_item}
 use Rattle.telling_laws.specs.Standing.{StandsBehind, StandsTold, completed_in, places, with_completed}
 use Rattle.telling_laws.proofs.Splits.{append_one, at_last, given_last, last_split, places_push}
@@ -95,13 +95,13 @@ module _ (world : World) (trace : List Entry) (f : Scene) (e : Begun) (formed : 
     told = stands;
   }
 
-  -- with all that the trace has of it, it is closed
+  -- with all that the trace has of it, but for forgotten accesses, it is closed
   module _ (all : GivesAll trace f (given body t)) where
     at_end : slice_get (given body t).done (length (given body t).done - 1) ≡ Some last_now
     at_end = ap (λ z. slice_get z (length z - 1)) given_is ∙ at_last split.0 last_now
 
-    has_all : HasItems (has_item last_now) (items_by trace trace f.path f.turn u)
-    has_all = subst (λ z. HasItems (has_item last_now) (items_by trace trace f.path f.turn z)) last_place (all last_now at_end)
+    has_all : HasItemsOf (is_body u.kind) (has_item last_now) (items_by trace trace f.path f.turn u)
+    has_all = subst (λ (z : Place). HasItemsOf (is_body z.kind) (has_item last_now) (items_by trace trace f.path f.turn z)) last_place (all last_now at_end)
 
     pub closed : OpenRecorded world trace f e (given body t)
     closed = record {

@@ -5,12 +5,13 @@ use Rattle.ub_base.specs.declared.names.Item.{Item}
 use Rattle.addr_map.specs.declared.map.Row.{Row}
 use Rattle.c_typed.specs.declared.tree.Place.{Place}
 use Rattle.c_model.specs.FirstFinding.{found_from}
-use Rattle.c_model.specs.Runs.{Entry, Running, State, canonical_pick, start, step}
+use Rattle.c_model.specs.Runs.{Entry, Outcome, Running, State, canonical_pick, start, step, trace_of}
 use Rattle.c_model.specs.Steps.{Begun, Control, Ev, taken_by}
 use Rattle.c_model.specs.Values.{Value}
 use Rattle.c_model.specs.World.{NumbersFrames, World}
 use Rattle.conflict_detector.specs.Telling.{IsBare}
 use Rattle.evaluation_log.specs.declared.found.Found.{Found}
+use Rattle.finding_laws.specs.Forgotten.{AllAsked}
 use Rattle.run_evaluations.specs.Told.{Opened}
 use Rattle.detector_laws.specs.Along.{AreClear}
 use Rattle.detector_laws.specs.Frames.{IsFormedIn}
@@ -49,6 +50,11 @@ abbrev pub AreFormed : World → State → Type 0
 AreFormed world first = (m : ℕ) (st next : State) → GoesFree world first m st
     → step world st (canonical_pick world st.top st.top.begun) ≡ Running next → IsFormedIn next.top.begun
 
+-- behind each pick, be it that the run goes on or ends, each access of the trace stands with the question whether its object lives (6.2.4p2)
+abbrev pub AsksAll : World → State → Type 0
+AsksAll world first = (m : ℕ) (st : State) (o : Outcome) → GoesFree world first m st → step world st (canonical_pick world st.top st.top.begun) ≡ o
+    → AllAsked (trace_of o)
+
 -- as a run starts nothing is open
 abbrev pub StartsBare : Type 0
 StartsBare = (world : World) (input : List ℕ) (vs : List Value) (st : State) → start world input vs ≡ Running st → all_begun st ≡ []
@@ -56,13 +62,13 @@ StartsBare = (world : World) (input : List ℕ) (vs : List Value) (st : State) �
 -- nothing was found then, and all is recorded that is open
 abbrev pub AuditGoesFree : Type 0
 AuditGoesFree = (world : World) (first st : State) (k n : ℕ) (os : List Opened) → NumbersFrames world.number → AreClear world first → all_begun first ≡ []
-    → AreFormed world first → Walks world first k st n os → GoesFree world first k st × AllRecorded world st [] n os
+    → AreFormed world first → AsksAll world first → Walks world first k st n os → GoesFree world first k st × AllRecorded world st [] n os
 
 -- a conflict that the calls of the next pick see is the first finding
 abbrev pub AuditSeesFirst : Type 0
 AuditSeesFirst = (world : World) (first st next : State) (k n left : ℕ) (os ps : List Opened) (u : Place) (items : List Item) (frames : List FrameRow)
     (now : Begun) (f : Found) → NumbersFrames world.number → AreClear world first → all_begun first ≡ [] → AreFormed world first
-    → Walks world first k st n os → canonical_pick world st.top st.top.begun ≡ Ev u
+    → AsksAll world first → Walks world first k st n os → canonical_pick world st.top st.top.begun ≡ Ev u
     → step world st (canonical_pick world st.top st.top.begun) ≡ Running next → TellsNewest items next → (told : TellsOf world st next u items os ps)
     → AnswersOf frames world.rows world st next u items os ps told (Some f) → next.top.begun ≡ Some now →
     found_from world (k + suc left) 0 first ≡ finding_of world next.trace (looked_at world next.trace next.top.scene now) (suc k) f

@@ -22,11 +22,11 @@ use Rattle.detector_laws.specs.Shown.{all_begun}
 use Rattle.ending_laws.specs.Frames.{IsConflictOfAll, IsFindingOf}
 use Rattle.ending_laws.specs.Main.{IsEnding}
 use Rattle.ending_laws.specs.Untouched.{AreOnTheWay}
-use Rattle.frame_records.specs.Audit.{AreFormed, Walks}
+use Rattle.frame_records.specs.Audit.{AreFormed, AsksAll, Walks}
 use Rattle.frame_records.specs.Told.{GivesAll, told_with}
 
 -- ---- where a body ends the run
--- each of these frames was given all that the trace has of the body that was told last of it
+-- each of these frames was given all that the trace has of the body that was told last of it, but for forgotten accesses
 abbrev pub AllGiven : List Entry → List (Scene × Begun) → List Opened → Type 0
 AllGiven later (x ∷ xs) (t ∷ ts) = GivesAll later x.0 t × AllGiven later xs ts
 AllGiven later _ _ = Unit {0}
@@ -54,7 +54,8 @@ pub record TellsEnd (world : World) (st : State) (later : List Entry) (u : Place
 -- the first conflict of all that was told, or none, is the first finding
 abbrev pub AuditEnds : Type 0
 AuditEnds = (world : World) (first st : State) (k n left status : ℕ) (output : Outputs) (later : List Entry) (items : List Item) (frames : List FrameRow)
-    (os es : List Opened) (r : Option Found) → NumbersFrames world.number → AreOnTheWay world first → all_begun first ≡ [] → AreFormed world first
+    (os es : List Opened) (r : Option Found) → NumbersFrames world.number → AreOnTheWay world first → all_begun first ≡ [] → AreFormed world first →
+        AsksAll world first
     → Walks world first k st n os → step world st (canonical_pick world st.top st.top.begun) ≡ Ends status output later
     → (end : IsEnding world st (canonical_pick world st.top st.top.begun) later)
     → ((x : Entry) (xs : List Entry) → later ≡ x ∷ xs → TellsItems items x.items) → TellsEnd world st later end.body items frames os es
@@ -65,14 +66,14 @@ AuditEnds = (world : World) (first st : State) (k n left status : ℕ) (output :
 -- where `main` returns the run is clean
 abbrev pub AuditReturns : Type 0
 AuditReturns = (world : World) (first st : State) (k n left status : ℕ) (output : Outputs) (later : List Entry) (os : List Opened)
-    → NumbersFrames world.number → AreClear world first → all_begun first ≡ [] → AreFormed world first → Walks world first k st n os
+    → NumbersFrames world.number → AreClear world first → all_begun first ≡ [] → AreFormed world first → AsksAll world first → Walks world first k st n os
     → step world st (canonical_pick world st.top st.top.begun) ≡ Ends status output later → st.held ≡ [] → st.top.begun ≡ None →
     found_from world (k + suc left) 0 first ≡ Clean status output (suc k)
 
 -- a clause that is raised, at that pick
 abbrev pub AuditRaises : Type 0
 AuditRaises = (world : World) (first st : State) (k n left : ℕ) (c : Clause) (later : List Entry) (os : List Opened) → NumbersFrames world.number
-    → AreClear world first → all_begun first ≡ [] → AreFormed world first → Walks world first k st n os → first.trace ≡ []
+    → AreClear world first → all_begun first ≡ [] → AreFormed world first → AsksAll world first → Walks world first k st n os → first.trace ≡ []
     → step world st (canonical_pick world st.top st.top.begun) ≡ Raises c later →
     found_from world (k + suc left) 0 first ≡ Undefined c st.top.scene.path st.top.scene.turn (place_of (canonical_pick world st.top st.top.begun))
     (line_in world st.top.begun (place_of (canonical_pick world st.top st.top.begun))) (suc k)
@@ -80,10 +81,10 @@ AuditRaises = (world : World) (first st : State) (k n left : ℕ) (c : Clause) (
 -- a limit that is passed
 abbrev pub AuditPassesLimit : Type 0
 AuditPassesLimit = (world : World) (first st : State) (k n left : ℕ) (c : Cause) (number : ℕ) (os : List Opened) → NumbersFrames world.number
-    → AreClear world first → all_begun first ≡ [] → AreFormed world first → Walks world first k st n os
+    → AreClear world first → all_begun first ≡ [] → AreFormed world first → AsksAll world first → Walks world first k st n os
     → step world st (canonical_pick world st.top st.top.begun) ≡ Over c number → found_from world (k + suc left) 0 first ≡ Outside c number k
 
 -- a budget that is used up
 abbrev pub AuditUsesBudget : Type 0
 AuditUsesBudget = (world : World) (first st : State) (k n : ℕ) (os : List Opened) → NumbersFrames world.number → AreClear world first
-    → all_begun first ≡ [] → AreFormed world first → Walks world first k st n os → found_from world (k + 0) 0 first ≡ Out_of_steps k
+    → all_begun first ≡ [] → AreFormed world first → AsksAll world first → Walks world first k st n os → found_from world (k + 0) 0 first ≡ Out_of_steps k

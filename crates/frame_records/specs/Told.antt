@@ -3,7 +3,7 @@ use Rattle.std.specs.Prelude.{◌≡◌, ◌≤◌, ◌<◌, ◌-◌, ℕ, List,
 use Rattle.ub_base.specs.declared.names.Frame.{Frame}
 use Rattle.ub_base.specs.declared.names.Item.{Item}
 use Rattle.c_typed.specs.declared.tree.Place.{Place}
-use Rattle.c_typed.specs.Order.{Taken}
+use Rattle.c_typed.specs.Order.{Taken, is_body}
 use Rattle.c_model.specs.Completions.{Completed, Incomplete, completed_by}
 use Rattle.c_model.specs.Moments.{items_by}
 use Rattle.c_model.specs.Program.{tree_of}
@@ -11,7 +11,7 @@ use Rattle.c_model.specs.Runs.{Entry, State}
 use Rattle.c_model.specs.Steps.{Begun, Local, Scene, is_done, taken_by}
 use Rattle.c_model.specs.World.{World}
 use Rattle.conflict_detector.specs.Telling.{IsBare, IsReached, fresh}
-use Rattle.finding_laws.specs.LeastPairs.{HasItems}
+use Rattle.finding_laws.specs.Forgotten.{HasItemsOf}
 use Rattle.run_evaluations.specs.Told.{Evaluation, Opened, begun, chosen_by, entered, evaluation, settled, told, has as has_item}
 use Rattle.telling_laws.specs.Standing.{with_completed}
 use Rattle.detector_laws.specs.Looked.{scope_of}
@@ -43,10 +43,11 @@ abbrev pub completed_at : World → Local → Option Begun → Place → Complet
 completed_at world f None u = Incomplete
 completed_at world f (Some e) u = completed_by (tree_of e.root) (taken_by world f.scene e) (is_done e) u.node
 
--- What is given to the evaluation that was told last of the frame, a body whose frame is left, is all that the trace has of it.
+-- What is given to the evaluation that was told last of the frame, a body whose frame is left, is all that the trace has of it, but for forgotten accesses
+-- of objects of which it has the birth and the death.
 abbrev pub GivesAll : List Entry → Scene → Opened → Type 0
 GivesAll trace f t = (last : Evaluation) → slice_get t.done (length t.done - 1) ≡ Some last
-    → HasItems (has_item last) (items_by trace trace f.path f.turn last.place)
+    → HasItemsOf (is_body last.place.kind) (has_item last) (items_by trace trace f.path f.turn last.place)
 
 -- The frames above that of the event are left, each of which gives all; the event is told of that frame, on top, with what it completes there; or it starts
 -- a frame.
