@@ -158,7 +158,7 @@ module _ (world : World) (st : State) (left : List (Scene × Begun)) (e : Begun)
   formed_of = (subst (TopStands world st.trace st.top.scene) q a.top).2.formed
 
   pub named : (t : Opened) (d : Begun) (closed done : List Place) → Records world st.trace st.top.scene d closed done t → t.frame ≡ g
-  named t d closed done r = same_frame t.frame g (r.frame ∙ sym name)
+  named t d _ _ r = same_frame t.frame g (r.frame ∙ sym name)
 
   reached_as : (t u : Opened) (ts us : List Opened) → u ∷ us ≡ t ∷ ts → Reached t ts → Reached u us
   reached_as t u ts us is r = (
