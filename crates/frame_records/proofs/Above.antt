@@ -1,23 +1,21 @@
 -- The node above, of whose operands a node is the last one with a value, has all its operands complete with that node; and where it isn't the last one, the
 -- operands of the node above are in an order.
-use Rattle.std.proofs.Common.{◌≡◌, ◌⊎◌, inl, inr, ⊎_elim, ◌<◌, ◌≤◌, ◌+◌, ℕ, zero, suc, ◌==◌, Bool, true, false, not, ◌||◌, if◌then◌else◌, List, [], ◌∷◌, ◌++◌}
-use Rattle.std.proofs.Common.{Option, Some, None, refl, sym, ap, ap₂, subst, ◌∙◌, true≢false, arith}
+use Rattle.std.proofs.Common.{◌≡◌, ◌<◌, ◌≤◌, ◌+◌, ℕ, zero, suc, ◌==◌, true, false, not, List, [], ◌∷◌, ◌++◌}
+use Rattle.std.proofs.Common.{Option, Some, None, refl, sym, ap, subst, ◌∙◌, true≢false, arith}
 use Rattle.std.specs.Prelude.{slice_get, nat_lt}
 use Rattle.std.proofs.lemmas.Bool.Decides.{nat_tests}
 use Rattle.std.proofs.lemmas.Option.{same_Some}
 use Rattle.ub_base.specs.declared.clause.Kind.TheVariants.{Val}
 use Rattle.c_typed.specs.declared.class.Class.{Class}
-use Rattle.c_typed.specs.declared.class.Class.TheVariants.{Object, Constant, Plain, Store, Update, Choice, Comma, Call, Isolated}
 use Rattle.c_typed.specs.declared.tree.Place.{Place}
-use Rattle.c_typed.specs.Decide.{due_in}
 use Rattle.c_typed.specs.Order.{Taken, events, goes, has, operand_events, own_events, place}
-use Rattle.c_typed.specs.Tree.{Tree, Trees, node, none, more, is_quiet, size, sizes}
+use Rattle.c_typed.specs.Tree.{Tree, Trees, node, none, more, is_quiet, size}
 use Rattle.c_model.proofs.Decided.{has_due, val_due}
 use Rattle.completion_laws.proofs.Ahead.{by_test, if_false, if_true, operand, operand_split, own_of}
-use Rattle.completion_laws.proofs.Lists.{has_at, left, no_split, right, split}
+use Rattle.completion_laws.proofs.Lists.{has_at, left, right, split}
 use Rattle.elaborate.proofs.Ranges.{eq_eq, events_in, has_itself, operands_in}
 use Rattle.evaluation_log.specs.Sides.{Side, first_loud, last_among, last_if, last_in, side, sides_from}
-use Rattle.run_evaluations.specs.Scopes.{Scope, part_among, part_in, part_of}
+use Rattle.run_evaluations.specs.Scopes.{part_among, part_in}
 use Rattle.run_evaluations.proofs.PartLemmas.{among_range, not_less_is, number_is, part_range, side_at, size_some}
 
 less_test : (a b : ℕ) → a < b → nat_lt a b ≡ true

@@ -1,33 +1,31 @@
 -- What the calls answer is the first conflict of all pairs of which they tell.
-use Rattle.std.proofs.Common.{◌≡◌, ◌⊎◌, inl, inr, ⊎_elim, ◌<◌, ◌≤◌, ◌+◌, ◌-◌, ℕ, suc, Bool, true, false, not, ◌||◌, List, [], ◌∷◌, ◌++◌, Option, Some, None}
+use Rattle.std.proofs.Common.{◌≡◌, ◌⊎◌, inl, inr, ⊎_elim, ◌<◌, ◌≤◌, ◌+◌, ℕ, suc, true, false, List, [], ◌∷◌, ◌++◌, Option, Some, None}
 use Rattle.std.proofs.Common.{refl, sym, ap, subst, ◌∙◌, true≢false, arith}
 use Rattle.std.specs.Prelude.{slice_get}
-use Rattle.std.proofs.lemmas.Bool.Decides.{nat_tests}
 use Rattle.std.proofs.lemmas.Option.{same_Some}
 use Rattle.ub_base.specs.Frames.{Row as FrameRow}
 use Rattle.addr_map.specs.declared.map.Row.{Row}
 use Rattle.c_typed.specs.declared.class.Class.{Class}
 use Rattle.c_typed.specs.declared.class.Class.TheVariants.{Object, Constant, Plain, Store, Update, Choice, Comma, Call, Isolated}
 use Rattle.c_typed.specs.declared.tree.Place.{Place}
-use Rattle.c_typed.specs.Decide.{due_in, is_before}
+use Rattle.c_typed.specs.Decide.{due_in}
 use Rattle.c_typed.specs.Order.{events, goes, has}
-use Rattle.c_typed.specs.Tree.{Tree, Trees, node, is_quiet, size}
+use Rattle.c_typed.specs.Tree.{Tree, node, is_quiet, size}
 use Rattle.c_model.specs.Completions.{Completed, Incomplete, Own_node, Operands_of, parent_in}
 use Rattle.c_model.proofs.Decided.{has_due}
 use Rattle.completion_laws.specs.Completed.{completed_next, with_above}
 use Rattle.completion_laws.proofs.Lists.{has_at}
 use Rattle.conflict_detector.specs.Complete.{IsConflictAbove, IsConflictDone, MayGather, above_of}
-use Rattle.conflict_detector.specs.Telling.{TellsAt}
 use Rattle.elaborate.specs.Formed.{is_formed}
 use Rattle.evaluation_log.specs.Sides.{Side, first_loud, last_if, last_in, sides_from}
 use Rattle.evaluation_log.specs.declared.found.Found.{Found}
 use Rattle.evaluation_search.specs.First.{IsFirst, IsFirstOf}
 use Rattle.evaluation_search.proofs.FirstLemmas.{alike}
 use Rattle.run_evaluations.specs.First.{AreOfNode, AreOfOperands, IsConflictIn}
-use Rattle.run_evaluations.specs.Scopes.{IsOperandOf, Scope, part_of}
-use Rattle.run_evaluations.specs.Shows.{AreOfTwo, NoneOfNode, NoneOfTwo}
+use Rattle.run_evaluations.specs.Scopes.{Scope, part_of}
+use Rattle.run_evaluations.specs.Shows.{NoneOfNode, NoneOfTwo}
 use Rattle.run_evaluations.specs.Told.{Evaluation, IsOperandIn, IsUnder, Opened}
-use Rattle.run_evaluations.proofs.PartLemmas.{side_at, side_part}
+use Rattle.run_evaluations.proofs.PartLemmas.{side_part}
 use Rattle.run_evaluations.proofs.ShowLemmas.{choice_before}
 use Rattle.run_evaluations.proofs.ToldLemmas.{due_part}
 use Rattle.telling_laws.specs.FirstFound.{ByPlaces, ToldPairs}

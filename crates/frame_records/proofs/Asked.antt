@@ -1,29 +1,25 @@
 -- What may be told of an event.
-use Rattle.std.proofs.Common.{◌≡◌, ◌⊎◌, inl, inr, ⊎_elim, ◌<◌, ◌^◌, ◌+◌, ◌-◌, ℕ, Bool, true, false, List, [], ◌∷◌, ◌++◌, length, Option, Some, None}
+use Rattle.std.proofs.Common.{◌≡◌, inl, inr, ⊎_elim, ◌<◌, ◌^◌, ◌+◌, ◌-◌, ℕ, Bool, true, false, List, [], ◌∷◌, ◌++◌, length, Option, Some, None}
 use Rattle.std.proofs.Common.{refl, sym, ap, ap₂, subst, ◌∙◌, arith}
 use Rattle.std.specs.Prelude.{slice_get}
-use Rattle.ub_base.specs.declared.clause.Kind.TheVariants.{Body}
 use Rattle.ub_base.specs.declared.names.Frame.{Frame}
 use Rattle.c_typed.specs.declared.tree.Place.{Place}
 use Rattle.c_typed.specs.Order.{Taken, events}
 use Rattle.c_typed.specs.Tree.{Tree, node, size}
 use Rattle.c_model.specs.Completions.{Operands_of}
 use Rattle.c_model.specs.Program.{tree_of}
-use Rattle.c_model.specs.Runs.{Running, State, canonical_pick, step}
+use Rattle.c_model.specs.Runs.{State, canonical_pick}
 use Rattle.c_model.specs.Steps.{Begun, Control, Ev, Local, Pick, Scene, taken_by, with_given}
 use Rattle.c_model.specs.World.{NumbersFrames, World}
-use Rattle.conflict_detector.specs.Complete.{AreDone, CanEnd}
 use Rattle.conflict_detector.specs.Telling.{AreStarted, IsBare, IsOpen, IsReached, TellsAt, TellsEvent}
-use Rattle.elaborate.specs.Formed.{is_formed}
 use Rattle.listing_laws.specs.Along.{StandsAlong}
 use Rattle.run_evaluations.specs.Follows.{HasStarted}
 use Rattle.run_evaluations.specs.Listing.{IsListedNext}
 use Rattle.run_evaluations.specs.Scopes.{Scope, IsOperandOf, part_of}
-use Rattle.run_evaluations.specs.Shows.{OwnAreLast}
-use Rattle.run_evaluations.specs.Told.{Evaluation, Grows, Opened, chosen_by}
+use Rattle.run_evaluations.specs.Told.{Grows, Opened, chosen_by}
 use Rattle.run_evaluations.proofs.ListingLemmas.{listings_tell}
 use Rattle.run_evaluations.proofs.PartLemmas.{part_range, size_some}
-use Rattle.telling_laws.specs.Standing.{Chooses, StandsBehind, StandsTold, completed_in, places}
+use Rattle.telling_laws.specs.Standing.{Chooses, StandsTold, completed_in, places}
 use Rattle.telling_laws.proofs.Parts.{beside_up, operand_below, still}
 use Rattle.telling_laws.proofs.Splits.{at_seam}
 use Rattle.telling_laws.proofs.Stands.{chooses_standing, node_of_next}

@@ -1,21 +1,17 @@
 -- As long as no call sees a conflict nothing was found, and a conflict that is seen is the first finding.
-use Rattle.std.proofs.Common.{◌≡◌, ◌≤◌, ◌<◌, ◌+◌, ℕ, zero, suc, true, List, [], ◌∷◌, ◌++◌, length, Option, Some, None, refl, sym, ap, ap₂, subst, ◌∙◌, arith}
+use Rattle.std.proofs.Common.{◌≡◌, ◌≤◌, ◌<◌, ℕ, zero, suc, List, [], ◌∷◌, ◌++◌, length, Option, Some, None, refl, sym, ap, subst, ◌∙◌, arith}
 use Rattle.ub_base.specs.Frames.{Row as FrameRow}
-use Rattle.ub_base.specs.declared.clause.Kind.TheVariants.{Body}
 use Rattle.ub_base.specs.declared.names.Frame.{Frame}
 use Rattle.ub_base.specs.declared.names.Item.{Item}
 use Rattle.c_typed.specs.declared.tree.Place.{Place}
-use Rattle.c_typed.specs.Order.{Taken, has}
-use Rattle.c_typed.specs.Tree.{Tree}
-use Rattle.c_model.specs.Completions.{Completed, completed_by}
-use Rattle.c_model.specs.FirstFinding.{Finding, found_from}
-use Rattle.c_model.specs.Program.{tree_of}
-use Rattle.c_model.specs.Runs.{Entry, Running, State, canonical_pick, main_frame, started_run, step}
-use Rattle.c_model.specs.Steps.{Begun, Control, Ev, Local, Pick, Scene, taken_by, with_given}
+use Rattle.c_typed.specs.Order.{has}
+use Rattle.c_model.specs.Completions.{completed_by}
+use Rattle.c_model.specs.Runs.{Entry, Running, State, canonical_pick, main_frame, started_run}
+use Rattle.c_model.specs.Steps.{Begun, Control, Ev, Pick, Scene, taken_by, with_given}
 use Rattle.c_model.specs.Values.{Value}
 use Rattle.c_model.specs.World.{NumbersFrames, World}
 use Rattle.mem_spec.specs.Script.{Act, Done, Raised, Ended, Outside, Unplaced}
-use Rattle.conflict_detector.specs.Telling.{IsBare, IsReached}
+use Rattle.conflict_detector.specs.Telling.{IsReached}
 use Rattle.elaborate.specs.Formed.{is_formed}
 use Rattle.evaluation_log.specs.declared.found.Found.{Found}
 use Rattle.evaluation_search.specs.First.{IsFirstOf}
@@ -27,7 +23,7 @@ use Rattle.telling_laws.specs.Newly.{completed_with}
 use Rattle.telling_laws.specs.Standing.{StandsBehind, completed_in}
 use Rattle.detector_laws.specs.Along.{AreClear}
 use Rattle.detector_laws.specs.Bare.{AreBare, IsBareIn, IsBareStore}
-use Rattle.detector_laws.specs.Frames.{AreFree, IsEntryOf, IsFormedIn, TakesEvent}
+use Rattle.detector_laws.specs.Frames.{IsEntryOf, IsFormedIn, TakesEvent}
 use Rattle.detector_laws.specs.Looked.{GoesFree, IsFree, IsFreeIn, finding_of, looked_at}
 use Rattle.detector_laws.specs.Looked as looked
 use Rattle.detector_laws.specs.Records.{Records}
@@ -41,14 +37,14 @@ use Rattle.detector_laws.proofs.Free.{begins_free}
 use Rattle.detector_laws.proofs.Goes.{same_state, through_limited, through_within}
 use Rattle.frame_records.specs.Answers.{Answers}
 use Rattle.frame_records.specs.Audit.{AnswersOf, AreFormed, AsksAll, AuditGoesFree, AuditSeesFirst, StartsBare, TellsNewest, Walks, begins, steps, tells_of}
-use Rattle.frame_records.specs.Frames.{AllRecorded, Counts, idle, rests, opens, ended}
+use Rattle.frame_records.specs.Frames.{AllRecorded, idle, rests, opens, ended}
 use Rattle.frame_records.specs.Kept.{left_behind}
 use Rattle.frame_records.specs.Picks.{PicksSo}
 use Rattle.frame_records.specs.Picks as kind
 use Rattle.frame_records.specs.Told.{GivesAll, Steps, TellsOf, completed_at, tells, enters, told_with}
 use Rattle.frame_records.specs.Told as told
 use Rattle.frame_records.proofs.Answers.{first_of_answers}
-use Rattle.frame_records.proofs.Events.{along_now, completed_same, events_keep, now_is, records_now, same_told, told_as, told_top}
+use Rattle.frame_records.proofs.Events.{along_now, completed_same, events_keep, now_is, records_now, same_told, told_top}
 use Rattle.frame_records.proofs.Picks.{picks_are_so}
 use Rattle.frame_records.proofs.Steps.{steps_keep}
 

@@ -2,13 +2,13 @@
 use Rattle.std.proofs.Common.{◌≡◌, ℕ, suc, true, List, [], ◌∷◌, ◌++◌, Option, Some, None, refl, sym, ap, subst, ◌∙◌}
 use Rattle.ub_base.specs.declared.clause.Kind.TheVariants.{Val, Body}
 use Rattle.c_typed.specs.declared.tree.Place.{Place}
-use Rattle.c_typed.specs.Order.{Taken, events, has, place}
+use Rattle.c_typed.specs.Order.{Taken, events, place}
 use Rattle.c_typed.specs.Tree.{Tree}
-use Rattle.c_model.specs.Completions.{Completed, Incomplete, Own_node, completed_by, parent_in}
+use Rattle.c_model.specs.Completions.{Incomplete, parent_in}
 use Rattle.c_model.specs.Findings.{is_under}
 use Rattle.c_model.specs.Program.{tree_of}
 use Rattle.c_model.specs.Runs.{Entry, canonical_pick}
-use Rattle.c_model.specs.Steps.{Begun, Control, Ev, Local, Pick, Scene, taken_by, with_given}
+use Rattle.c_model.specs.Steps.{Begun, Control, Ev, Local, Scene, taken_by, with_given}
 use Rattle.c_model.specs.Values.{Value}
 use Rattle.c_model.specs.World.{World}
 use Rattle.completion_laws.specs.Completed.{with_above}

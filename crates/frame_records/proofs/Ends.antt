@@ -1,26 +1,23 @@
 -- What is found where the next pick doesn't go on, if no call saw a conflict before.
-use Rattle.std.proofs.Common.{◌≡◌, ◌⊎◌, inl, inr, ◌≤◌, ◌<◌, ◌-◌, ℕ, suc, Bool, true, List, [], ◌∷◌, ◌++◌, length, Option, Some, None}
-use Rattle.std.proofs.Common.{refl, sym, ap, ap₂, subst, ◌∙◌, arith}
+use Rattle.std.proofs.Common.{◌≡◌, ◌⊎◌, inl, inr, ◌≤◌, ◌-◌, ℕ, Bool, true, List, [], ◌∷◌, ◌++◌, length, Option, Some, None}
+use Rattle.std.proofs.Common.{refl, sym, ap, subst, ◌∙◌, arith}
 use Rattle.std.specs.Prelude.{slice_get}
-use Rattle.ub_base.specs.declared.clause.Kind.TheVariants.{Body}
 use Rattle.ub_base.specs.declared.names.Item.{Item}
-use Rattle.ub_base.specs.Frames.{Path, Row as FrameRow, path_of}
+use Rattle.ub_base.specs.Frames.{Path, Row as FrameRow}
 use Rattle.c_typed.specs.declared.tree.Place.{Place}
 use Rattle.c_typed.specs.Order.{is_body}
 use Rattle.c_model.specs.Findings.{is_under}
 use Rattle.c_model.specs.Moments.{items_by}
 use Rattle.c_model.specs.Runs.{Ends, Entry, State, canonical_pick, entry_of, place_of}
-use Rattle.c_model.specs.Steps.{Begun, Ev, Local, Scene, taken_by}
+use Rattle.c_model.specs.Steps.{Begun, Local, Scene, taken_by}
 use Rattle.c_model.specs.World.{NumbersFrames, World}
 use Rattle.conflict_detector.specs.Complete.{AreEnded}
 use Rattle.conflict_detector.specs.Complete as leaving
-use Rattle.conflict_detector.specs.Telling.{IsReached}
 use Rattle.finding_laws.specs.Forgotten.{AllAsked, HasItemsOf}
 use Rattle.listing_laws.specs.Along.{StandsAlong}
-use Rattle.run_evaluations.specs.Told.{Evaluation, Opened, evaluation, given, last_given, told, has as has_item}
+use Rattle.run_evaluations.specs.Told.{Evaluation, Opened, evaluation, given, last_given, has as has_item}
 use Rattle.telling_laws.specs.Standing.{StandsBehind, places}
 use Rattle.telling_laws.proofs.Splits.{at_last, given_last, last_split, places_push}
-use Rattle.detector_laws.specs.Along.{AreClear}
 use Rattle.detector_laws.specs.Fresh.{IsFresh, started_in}
 use Rattle.detector_laws.specs.Frames.{AllWaitFree, IsEntryOf}
 use Rattle.detector_laws.specs.Looked.{GoesFree}
@@ -28,15 +25,13 @@ use Rattle.detector_laws.specs.Records.{Records, TellsItems}
 use Rattle.detector_laws.specs.Shown.{all_begun, begun_below, begun_in}
 use Rattle.detector_laws.proofs.Paths.{under_itself, under_tail}
 use Rattle.ending_laws.specs.Ends.{AllEndIn, EndsIn, IsToldAtEnd}
-use Rattle.ending_laws.specs.Frames.{AllToldAtEnd, ToldAtEnd}
-use Rattle.ending_laws.specs.Main.{IsEnding}
+use Rattle.ending_laws.specs.Frames.{AllToldAtEnd}
 use Rattle.ending_laws.specs.Untouched.{AreOnTheWay}
 use Rattle.ending_laws.proofs.Ahead.{bodies_end}
 use Rattle.ending_laws.proofs.Ending.{same_ends}
 use Rattle.ending_laws.proofs.First.{budget_is_first, end_is_first, limit_is_first, raise_is_first, return_is_clean}
 use Rattle.ending_laws.proofs.Recorded.{gives_ending, tells_ending}
 use Rattle.ending_laws.proofs.Untouched.{stays_on_the_way}
-use Rattle.frame_records.specs.Audit.{AreFormed, Walks}
 use Rattle.frame_records.specs.Ends.{AllGiven, AreListed, AuditEnds, AuditPassesLimit, AuditRaises, AuditReturns, AuditUsesBudget, TellsEnd}
 use Rattle.frame_records.specs.Frames.{AllRecorded, HeldAre, HeldRecorded, OpenRecorded, below, more}
 use Rattle.frame_records.specs.Told.{GivesAll, told_with}
@@ -272,7 +267,7 @@ audit_ends world first st k n left status output later items frames os es r numb
     all : AllToldAtEnd world st.trace later frames (all_begun st) es
     all = subst At (sym end.newest)
         (λ a b c d. all_ended world st x frames items end.body os es n numbers now h.1 entry (has_items x st.trace end.newest) a b c d) parts.0 parts.1 tells
-            asked
+        asked
 
 -- ---- it doesn't end so
 pub audit_returns : AuditReturns

@@ -1,33 +1,33 @@
 -- What is recorded stays what the definitions have behind an event.
-use Rattle.std.proofs.Common.{◌≡◌, ◌≤◌, ◌<◌, ℕ, suc, Bool, true, false, ◌||◌, List, [], ◌∷◌, ◌++◌, length, Option, Some, None}
+use Rattle.std.proofs.Common.{◌≡◌, ◌<◌, ℕ, true, List, [], ◌∷◌, ◌++◌, length, Some, None}
 use Rattle.std.proofs.Common.{refl, sym, ap, ap₂, subst, ◌∙◌, arith}
 use Rattle.ub_base.specs.declared.clause.Kind.TheVariants.{Body}
 use Rattle.ub_base.specs.declared.names.Frame.{Frame}
 use Rattle.ub_base.specs.declared.names.Item.{Item}
 use Rattle.c_typed.specs.declared.tree.Place.{Place}
-use Rattle.c_typed.specs.Order.{Taken, has, place}
+use Rattle.c_typed.specs.Order.{Taken, has}
 use Rattle.c_typed.specs.Tree.{Tree}
 use Rattle.c_model.specs.Completions.{Completed, Incomplete, Own_node, Operands_of, completed_by}
 use Rattle.c_model.specs.Findings.{is_under, items_under}
 use Rattle.c_model.specs.Program.{tree_of}
-use Rattle.c_model.specs.Runs.{Entry, Running, State, canonical_pick, step}
+use Rattle.c_model.specs.Runs.{Entry, State, canonical_pick}
 use Rattle.c_model.specs.Steps.{Begun, Control, Ev, Local, Pick, Scene, is_done, taken_by, with_given}
 use Rattle.c_model.specs.World.{NumbersFrames, World}
 use Rattle.conflict_detector.specs.Telling.{IsReached}
 use Rattle.elaborate.specs.Formed.{is_formed}
 use Rattle.listing_laws.specs.Along.{StandsAlong}
-use Rattle.run_evaluations.specs.Told.{Evaluation, Opened, chosen_by, entered, evaluation, gathered, told}
-use Rattle.telling_laws.specs.Standing.{StandsBehind, StandsTold, completed_in, places, with_completed}
+use Rattle.run_evaluations.specs.Told.{Evaluation, Opened, entered, evaluation}
+use Rattle.telling_laws.specs.Standing.{StandsBehind, StandsTold, completed_in, with_completed}
 use Rattle.telling_laws.proofs.Stands.{completes_standing}
 use Rattle.detector_laws.specs.Along.{AreClear}
 use Rattle.detector_laws.specs.Fresh.{IsFresh, started_in}
-use Rattle.detector_laws.specs.Frames.{AreFree, IsEntryOf, StandsFree, TakesEvent}
+use Rattle.detector_laws.specs.Frames.{IsEntryOf, StandsFree, TakesEvent}
 use Rattle.detector_laws.specs.Records.{Records, TellsItems}
 use Rattle.detector_laws.specs.Shown.{begun_below}
-use Rattle.detector_laws.proofs.Free.{done_as, not_passed, or_false}
+use Rattle.detector_laws.proofs.Free.{done_as, not_passed}
 use Rattle.detector_laws.proofs.Paths.{under_itself}
 use Rattle.detector_laws.proofs.Recorded.{gathers_recorded, starts_recorded, tells_recorded}
-use Rattle.frame_records.specs.Frames.{AllRecorded, Counts, HeldAre, HeldRecorded, OpenRecorded, idle, rests, opens, ended, below, more}
+use Rattle.frame_records.specs.Frames.{AllRecorded, Counts, HeldAre, HeldRecorded, OpenRecorded, idle, rests, opens, ended, more}
 use Rattle.frame_records.specs.Kept.{EventsKeep}
 use Rattle.frame_records.specs.Picks.{PicksSo}
 use Rattle.frame_records.specs.Picks as kind

@@ -1,5 +1,5 @@
 -- What is recorded of the frames that are held stays so while the frames above go on.
-use Rattle.std.proofs.Common.{◌≡◌, ◌≤◌, ℕ, suc, true, List, [], ◌∷◌, ◌++◌, length, Option, Some, None, refl, sym, ap, subst, ◌∙◌, arith}
+use Rattle.std.proofs.Common.{◌≡◌, ◌≤◌, suc, true, List, [], ◌∷◌, ◌++◌, length, Option, Some, None, refl, sym, ap, subst, ◌∙◌, arith}
 use Rattle.ub_base.specs.Frames.{Path}
 use Rattle.c_typed.specs.declared.tree.Place.{Place}
 use Rattle.c_model.specs.Findings.{is_under}

@@ -1,5 +1,5 @@
 -- A conflict of the definition is of two evaluations that clash, and what is done is due and done once.
-use Rattle.std.proofs.Common.{◌≡◌, ℕ, zero, suc, Bool, true, List, [], ◌∷◌, length, refl, ap, ◌∙◌, Option, Some, None}
+use Rattle.std.proofs.Common.{◌≡◌, ℕ, zero, suc, Bool, true, List, [], ◌∷◌, length, refl, ap, ◌∙◌, Some}
 use Rattle.std.specs.Prelude.{slice_get}
 use Rattle.ub_base.specs.Frames.{Row as FrameRow}
 use Rattle.addr_map.specs.declared.map.Row.{Row}

@@ -1,19 +1,18 @@
 -- Which pick comes to what.
-use Rattle.std.proofs.Common.{◌≡◌, ◌⊎◌, ℕ, suc, Bool, true, false, if◌then◌else◌, List, [], ◌∷◌, length, Option, Some, None, refl, sym, ap, subst, ◌∙◌}
+use Rattle.std.proofs.Common.{◌≡◌, ℕ, suc, Bool, true, false, if◌then◌else◌, List, [], ◌∷◌, length, Option, Some, None, refl, sym, ap, subst, ◌∙◌}
 use Rattle.std.proofs.Common.{arith}
 use Rattle.c_typed.specs.declared.tree.Place.{Place}
 use Rattle.c_typed.specs.Decide.{canonical}
 use Rattle.c_typed.specs.Order.{is_body}
-use Rattle.mem_spec.specs.Script.{Act, Done, Raised, Ended, Outside, Unplaced, run}
+use Rattle.mem_spec.specs.Script.{Act, Done, Raised, Ended, Outside, Unplaced}
 use Rattle.mem_spec.specs.Store.{Store}
 use Rattle.c_model.specs.Moves.{Move, Stay, Start, End}
 use Rattle.c_model.specs.Program.{Head, Call, Isolated, Expr, expr, Function, Stmt, tree_of}
-use Rattle.c_model.specs.Runs.{Entry, Outcome, No_row, Running, State, acted, back, canonical_pick, chosen_pick, entry_of, moved, step}
+use Rattle.c_model.specs.Runs.{Entry, No_row, Running, State, acted, back, canonical_pick, chosen_pick, entry_of, moved, step}
 use Rattle.c_model.specs.Steps.{Begun, Control, Ev, Local, Pick, Scene, at_node, body_frame, called_by, is_done, move, move_of, next, own_body, start_call}
 use Rattle.c_model.specs.Steps.{started, taken_by, with_given}
 use Rattle.c_model.specs.Values.{Value, later_values}
 use Rattle.c_model.specs.World.{World}
-use Rattle.listing_laws.specs.Along.{first_of}
 use Rattle.listing_laws.proofs.Going.{takes_first}
 use Rattle.detector_laws.specs.Frames.{AllWaitFree, AreFree, ComesTo, IsBareValue, IsEntryOf, StandsFree, TakesEvent, TopStands}
 use Rattle.detector_laws.specs.Frames as come

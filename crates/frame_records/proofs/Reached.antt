@@ -1,16 +1,16 @@
 -- As the frames above the top one are left, its full expression is what is on top.
-use Rattle.std.proofs.Common.{◌≡◌, ◌<◌, ◌-◌, ℕ, suc, Bool, true, List, [], ◌∷◌, ◌++◌, length, Option, Some, None, refl, sym, ap, ap₂, subst, ◌∙◌, arith}
+use Rattle.std.proofs.Common.{◌≡◌, ◌<◌, ◌-◌, ℕ, Bool, true, List, [], ◌∷◌, ◌++◌, length, Option, Some, None, refl, sym, ap, ap₂, subst, ◌∙◌, arith}
 use Rattle.std.specs.Prelude.{slice_get}
 use Rattle.ub_base.specs.declared.names.Frame.{Frame}
 use Rattle.ub_base.specs.declared.names.Item.{Item}
 use Rattle.c_typed.specs.declared.tree.Place.{Place}
 use Rattle.c_typed.specs.Order.{Taken, events, has, is_body}
 use Rattle.c_typed.specs.Tree.{Tree}
-use Rattle.c_model.specs.Completions.{Completed, Incomplete, completed_by}
+use Rattle.c_model.specs.Completions.{Incomplete, completed_by}
 use Rattle.c_model.specs.Moments.{items_by}
 use Rattle.c_model.specs.Program.{tree_of}
 use Rattle.c_model.specs.Runs.{Entry, State}
-use Rattle.c_model.specs.Steps.{Begun, Local, Scene, taken_by}
+use Rattle.c_model.specs.Steps.{Begun, Scene, taken_by}
 use Rattle.c_model.specs.World.{NumbersFrames, World}
 use Rattle.conflict_detector.specs.Telling.{IsReached, LeftTo}
 use Rattle.conflict_detector.specs.Telling as leaving

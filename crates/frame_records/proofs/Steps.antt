@@ -1,19 +1,19 @@
 -- What is recorded stays what the definitions have behind a control step.
-use Rattle.std.proofs.Common.{◌≡◌, ◌≤◌, ◌<◌, ℕ, zero, suc, true, List, [], ◌∷◌, ◌++◌, length, Option, Some, None, refl, sym, ap, subst, ◌∙◌, arith}
+use Rattle.std.proofs.Common.{◌≡◌, ◌≤◌, ◌<◌, ℕ, zero, suc, true, List, [], ◌∷◌, length, Option, Some, None, refl, sym, ap, subst, ◌∙◌, arith}
 use Rattle.ub_base.specs.declared.clause.Kind.TheVariants.{Body}
 use Rattle.ub_base.specs.declared.names.Frame.{Frame}
 use Rattle.c_typed.specs.declared.tree.Place.{Place}
 use Rattle.c_typed.specs.Order.{events}
 use Rattle.c_model.specs.Findings.{is_under}
 use Rattle.c_model.specs.Program.{tree_of}
-use Rattle.c_model.specs.Runs.{Entry, Running, State, canonical_pick, step}
+use Rattle.c_model.specs.Runs.{Entry, State, canonical_pick}
 use Rattle.c_model.specs.Steps.{Begun, Control, Ev, Local, Pick, Scene, taken_by, with_given}
 use Rattle.c_model.specs.World.{World}
 use Rattle.conflict_detector.specs.Telling.{IsBare, fresh}
 use Rattle.elaborate.specs.Formed.{is_formed}
 use Rattle.listing_laws.proofs.Going.{begins_along}
 use Rattle.run_evaluations.specs.Told.{Opened, begun, entered, settled}
-use Rattle.detector_laws.specs.Frames.{AllWaitFree, AreFree, HasEntry, TakesEvent, TopStands}
+use Rattle.detector_laws.specs.Frames.{AllWaitFree, AreFree, TakesEvent, TopStands}
 use Rattle.detector_laws.specs.Looked.{scope_of}
 use Rattle.detector_laws.specs.Shown.{all_begun, begun_below, begun_in}
 use Rattle.detector_laws.proofs.Goes.{picks_come_to}

@@ -55,7 +55,7 @@ pub record TellsEnd (world : World) (st : State) (later : List Entry) (u : Place
 abbrev pub AuditEnds : Type 0
 AuditEnds = (world : World) (first st : State) (k n left status : ℕ) (output : Outputs) (later : List Entry) (items : List Item) (frames : List FrameRow)
     (os es : List Opened) (r : Option Found) → NumbersFrames world.number → AreOnTheWay world first → all_begun first ≡ [] → AreFormed world first →
-        AsksAll world first
+    AsksAll world first
     → Walks world first k st n os → step world st (canonical_pick world st.top st.top.begun) ≡ Ends status output later
     → (end : IsEnding world st (canonical_pick world st.top st.top.begun) later)
     → ((x : Entry) (xs : List Entry) → later ≡ x ∷ xs → TellsItems items x.items) → TellsEnd world st later end.body items frames os es

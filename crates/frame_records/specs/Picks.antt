@@ -1,5 +1,5 @@
 -- Which pick comes to what, along the canonical order (own).
-use Rattle.std.specs.Prelude.{◌≡◌, suc, true, List, [], ◌∷◌, Option, Some, None}
+use Rattle.std.specs.Prelude.{◌≡◌, List, ◌∷◌, Some, None}
 use Rattle.ub_base.specs.declared.clause.Kind.TheVariants.{Body}
 use Rattle.c_typed.specs.declared.tree.Place.{Place}
 use Rattle.c_model.specs.Runs.{Entry, Running, State, canonical_pick, step}
