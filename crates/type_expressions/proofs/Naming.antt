@@ -1,5 +1,5 @@
 -- What an identifier stands for in an expression (6.5.1p2, 6.7.2.2p3).
-use Rattle.std.proofs.Common.{◌≡◌, ◌∙◌, refl, sym, ap, subst, ℕ, Bool, false, List, [], append-nil}
+use Rattle.std.proofs.Common.{◌≡◌, ◌∙◌, refl, sym, ap, subst, ℕ, Bool, false, List, []}
 use Rattle.std.specs.Prelude.{ℤ, slice_get, Option, Some, None, Result, Ok, Err, IfOk}
 use Rattle.std.specs.Option.{option_map}
 use Rattle.std.proofs.lemmas.Option.{same_Some, none-some}
@@ -31,7 +31,7 @@ use Rattle.type_declarators.specs.Finds.{Finds}
 use Rattle.type_expressions.specs.declared.apply.NameMeaning.{NameMeaning}
 use Rattle.type_expressions.specs.Forms.{in_expression, name_seen}
 use Rattle.type_expressions.specs.Seen.{Namings, operand_seen}
-use Rattle.type_expressions.specs.Tells.{Tells}
+use Rattle.type_expressions.specs.Tells.{Tells, Past}
 use Rattle.type_expressions.proofs.Uses.{count_same, object_tells, function_tells, unused_tells}
 
 -- 1. What is found among the declarations in scope.
@@ -130,7 +130,7 @@ meant_here n t s env at o known is =
 -- 5. What is used.
 
 -- an object with static storage
-pub object_noted : (n : Namings) (t : TokenText) (off : Bool) (before : List Use) (x : Slot) (number : ℕ) (ty was : CType) (old new : State) (env : Env)
+pub object_noted : (n : Namings) (t : TokenText) (off : Bool) (before : Past) (x : Slot) (number : ℕ) (ty was : CType) (old new : State) (env : Env)
     → x ≡ slot.Static number → was ≡ ty → new ≡ record old { objects = new.objects } → Tells n t off before old env
     → ((env2 : Env) → HasObjects n.objects old env2 → HasObjects n.objects new env2)
     → (IsOneToOne n.objects → (us : List Use) → HasUses n.objects old us
@@ -144,13 +144,13 @@ object_noted n t off before x number ty was old new env is same e h rows uses =
     subst U (ap count_of same ∙ count_same ty) (uses d us k)))
 
 -- an automatic one, which isn't noted
-pub object_unnoted : (n : Namings) (t : TokenText) (off : Bool) (before : List Use) (x : Slot) (block decl : ℕ) (ty : CType) (s : State) (env : Env)
+pub object_unnoted : (n : Namings) (t : TokenText) (off : Bool) (before : Past) (x : Slot) (block decl : ℕ) (ty : CType) (s : State) (env : Env)
     → x ≡ slot.Auto block decl → Tells n t off before s env → Tells n t off before s (using (use_of_object (slot_seen n.objects x) ty) env)
 object_unnoted n t off before x block decl ty s env is h =
     let P : Slot → Type 0 = λ y. Tells n t off before s (using (use_of_object (slot_seen n.objects y) ty) env) in
     subst P (sym is) (unused_tells n t off before s env h)
 
-pub function_noted : (n : Namings) (t : TokenText) (off : Bool) (before : List Use) (number : ℕ) (old new : State) (env : Env)
+pub function_noted : (n : Namings) (t : TokenText) (off : Bool) (before : Past) (number : ℕ) (old new : State) (env : Env)
     → new ≡ record old { functions = new.functions } → Tells n t off before old env
     → ((k : Naming) (u : TokenText) (env2 : Env) → known_by k u new env2 ≡ known_by k u old env2)
     → ((k : Naming) (us : List Use) → HasUses k old us

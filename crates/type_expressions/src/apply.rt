@@ -22,7 +22,7 @@ ghost use Rattle.type_declarators.specs.Finds.{Finds};
 ghost use Rattle.type_expressions.specs.Forms.{by_form, assigned_by, member_by, measured_by, in_expression, name_seen};
 ghost use Rattle.type_expressions.specs.Seen.{Namings, operand_seen};
 ghost use Rattle.type_expressions.specs.Standing.{layouts_in, extent_of};
-ghost use Rattle.type_expressions.specs.Tells.{Tells, ReadsAs};
+ghost use Rattle.type_expressions.specs.Tells.{Tells, Past, ReadsAs};
 
 use c_ast::{AssignOp, BinaryOp, PostOp, UnaryOp};
 use c_typed::{EqOp, Node, RelOp, Slot};
@@ -40,7 +40,7 @@ use ub_base::NoMemory;
 
 // An object with static storage is used (6.9p3).
 fn note_object(state: &mut State, slot: Slot, qual: &Qual, line: u32)
-    ensures { (n : Namings) (t : TokenText) (off : Bool) (before : List Use) (env : Env) → Tells n t off before state.old env →
+    ensures { (n : Namings) (t : TokenText) (off : Bool) (before : Past) (env : Env) → Tells n t off before state.old env →
         Tells n t off before state.new (spec.using (spec.use_of_object (slot_seen n.objects slot) (qualified_of qual.now).ty) env) }
 {
     match slot {
@@ -57,7 +57,7 @@ fn object_operand(
     register: bool,
     line: u32,
 ) -> Result<Operand, TypeFault>
-    ensures told { (n : Namings) (t : TokenText) (off : Bool) (before : List Use) (env : Env) → Tells n t off before state.old env →
+    ensures told { (n : Namings) (t : TokenText) (off : Bool) (before : Past) (env : Env) → Tells n t off before state.old env →
         Tells n t off before state.new (spec.using (spec.use_of_object (slot_seen n.objects slot) (qualified_of qual).ty) env) }
     ensures made { (n : Namings) → let q = qualified_of qual in Finds (operand_seen n)
         (Some (as_place register (leaf_term (shape.Obj (slot_seen n.objects slot)) (pointer q.constant q.ty) line))) result }
@@ -69,7 +69,7 @@ fn object_operand(
 
 // A function, which is used (6.9p3).
 fn function_operand(state: &mut State, number: u32, ty: Ty, line: u32) -> Result<Operand, TypeFault>
-    ensures told { (n : Namings) (t : TokenText) (off : Bool) (before : List Use) (env : Env) → Tells n t off before state.old env →
+    ensures told { (n : Namings) (t : TokenText) (off : Bool) (before : Past) (env : Env) → Tells n t off before state.old env →
         Tells n t off before state.new (spec.using (spec.use_of_function number) env) }
     ensures made { (n : Namings) → Finds (operand_seen n) (Some (record
         { tree = leaf_term (shape.Func number) (pointer false (type_of ty)) line; form = form.Designator; line = line })) result }

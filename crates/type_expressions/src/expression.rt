@@ -1,11 +1,30 @@
 // Expressions, and the declarations inside them: type names, specifiers and declarators (6.5, 6.7.2 to 6.7.7).
+ghost use Rattle.std.specs.Prelude.{◌≡◌, ℕ, ◌<◌, ◌^◌, ◌==◌, Bool, not, ◌&&◌, List, map, length, IfOk, Option, Some, None};
+ghost use Rattle.c_grammar.specs.Grammar.{name_of};
+ghost use Rattle.c_types.specs.Types.{type_of, qualified_of, params_of};
+ghost use Rattle.type_conversions.specs.Casts as casts;
+ghost use Rattle.type_calls.specs.Choices.{chosen};
+ghost use Rattle.type_operators.specs.Operators.{indexed};
+ghost use Rattle.typing_env.specs.Env.{Env, spelling, unevaluated};
+ghost use Rattle.typing_env.specs.Names.{in_prototype};
+ghost use Rattle.typing_words.specs.Words as spec_words;
+ghost use Rattle.typing_spec.specs.Expressions as spec;
+ghost use Rattle.type_declarators.specs.Keywords.{IsSaid};
+ghost use Rattle.type_expressions.specs.Forms.{member_by};
+ghost use Rattle.type_expressions.specs.Plain.{IsPlain, IsPlainBase, IsPlainDeclarator, IsPlainName, AllPlain, AllPlainParams, AllPlainEnumerators};
+ghost use Rattle.type_expressions.specs.Plain.{IsPlainEnumerator, operands_of};
+ghost use Rattle.type_expressions.specs.Seen.{Namings, operand_seen};
+ghost use Rattle.type_expressions.specs.Tells.{Tells, Past, ReadsAs, ReadsMore, line_by, read_then};
+ghost use Rattle.type_expressions.specs.TypeNames.{type_by, type_before, parameter_in, parameters_of, value_in, enumerators_of, enumeration_with};
+ghost use Rattle.type_expressions.specs.TypeNames.{FollowsSo, IsSpecified, IsParameter, AreParts};
 
 use crate::apply;
 use c_ast::{
     AssignOp, Base, BinaryOp, Declarator, Enumerator, Expr, ExprNode, MemberEntry, Param, PostOp,
     Specs, TypeName, UnaryOp,
 };
-use c_types::Qual;
+use c_lex::Word;
+use c_types::{Qual, Ty};
 use type_declarators::declarator::{Declared, Derivation};
 use type_declarators::tag::MemberList;
 use type_declarators::words::{Storage, Words, read_words};
@@ -18,7 +37,9 @@ use ub_base::Items;
 /// An expression (6.5). What follows a first operand is read by a function of its own that isn't inlined, so that a level of
 /// nesting costs the host's stack little.
 #[cycle(expression)]
-pub fn expression(source: &Source<'_>, state: &mut State, e: &Expr) -> Result<Operand, TypeFault> {
+pub fn expression(source: &Source<'_>, state: &mut State, e: &Expr) -> Result<Operand, TypeFault>
+    ensures { IsPlain source.now e.now.node → ReadsMore operand_seen source.now state.old state.new (λ _. spec.expr e.now) result }
+{
     let line = source.line(e.at);
     match &e.node {
         ExprNode::Name(at) => apply::named(source, state, *at),
@@ -74,7 +95,10 @@ fn unary(
     a: &Expr,
     op: UnaryOp,
     line: u32,
-) -> Result<Operand, TypeFault> {
+) -> Result<Operand, TypeFault>
+    ensures { (at : ℕ) → line ≡ line_by source.now at → IsPlain source.now a.now.node →
+        ReadsMore operand_seen source.now state.old state.new (λ _. read_then (spec.expr a.now) (λ y. spec.made_modifying at (spec.unary op y))) result }
+{
     let a = expression(source, state, a)?;
     apply::unary(state, op, a, line)
 }
@@ -88,7 +112,10 @@ fn postfix(
     a: &Expr,
     op: PostOp,
     line: u32,
-) -> Result<Operand, TypeFault> {
+) -> Result<Operand, TypeFault>
+    ensures { (at : ℕ) → line ≡ line_by source.now at → IsPlain source.now a.now.node →
+        ReadsMore operand_seen source.now state.old state.new (λ _. read_then (spec.expr a.now) (λ y. spec.made_modifying at (spec.postfix op y))) result }
+{
     let a = expression(source, state, a)?;
     apply::postfix(state, op, a, line)
 }
@@ -103,7 +130,11 @@ fn binary(
     op: BinaryOp,
     a: Operand,
     line: u32,
-) -> Result<Operand, TypeFault> {
+) -> Result<Operand, TypeFault>
+    ensures { (at : ℕ) → line ≡ line_by source.now at → IsPlain source.now b.now.node →
+        ReadsMore operand_seen source.now state.old state.new
+        (λ n. read_then (spec.expr b.now) (λ w. spec.made at (spec.binary op (operand_seen n a) w))) result }
+{
     let b = expression(source, state, b)?;
     apply::binary(state, op, a, b, line)
 }
@@ -118,7 +149,10 @@ fn assignment(
     op: AssignOp,
     a: Operand,
     line: u32,
-) -> Result<Operand, TypeFault> {
+) -> Result<Operand, TypeFault>
+    ensures { (at : ℕ) → line ≡ line_by source.now at → IsPlain source.now b.now.node → ReadsMore operand_seen source.now state.old state.new
+        (λ n. read_then (spec.expr b.now) (λ w. spec.made_modifying at (spec.assigned op (operand_seen n a) w))) result }
+{
     let b = expression(source, state, b)?;
     apply::assignment(state, op, a, b, line)
 }
@@ -133,7 +167,10 @@ fn conditional(
     a: Operand,
     b: Operand,
     line: u32,
-) -> Result<Operand, TypeFault> {
+) -> Result<Operand, TypeFault>
+    ensures { (at : ℕ) → line ≡ line_by source.now at → IsPlain source.now c.now.node → ReadsMore operand_seen source.now state.old state.new
+        (λ n. read_then (spec.expr c.now) (λ z. spec.made at (λ tags. chosen tags (operand_seen n a) (operand_seen n b) z))) result }
+{
     let c = expression(source, state, c)?;
     apply::conditional(state, a, b, c, line)
 }
@@ -147,7 +184,10 @@ fn subscript(
     b: &Expr,
     a: Operand,
     line: u32,
-) -> Result<Operand, TypeFault> {
+) -> Result<Operand, TypeFault>
+    ensures { (at : ℕ) → line ≡ line_by source.now at → IsPlain source.now b.now.node → ReadsMore operand_seen source.now state.old state.new
+        (λ n. read_then (spec.expr b.now) (λ w. spec.made at (λ tags. indexed tags (operand_seen n a) w))) result }
+{
     let b = expression(source, state, b)?;
     apply::subscript(state, a, b, line)
 }
@@ -162,7 +202,10 @@ fn member(
     arrow: bool,
     name: u32,
     line: u32,
-) -> Result<Operand, TypeFault> {
+) -> Result<Operand, TypeFault>
+    ensures { (at : ℕ) → line ≡ line_by source.now at → IsPlain source.now a.now.node → ReadsMore operand_seen source.now state.old state.new
+        (λ _. read_then (spec.expr a.now) (λ y k. spec.made at (λ tags. member_by arrow tags y (spelling k name)) k)) result }
+{
     let a = expression(source, state, a)?;
     apply::member(source, state, arrow, a, name, line)
 }
@@ -176,7 +219,10 @@ fn cast(
     a: &Expr,
     to: Qual,
     line: u32,
-) -> Result<Operand, TypeFault> {
+) -> Result<Operand, TypeFault>
+    ensures { (at : ℕ) → line ≡ line_by source.now at → IsPlain source.now a.now.node → ReadsMore operand_seen source.now state.old state.new
+        (λ _. read_then (spec.expr a.now) (λ y. spec.made at (λ tags. casts.cast tags (qualified_of to).ty y))) result }
+{
     let a = expression(source, state, a)?;
     apply::cast(state, a, &to.ty, line)
 }
@@ -189,7 +235,10 @@ fn size_of_operand(
     state: &mut State,
     a: &Expr,
     line: u32,
-) -> Result<Operand, TypeFault> {
+) -> Result<Operand, TypeFault>
+    ensures { (at : ℕ) → line ≡ line_by source.now at → IsPlain source.now a.now.node →
+        ReadsMore operand_seen source.now state.old state.new (λ _. read_then (unevaluated (spec.expr a.now)) (λ y. spec.measured_operand at y)) result }
+{
     let mark = state.suspend();
     let a = expression(source, state, a)?;
     state.resume(mark);
@@ -204,7 +253,10 @@ fn size_of_type(
     state: &mut State,
     ty: &TypeName,
     at: u32,
-) -> Result<Operand, TypeFault> {
+) -> Result<Operand, TypeFault>
+    ensures { IsPlainName source.now ty.now → ReadsMore operand_seen source.now state.old state.new
+        (λ _. read_then (type_by ty.now) (λ q. spec.measured at (λ e. e.size) q.ty)) result }
+{
     let qual = type_name(source, state, ty, at)?;
     apply::size_of_type(state, &qual.ty, source.line(at))
 }
@@ -217,7 +269,10 @@ fn alignment_of_type(
     state: &mut State,
     ty: &TypeName,
     at: u32,
-) -> Result<Operand, TypeFault> {
+) -> Result<Operand, TypeFault>
+    ensures { IsPlainName source.now ty.now → ReadsMore operand_seen source.now state.old state.new
+        (λ _. read_then (type_by ty.now) (λ q. spec.measured at (λ e. e.align) q.ty)) result }
+{
     let qual = type_name(source, state, ty, at)?;
     apply::alignment_of_type(state, &qual.ty, source.line(at))
 }
@@ -227,7 +282,10 @@ fn expressions(
     source: &Source<'_>,
     state: &mut State,
     all: &[Expr],
-) -> Result<Vec<Operand>, TypeFault> {
+) -> Result<Vec<Operand>, TypeFault>
+    ensures { AllPlain source.now all.now →
+        ReadsMore (λ n v. map (operand_seen n) v.items) source.now state.old state.new (λ _. operands_of all.now) result }
+{
     let mut operands = Vec::new(state.alloc);
     for e in all {
         let operand = expression(source, state, e)?;
@@ -243,7 +301,9 @@ pub fn constant(
     state: &mut State,
     e: &Expr,
     reason: Reason,
-) -> Result<i128, TypeFault> {
+) -> Result<i128, TypeFault>
+    ensures { IsPlain source.now e.now.node → ReadsAs (λ _ z. z) source.now state.old state.new (λ _. spec.constant e.now) result }
+{
     let mark = state.mark();
     let operand = expression(source, state, e)?;
     state.forget_literals(mark);
@@ -257,13 +317,22 @@ pub fn type_name(
     state: &mut State,
     name: &TypeName,
     at: u32,
-) -> Result<Qual, TypeFault> {
+) -> Result<Qual, TypeFault>
+    ensures { IsPlainName source.now name.now → ReadsAs (λ _. qualified_of) source.now state.old state.new (λ _. type_by name.now) result }
+{
     let (words, base) = specified(source, state, &name.specs, at, false)?;
-    if words.storage != Storage::None || words.function {
+    if !are_qualified(&words) {
         return Err(source.fault(at, Reason::TypeName));
     }
-    let Declared { name: _, qual } = declared(source, state, &name.declarator, base, at)?;
-    Ok(qual)
+    let found = declared(source, state, &name.declarator, base, at)?;
+    Ok(found.qual)
+}
+
+// Whether they are qualifiers and type specifiers alone (6.7.7).
+fn are_qualified(words: &Words) -> bool
+    ensures { (ws : spec_words.Words) → IsSaid words.now ws → result ≡ spec_words.are_qualified ws }
+{
+    words.storage == Storage::None && !words.function
 }
 
 /// What specifiers say and the type that they give; `at` is a token near them, and `alone` says that no declarator follows.
@@ -274,44 +343,99 @@ pub fn specified(
     specs: &Specs,
     at: u32,
     alone: bool,
-) -> Result<(Words, Qual), TypeFault> {
+) -> Result<(Words, Qual), TypeFault>
+    ensures { IsPlainBase source.now specs.now.base → (n : Namings) (off : Bool) (before : Past) (env : Env) →
+        Tells n source.now off before state.old env →
+        FollowsSo IsSpecified (Tells n source.now off before state.new) (spec.specified specs.now.words specs.now.base alone env) result }
+{
     let words = read_words(specs.words.as_slice());
-    let qual = match &specs.base {
-        Base::Plain => declarator::plain_type(source, &words, at)?,
-        Base::Typedef(name) => declarator::typedef_type(source, state, *name)?,
+    let bare = stand_alone(alone, specs.words.as_slice());
+    let qual = type_before(source, state, specs, &words, at, bare)?;
+    let suited = declarator::with_words(source, state.alloc, qual, &words, &specs.base, at)?;
+    Ok((words, suited))
+}
+
+// Whether nothing stands beside a tag: no declarator follows, and there is no keyword.
+fn stand_alone(alone: bool, words: &[Word]) -> bool
+    ensures { result ≡ (alone && spec_words.is_no_word words.now) }
+{
+    alone && words.is_empty()
+}
+
+// The type that specifiers give apart from their qualifiers; `alone` says that nothing stands beside them (6.7.2).
+#[cycle(expression)]
+fn type_before(
+    source: &Source<'_>,
+    state: &mut State,
+    specs: &Specs,
+    words: &Words,
+    at: u32,
+    alone: bool,
+) -> Result<Qual, TypeFault>
+    ensures { IsPlainBase source.now specs.now.base → (ws : spec_words.Words) → IsSaid words.now ws →
+        ReadsAs (λ _. qualified_of) source.now state.old state.new (λ _. type_before alone ws specs.now.base) result }
+{
+    match &specs.base {
+        Base::Plain => declarator::plain_type(source, words, at),
+        Base::Typedef(name) => declarator::typedef_type(source, state, *name),
         Base::Tagged {
             union,
             tag,
             members,
-        } => {
-            let kind = tag::kind_of(*union);
-            let ty = match members {
-                None => {
-                    let alone = alone && specs.words.is_empty();
-                    tag::reference(source, state, kind, *tag, at, alone)?
-                }
-                Some(entries) => {
-                    let number = tag::open(source, state, kind, *tag)?;
-                    let list = structure(source, state, entries.as_slice(), at)?;
-                    tag::close(source, state, kind, number, list, at)?
-                }
-            };
-            declarator::unqualified(ty)
-        }
-        Base::Enumerated { tag, enumerators } => {
-            let ty = match enumerators {
-                None => tag::enumeration(source, state, *tag, at)?,
-                Some(list) => {
-                    let number = tag::open_enumeration(source, state, *tag)?;
-                    enumerated(source, state, list.as_slice())?;
-                    tag::close_enumeration(state, number)
-                }
-            };
-            declarator::unqualified(ty)
-        }
-    };
-    let qual = declarator::with_words(source, state.alloc, qual, &words, &specs.base, at)?;
-    Ok((words, qual))
+        } => match members {
+            None => {
+                let kind = tag::kind_of(*union);
+                let ty = tag::reference(source, state, kind, *tag, at, alone)?;
+                Ok(declarator::unqualified(ty))
+            }
+            Some(entries) => {
+                let ty = tagged(source, state, *union, *tag, entries.as_slice(), at)?;
+                Ok(declarator::unqualified(ty))
+            }
+        },
+        Base::Enumerated { tag, enumerators } => match enumerators {
+            None => {
+                let ty = tag::enumeration(source, state, *tag, at)?;
+                Ok(declarator::unqualified(ty))
+            }
+            Some(list) => {
+                let ty = enumeration(source, state, *tag, list.as_slice())?;
+                Ok(declarator::unqualified(ty))
+            }
+        },
+    }
+}
+
+// A structure, or a union where `union` is true, with its member list (6.7.2.1).
+#[cycle(expression)]
+fn tagged(
+    source: &Source<'_>,
+    state: &mut State,
+    union: bool,
+    tag: Option<u32>,
+    entries: &[MemberEntry],
+    at: u32,
+) -> Result<Ty, TypeFault> {
+    let kind = tag::kind_of(union);
+    let number = tag::open(source, state, kind, tag)?;
+    let list = structure(source, state, entries, at)?;
+    tag::close(source, state, kind, number, list, at)
+}
+
+// An enumeration with its list (6.7.2.2).
+#[cycle(expression)]
+fn enumeration(
+    source: &Source<'_>,
+    state: &mut State,
+    tag: Option<u32>,
+    list: &[Enumerator],
+) -> Result<Ty, TypeFault>
+    ensures { AllPlainEnumerators source.now list.now → ReadsAs (λ _ ty. spec_words.plain (type_of ty)) source.now state.old state.new
+        (λ _. enumeration_with tag (Some list.now)) result }
+{
+    let number = tag::open_enumeration(source, state, tag)?;
+    enumerated(source, state, list)?;
+    Ok(tag::close_enumeration(state, number))
 }
 
 // The members of a structure or union (6.7.2.1).
@@ -374,20 +498,34 @@ fn members(
 
 // The constants of an enumeration: each in scope behind itself (6.7.2.2).
 #[cycle(expression)]
-fn enumerated(
-    source: &Source<'_>,
-    state: &mut State,
-    list: &[Enumerator],
-) -> Result<(), TypeFault> {
+fn enumerated(source: &Source<'_>, state: &mut State, list: &[Enumerator]) -> Result<(), TypeFault>
+    ensures { AllPlainEnumerators source.now list.now → ReadsAs (λ _ u. u) source.now state.old state.new (λ _. enumerators_of None list.now) result }
+{
     let mut before = None;
     for e in list {
-        let value = match &e.value {
-            None => None,
-            Some(value) => Some(constant(source, state, value, Reason::EnumeratorValue)?),
-        };
-        before = Some(apply::enumeration_constant(source, state, e.name, value, before)?);
+        let value = enumerator_value(source, state, e)?;
+        let number = apply::enumeration_constant(source, state, e.name, value, before)?;
+        before = Some(number);
     }
     Ok(())
+}
+
+// The value that is written behind an enumerator (6.7.2.2p2).
+#[cycle(expression)]
+fn enumerator_value(
+    source: &Source<'_>,
+    state: &mut State,
+    e: &Enumerator,
+) -> Result<Option<i128>, TypeFault>
+    ensures { IsPlainEnumerator source.now e.now → ReadsAs (λ _ v. v) source.now state.old state.new (λ _. value_in e.now) result }
+{
+    match &e.value {
+        None => Ok(None),
+        Some(value) => {
+            let number = constant(source, state, value, Reason::EnumeratorValue)?;
+            Ok(Some(number))
+        }
+    }
 }
 
 /// What a declarator declares, from the type in front of it; `at` is a token near it (6.7.6).
@@ -398,7 +536,11 @@ pub fn declared(
     d: &Declarator,
     base: Qual,
     at: u32,
-) -> Result<Declared, TypeFault> {
+) -> Result<Declared, TypeFault>
+    ensures reads { IsPlainDeclarator source.now d.now → ReadsAs (λ _ found. qualified_of found.qual) source.now state.old state.new
+        (λ _. spec.declared (qualified_of base) d.now) result }
+    ensures name { IfOk result (λ found. found.name ≡ name_of d.now) }
+{
     let mut parts = Vec::new(state.alloc);
     let name = derivations(source, state, d, at, &mut parts)?;
     let qual = declarator::derived(source, state, parts, base, at)?;
@@ -414,7 +556,12 @@ fn derivations(
     d: &Declarator,
     at: u32,
     parts: &mut Vec<Derivation>,
-) -> Result<Option<u32>, TypeFault> {
+) -> Result<Option<u32>, TypeFault>
+    ensures name { IfOk result (λ name. name ≡ name_of d.now) }
+    ensures reads { IsPlainDeclarator source.now d.now → (n : Namings) (off : Bool) (before : Past) (env : Env) →
+        Tells n source.now off before state.old env →
+        FollowsSo (AreParts parts.old.items parts.new.items) (Tells n source.now off before state.new) (spec.derivations d.now env) result }
+{
     match d {
         Declarator::Ident(name) => Ok(*name),
         Declarator::Pointer(words, d) => {
@@ -422,16 +569,24 @@ fn derivations(
             parts.push(declarator::pointer_part(source, words.as_slice(), at)?)?;
             Ok(name)
         }
-        Declarator::Array(d, None) => {
+        Declarator::Array(d, size) => {
             let name = derivations(source, state, d.get(), at, parts)?;
-            parts.push(Derivation::Array(None))?;
-            Ok(name)
-        }
-        Declarator::Array(d, Some(count)) => {
-            let name = derivations(source, state, d.get(), at, parts)?;
-            let number = constant(source, state, count.get(), Reason::LeftOutVariableLength)?;
-            parts.push(Derivation::Array(Some(number)))?;
-            Ok(name)
+            match size {
+                None => {
+                    parts.push(Derivation::Array(None))?;
+                    Ok(name)
+                }
+                Some(count) => {
+                    let number = constant(
+                        source,
+                        state,
+                        count.get(),
+                        Reason::LeftOutVariableLength,
+                    )?;
+                    parts.push(Derivation::Array(Some(number)))?;
+                    Ok(name)
+                }
+            }
         }
         Declarator::Function(d, params, variadic) => {
             let name = derivations(source, state, d.get(), at, parts)?;
@@ -452,12 +607,30 @@ fn prototype(
     variadic: bool,
     at: u32,
     own: bool,
-) -> Result<Items<Qual>, TypeFault> {
+) -> Result<Items<Qual>, TypeFault>
+    ensures { AllPlainParams source.now params.now → length params.now < 2 ^ 32 →
+        ReadsAs (λ _ quals. params_of (map qualified_of quals)) source.now state.old state.new
+        (λ _. in_prototype own (parameters_of variadic 0 params.now)) result }
+{
     state.enter_scope()?;
-    let lone = params.len() == 1 && !variadic;
+    let lone = is_lone(params, variadic);
     let params = parameters(source, state, params, lone, at)?;
     state.leave_parameters(own)?;
     Ok(params)
+}
+
+// Whether the list has one item.
+fn is_lone(params: &[Param], variadic: bool) -> bool
+    ensures { result ≡ ((length params.now == 1) && not variadic) }
+{
+    params.len() == 1 && !variadic
+}
+
+// Whether the one item of a list is the `void` that stands for no parameters (6.7.6.3p10).
+fn stands_for_none(lone: bool, words: &Words, param: &Declared) -> bool
+    ensures { (ws : spec_words.Words) → IsSaid words.now ws → result ≡ (lone && spec_words.is_lone_void ws param.now.name (qualified_of param.now.qual)) }
+{
+    lone && declarator::is_void(words, param)
 }
 
 // The types of the parameters, each in scope behind itself (6.7.6.3). `lone` says that the list has one item.
@@ -468,11 +641,15 @@ fn parameters(
     params: &[Param],
     lone: bool,
     at: u32,
-) -> Result<Items<Qual>, TypeFault> {
+) -> Result<Items<Qual>, TypeFault>
+    ensures { (variadic : Bool) → lone ≡ ((length params.now == 1) && not variadic) → AllPlainParams source.now params.now →
+        length params.now < 2 ^ 32 → ReadsAs (λ _ quals. params_of (map qualified_of quals)) source.now state.old state.new
+        (λ _. parameters_of variadic 0 params.now) result }
+{
     let mut quals = Items::new(state.alloc);
     for p in params {
         let (words, param) = parameter(source, state, p, at)?;
-        if lone && declarator::is_void(&words, &param) {
+        if stands_for_none(lone, &words, &param) {
             return Ok(quals);
         }
         let qual = declarator::parameter(source, state, &words, param, quals.len(), at)?;
@@ -487,7 +664,12 @@ fn parameter(
     state: &mut State,
     param: &Param,
     at: u32,
-) -> Result<(Words, Declared), TypeFault> {
+) -> Result<(Words, Declared), TypeFault>
+    ensures reads { IsPlainBase source.now param.now.specs.base → IsPlainDeclarator source.now param.now.declarator →
+        (n : Namings) (off : Bool) (before : Past) (env : Env) → Tells n source.now off before state.old env →
+        FollowsSo IsParameter (Tells n source.now off before state.new) (parameter_in param.now env) result }
+    ensures name { IfOk result (λ p. (p.1).name ≡ name_of param.now.declarator) }
+{
     let (words, base) = specified(source, state, &param.specs, at, false)?;
     let found = declared(source, state, &param.declarator, base, at)?;
     Ok((words, found))

@@ -4,3 +4,6 @@
 
 mod apply;
 pub mod expression;
+mod laws;
+
+pub use laws::law_kept;
