@@ -30,11 +30,11 @@ use Rattle.type_declarators.specs.declared.declarator.Derivation as held
 use Rattle.type_declarators.specs.declared.declarator.Derivation.TheVariants as part
 use Rattle.type_declarators.specs.declared.words.Words as held_words
 use Rattle.type_declarators.proofs.Applied.{last_seen}
-use Rattle.type_expressions.specs.Seen.{Namings}
-use Rattle.type_expressions.specs.Tells.{Tells, Past, ReadsAs}
+use Rattle.type_forms.specs.Seen.{Namings}
+use Rattle.type_forms.specs.Tells.{Tells, Past, ReadsAs}
 use Rattle.type_expressions.specs.TypeNames.{type_by, parameters_of, FollowsSo, IsSpecified, AreParts}
 use Rattle.type_expressions.specs.Plain.{IsPlain, IsPlainDeclarator, AllPlainParams}
-use Rattle.type_expressions.proofs.Following.{found_follows, tags_told}
+use Rattle.type_forms.proofs.Following.{found_follows, tags_told}
 use Rattle.type_expressions.proofs.Params.{row_is, row_plain, row_length}
 
 -- 1. The parts of a declarator.

@@ -21,8 +21,8 @@ use Rattle.typing_spec.specs.Expressions.{enumeration_by, enumerators, enumerato
 use Rattle.type_scope.specs.declared.fault.TypeFault.{TypeFault}
 use Rattle.type_scope.specs.declared.state.State.{State}
 use Rattle.type_expressions.specs.Plain.{IsPlain, ArePlainEnumerators, AllPlainEnumerators, IsPlainEnumerator}
-use Rattle.type_expressions.specs.Seen.{Namings}
-use Rattle.type_expressions.specs.Tells.{Tells, Past, ReadsAs}
+use Rattle.type_forms.specs.Seen.{Namings}
+use Rattle.type_forms.specs.Tells.{Tells, Past, ReadsAs}
 use Rattle.type_expressions.specs.TypeNames.{named_by, written, value_in, enumerators_of, enumeration_with, type_before}
 
 -- 1. A list, and the row of the tree that stands for it.

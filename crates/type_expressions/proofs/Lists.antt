@@ -16,10 +16,10 @@ use Rattle.typing_spec.specs.Expressions.{operands, expr}
 use Rattle.type_scope.specs.declared.fault.TypeFault.{TypeFault}
 use Rattle.type_scope.specs.declared.state.State.{State}
 use Rattle.type_expressions.specs.Plain.{IsPlain, ArePlain, AllPlain, operands_of}
-use Rattle.type_expressions.specs.Seen.{Namings, operand_seen}
-use Rattle.type_expressions.specs.Tells.{Tells, Past, NamesAfter, and_literals, ReadsMore}
+use Rattle.type_forms.specs.Seen.{Namings, operand_seen}
+use Rattle.type_forms.specs.Tells.{Tells, Past, NamesAfter, and_literals, ReadsMore}
 use Rattle.type_expressions.proofs.Numbers.{names_split}
-use Rattle.type_expressions.proofs.Uses.{nothing_more}
+use Rattle.type_forms.proofs.Uses.{nothing_more}
 
 -- 1. A list, and the row of the tree that stands for it.
 

@@ -18,10 +18,10 @@ use Rattle.type_scope.specs.declared.fault.TypeFault.{TypeFault}
 use Rattle.type_scope.specs.declared.state.State.{State}
 use Rattle.type_declarators.specs.Finds.{Finds}
 use Rattle.type_declarators.specs.Literals as held
-use Rattle.type_expressions.specs.Seen.{Namings, expression_seen, operand_seen}
-use Rattle.type_expressions.specs.Tells.{Tells, ReadsAs, ReadsMore, line_by}
+use Rattle.type_forms.specs.Seen.{Namings, expression_seen, operand_seen}
+use Rattle.type_forms.specs.Tells.{Tells, ReadsAs, ReadsMore, line_by}
 use Rattle.type_expressions.proofs.More.{as_more}
-use Rattle.type_expressions.proofs.Following.{same_read, found_follows, line_told, spelling_told}
+use Rattle.type_forms.proofs.Following.{same_read, found_follows, line_told, spelling_told}
 
 -- a constant has one form under all names
 finds_seen : (n : Namings) (o : Option Expression) (result : Result Operand TypeFault) → map_option (expression_seen n) o ≡ o

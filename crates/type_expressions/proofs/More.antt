@@ -17,14 +17,14 @@ use Rattle.type_scope.specs.declared.fault.TypeFault.{TypeFault}
 use Rattle.type_scope.specs.declared.fault.TypeFault.TheVariants.{NoMemory}
 use Rattle.type_scope.specs.declared.state.State.{State}
 use Rattle.type_declarators.specs.Finds.{Finds}
-use Rattle.type_expressions.specs.Forms.{member_by, measured_by}
-use Rattle.type_expressions.specs.Seen.{Namings, operand_seen}
-use Rattle.type_expressions.specs.Standing.{layouts_in, extent_of}
-use Rattle.type_expressions.specs.Tells.{Tells, and_literals, ReadsAs, ReadsMore, line_by}
-use Rattle.type_expressions.proofs.Following.{then_follows, found_follows, made_read, modifying_read, member_read}
+use Rattle.type_forms.specs.Forms.{member_by, measured_by}
+use Rattle.type_forms.specs.Seen.{Namings, operand_seen}
+use Rattle.type_forms.specs.Standing.{layouts_in, extent_of}
+use Rattle.type_forms.specs.Tells.{Tells, and_literals, ReadsAs, ReadsMore, line_by}
+use Rattle.type_forms.proofs.Following.{then_follows, found_follows, made_read, modifying_read, member_read}
 use Rattle.type_expressions.proofs.Numbers.{names_split, by_number, names_hold}
 use Rattle.type_expressions.proofs.Sizes.{measured_read}
-use Rattle.type_expressions.proofs.Uses.{Forgets, forgotten, renamed}
+use Rattle.type_forms.proofs.Uses.{Forgets, forgotten, renamed}
 
 -- 1. One after the other.
 

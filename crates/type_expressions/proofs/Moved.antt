@@ -10,9 +10,9 @@ use Rattle.type_scope.specs.declared.fault.TypeFault.{TypeFault}
 use Rattle.type_scope.specs.declared.state.State.{State}
 use Rattle.type_declarators.specs.ConstantMembers.{HasConstants}
 use Rattle.type_declarators.specs.MemberNames.{HasSymbols}
-use Rattle.type_expressions.specs.Seen.{Namings}
-use Rattle.type_expressions.specs.Standing.{Notes}
-use Rattle.type_expressions.specs.Tells.{Tells, Past, ReadsAs}
+use Rattle.type_forms.specs.Seen.{Namings}
+use Rattle.type_forms.specs.Standing.{Notes}
+use Rattle.type_forms.specs.Tells.{Tells, Past, ReadsAs}
 
 -- 1. The state that tells it.
 

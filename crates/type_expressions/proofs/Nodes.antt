@@ -23,10 +23,10 @@ use Rattle.typing_spec.specs.Expressions.{expression, operand, expr, made, made_
 use Rattle.typing_spec.specs.Expressions.{measured_operand, type_name}
 use Rattle.type_scope.specs.declared.fault.TypeFault.{TypeFault}
 use Rattle.type_scope.specs.declared.state.State.{State}
-use Rattle.type_expressions.specs.Forms.{member_by}
+use Rattle.type_forms.specs.Forms.{member_by}
 use Rattle.type_expressions.specs.Plain.{IsPlain, IsPlainName, AllPlain, operands_of}
-use Rattle.type_expressions.specs.Seen.{operand_seen}
-use Rattle.type_expressions.specs.Tells.{ReadsMore}
+use Rattle.type_forms.specs.Seen.{operand_seen}
+use Rattle.type_forms.specs.Tells.{ReadsMore}
 use Rattle.type_expressions.specs.TypeNames.{type_by}
 use Rattle.type_expressions.proofs.Lists.{row_is, row_plain}
 

@@ -2,7 +2,7 @@
 use Rattle.std.proofs.Common.{◌≡◌, refl, sym, subst, ℕ, suc, List, [], ◌∷◌, ◌++◌, append-nil, append_assoc, length}
 use Rattle.std.specs.Prelude.{zero}
 use Rattle.type_scope.specs.Known.{Naming}
-use Rattle.type_expressions.specs.Tells.{NamesAfter}
+use Rattle.type_forms.specs.Tells.{NamesAfter}
 
 pub names_split : (l : Naming) (before xs ys : List ℕ) → NamesAfter l before (xs ++ ys) → NamesAfter l before xs × NamesAfter l (before ++ xs) ys
 names_split l before [] ys h = (tt, let P : List ℕ → Type 0 = λ ls. NamesAfter l ls ys in subst P (sym (append-nil before)) h)

@@ -23,8 +23,8 @@ use Rattle.type_scope.specs.declared.state.State.{State}
 use Rattle.type_declarators.specs.declared.declarator.Declared as held_declared
 use Rattle.type_declarators.specs.declared.words.Words as held_words
 use Rattle.type_expressions.specs.Plain.{ArePlainParams, AllPlainParams, IsPlainBase, IsPlainDeclarator, params_in}
-use Rattle.type_expressions.specs.Seen.{Namings}
-use Rattle.type_expressions.specs.Tells.{Tells, Past, ReadsAs}
+use Rattle.type_forms.specs.Seen.{Namings}
+use Rattle.type_forms.specs.Tells.{Tells, Past, ReadsAs}
 use Rattle.type_expressions.specs.TypeNames.{specifying, parameter_in, none_left, with_parameter, parameters_of, FollowsSo, IsParameter}
 
 -- 1. A list, and the row of the tree that stands for it.

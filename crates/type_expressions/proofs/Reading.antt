@@ -34,8 +34,8 @@ use Rattle.type_declarators.specs.declared.declarator.Derivation as held
 use Rattle.type_declarators.specs.declared.declarator.Derivation.TheVariants as part
 use Rattle.type_declarators.specs.declared.words.Words as held_words
 use Rattle.type_expressions.specs.Plain.{IsPlain, IsPlainDeclarator, AllPlainParams, AllPlainEnumerators}
-use Rattle.type_expressions.specs.Seen.{Namings}
-use Rattle.type_expressions.specs.Tells.{Tells, Past, ReadsAs}
+use Rattle.type_forms.specs.Seen.{Namings}
+use Rattle.type_forms.specs.Tells.{Tells, Past, ReadsAs}
 use Rattle.type_expressions.specs.TypeNames.{specifying, parameter_in, enumeration_with, AllPlainOption, FollowsSo, IsSpecified, IsParameter, AreParts}
 use Rattle.type_expressions.specs.TypeNames.{named_by, parameters_of}
 use Rattle.type_expressions.proofs.Declaring.{Small, declared_read, inner_pointer, inner_array, inner_size, inner_function}

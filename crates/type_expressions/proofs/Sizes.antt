@@ -16,13 +16,13 @@ use Rattle.type_scope.specs.Reads.{Follows}
 use Rattle.type_scope.specs.declared.fault.TypeFault.{TypeFault}
 use Rattle.type_scope.specs.declared.state.State.{State}
 use Rattle.type_declarators.specs.Finds.{Finds}
-use Rattle.type_expressions.specs.Forms.{measured_by}
-use Rattle.type_expressions.specs.Seen.{Namings, term_seen, operand_seen}
-use Rattle.type_expressions.specs.Standing.{extent_of}
-use Rattle.type_expressions.specs.Tells.{Tells, and_literals, ReadsAs, ReadsMore, line_by}
-use Rattle.type_expressions.proofs.Following.{then_follows, found_follows, line_told, tags_told}
+use Rattle.type_forms.specs.Forms.{measured_by}
+use Rattle.type_forms.specs.Seen.{Namings, term_seen, operand_seen}
+use Rattle.type_forms.specs.Standing.{extent_of}
+use Rattle.type_forms.specs.Tells.{Tells, and_literals, ReadsAs, ReadsMore, line_by}
+use Rattle.type_forms.proofs.Following.{then_follows, found_follows, line_told, tags_told}
 use Rattle.type_expressions.proofs.Numbers.{by_number, names_hold}
-use Rattle.type_expressions.proofs.Uses.{Forgets, within, renamed, nothing_more, suspended, resumed}
+use Rattle.type_forms.proofs.Uses.{Forgets, within, renamed, nothing_more, suspended, resumed}
 
 -- the type without its qualifier
 pub qualified_type : (q : Qual) → (qualified_of q).ty ≡ type_of q.ty

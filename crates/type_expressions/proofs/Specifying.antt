@@ -27,11 +27,11 @@ use Rattle.type_declarators.specs.Keywords.{Says, IsSaid}
 use Rattle.type_declarators.specs.Parts.{is_plain, with_keywords}
 use Rattle.type_declarators.specs.declared.words.Words as held
 use Rattle.type_expressions.specs.Plain.{IsPlainBase}
-use Rattle.type_expressions.specs.Seen.{Namings}
-use Rattle.type_expressions.specs.Tells.{Tells, Past, ReadsAs}
+use Rattle.type_forms.specs.Seen.{Namings}
+use Rattle.type_forms.specs.Tells.{Tells, Past, ReadsAs}
 use Rattle.type_expressions.specs.TypeNames.{type_before, enumeration_with, AllPlainOption, FollowsSo, IsSpecified}
 use Rattle.type_expressions.proofs.Enumerators.{row_plain, with_list}
-use Rattle.type_expressions.proofs.Following.{found_follows, same_read}
+use Rattle.type_forms.proofs.Following.{found_follows, same_read}
 
 -- 1. The definition, with the qualifiers last.
 

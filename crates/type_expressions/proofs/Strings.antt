@@ -20,11 +20,11 @@ use Rattle.type_scope.specs.declared.state.State.{State}
 use Rattle.type_declarators.specs.Finds.{Finds}
 use Rattle.type_declarators.specs.Literals as held
 use Rattle.type_expressions.specs.Plain.{IsPlain}
-use Rattle.type_expressions.specs.Seen.{Namings, expression_seen, operand_seen}
-use Rattle.type_expressions.specs.Strings.{adjacent, literal_from, StandTogether, AreLiterals}
-use Rattle.type_expressions.specs.Tells.{Tells, Past, and_literals, ReadsMore, line_by}
-use Rattle.type_expressions.proofs.Following.{line_told, tokens_told}
-use Rattle.type_expressions.proofs.Uses.{counted}
+use Rattle.type_forms.specs.Seen.{Namings, expression_seen, operand_seen}
+use Rattle.type_forms.specs.Strings.{adjacent, literal_from, StandTogether, AreLiterals}
+use Rattle.type_forms.specs.Tells.{Tells, Past, and_literals, ReadsMore, line_by}
+use Rattle.type_forms.proofs.Following.{line_told, tokens_told}
+use Rattle.type_forms.proofs.Uses.{counted}
 
 -- 1. Their bytes.
 

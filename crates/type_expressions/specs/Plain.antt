@@ -22,7 +22,7 @@ use Rattle.c_ast.specs.declared.expression.ExprNode.{ExprNode}
 use Rattle.type_operands.specs.Terms.{Expression}
 use Rattle.typing_env.specs.Env.{Env, Typing, ◌>>=◌, pure}
 use Rattle.typing_spec.specs.Expressions.{expr, constant_in}
-use Rattle.type_expressions.specs.Strings.{AreLiterals}
+use Rattle.type_forms.specs.Strings.{AreLiterals}
 
 -- a size of an array has no value that no integer type has (own)
 abbrev pub IsSmall : {n : _} → Row_of-Expr n → Type 0

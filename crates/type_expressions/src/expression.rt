@@ -10,15 +10,14 @@ ghost use Rattle.typing_env.specs.Names.{in_prototype};
 ghost use Rattle.typing_words.specs.Words as spec_words;
 ghost use Rattle.typing_spec.specs.Expressions as spec;
 ghost use Rattle.type_declarators.specs.Keywords.{IsSaid};
-ghost use Rattle.type_expressions.specs.Forms.{member_by};
+ghost use Rattle.type_forms.specs.Forms.{member_by};
 ghost use Rattle.type_expressions.specs.Plain.{IsPlain, IsPlainBase, IsPlainDeclarator, IsPlainName, AllPlain, AllPlainParams, AllPlainEnumerators};
 ghost use Rattle.type_expressions.specs.Plain.{IsPlainEnumerator, operands_of};
-ghost use Rattle.type_expressions.specs.Seen.{Namings, operand_seen};
-ghost use Rattle.type_expressions.specs.Tells.{Tells, Past, ReadsAs, ReadsMore, line_by, read_then};
+ghost use Rattle.type_forms.specs.Seen.{Namings, operand_seen};
+ghost use Rattle.type_forms.specs.Tells.{Tells, Past, ReadsAs, ReadsMore, line_by, read_then};
 ghost use Rattle.type_expressions.specs.TypeNames.{type_by, type_before, parameter_in, parameters_of, value_in, enumerators_of, enumeration_with};
 ghost use Rattle.type_expressions.specs.TypeNames.{FollowsSo, IsSpecified, IsParameter, AreParts};
 
-use crate::apply;
 use c_ast::{
     AssignOp, Base, BinaryOp, Declarator, Enumerator, Expr, ExprNode, MemberEntry, Param, PostOp,
     Specs, TypeName, UnaryOp,
@@ -29,6 +28,7 @@ use type_declarators::declarator::{Declared, Derivation};
 use type_declarators::tag::MemberList;
 use type_declarators::words::{Storage, Words, read_words};
 use type_declarators::{declarator, literal, tag};
+use type_forms::apply;
 use type_operands::Operand;
 use type_reasons::Reason;
 use type_scope::{Source, State, TypeFault};

@@ -2,7 +2,6 @@
 //! constraint in the profile, and every conversion written out.
 #![tactic(auto)]
 
-mod apply;
 pub mod expression;
 mod laws;
 

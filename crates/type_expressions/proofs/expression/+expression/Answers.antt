@@ -20,10 +20,10 @@ use Rattle.type_scope.specs.declared.fault.TypeFault.{TypeFault}
 use Rattle.type_declarators.specs.declared.declarator.Derivation.TheVariants as part
 use Rattle.type_declarators.proofs.Declared.{name_pointer, name_array, name_function}
 use Rattle.type_declarators.specs.Finds.{Finds}
-use Rattle.type_expressions.specs.Forms.{member_by, measured_by}
+use Rattle.type_forms.specs.Forms.{member_by, measured_by}
 use Rattle.type_expressions.specs.Plain.{operands_of}
-use Rattle.type_expressions.specs.Seen.{operand_seen}
-use Rattle.type_expressions.specs.Standing.{layouts_in, extent_of}
+use Rattle.type_forms.specs.Seen.{operand_seen}
+use Rattle.type_forms.specs.Standing.{layouts_in, extent_of}
 use Rattle.type_expressions.specs.TypeNames.{type_by, type_before, parameters_of}
 use Rattle.type_expressions.proofs.More.{read_more, none_more, as_more, none_as, made_more}
 use Rattle.type_expressions.proofs.More.{modifying_more, member_more, measured_more, constant_read, constant_none}

@@ -1,0 +1,13 @@
+pub mod Applied
+pub mod Assigning
+pub mod Calling
+pub mod Constants
+pub mod Folding
+pub mod Following
+pub mod Measured
+pub mod Naming
+pub mod Operating
+pub mod Standing
+pub mod Told
+pub mod Uses
+pub mod Values

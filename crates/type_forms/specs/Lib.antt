@@ -1,0 +1,5 @@
+pub mod Forms
+pub mod Seen
+pub mod Standing
+pub mod Strings
+pub mod Tells
