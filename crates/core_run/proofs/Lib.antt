@@ -1,5 +1,6 @@
 mod Counts
 mod Telling
+mod Comes
 mod Told
 mod Rows
 mod Raised

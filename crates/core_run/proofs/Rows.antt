@@ -31,10 +31,9 @@ use Rattle.control_laws.specs.Control.{ControlGoesOn}
 use Rattle.canonical_laws.specs.Asked.{EventIsAsked, IsEventNext, MayPickNext, call, initializer, library, plain}
 use Rattle.canonical_laws.specs.Along.{IsAlong}
 use Rattle.canonical_laws.specs.Listed.{NumbersAre}
-use Rattle.core_run.specs.Calls.{Heard}
+use Rattle.core_run.specs.Comes.{Coming}
 use Rattle.core_run.specs.Canonical.{AreAmong, EndsOver, EndsSome, Fits, IsAt, IsEndedBy, IsNumbered, Suits, world_in}
 use Rattle.core_run.specs.declared.watch.Ran.{Ran}
-use Rattle.std.specs.Prelude.{Option}
 
 -- ---- the rules of an address map
 pub end_in_time : (rows : List Row) → IsMap rows → EndInTime rows
@@ -77,10 +76,10 @@ fits_suits extend pasts placed frames rows number map are fits = record {
 pub own_fits : (placed : List Row) (frames : List Started_frame) → IsMap placed → Fits placed frames placed (number_by frames)
 own_fits placed frames map = record { rules = map; has = same_rows placed; numbers = numbers_are frames }
 
-pub ends_over : ApartExtend → (p : Program) (strings : List (List ℕ)) (input : List ℕ) (before after : Option Heard) (output : Outputs)
-    (frames : List Started_frame) (placed : List Row) (ran : Ran) → IsMap placed → EndsSome p strings input before after output frames placed ran
-    → EndsOver p strings input before after output frames placed ran
-ends_over extend p strings input before after output frames placed ran map some rows number fits =
+pub ends_over : ApartExtend → {S : Type 0} (coming : Coming S) (p : Program) (strings : List (List ℕ)) (input : List ℕ) (before after : S) (output : Outputs)
+    (frames : List Started_frame) (placed : List Row) (ran : Ran) → IsMap placed → EndsSome coming p strings input before after output frames placed ran
+    → EndsOver coming p strings input before after output frames placed ran
+ends_over extend coming p strings input before after output frames placed ran map some rows number fits =
     some.2 rows number (fits_suits extend some.0 placed frames rows number map some.1 fits)
 
 -- ---- a canonical pick
@@ -130,9 +129,9 @@ module _ (asked : EventIsAsked) (goes : ControlGoesOn) (asks : ArgumentsAreAsked
     rows_stay (Ev u) is = by_event u is (event_next extends u is)
 
 -- ---- so it is of each pick of a run
-module _ (extend : ApartExtend) (asked : EventIsAsked) (goes : ControlGoesOn) (asks : ArgumentsAreAsked) (p : Program) (strings : List (List ℕ))
-    (input : List ℕ) (numbers : Numbers) (before heard : Option Heard) (old : Machine) (n : ℕ) (frames : List Started_frame) (earlier : List (List Row))
-    (at : IsAt p strings input numbers before heard old n frames earlier) (few : suc n < 2 ^ 32) (map : IsMap old.memory.rows)
+module _ (extend : ApartExtend) (asked : EventIsAsked) (goes : ControlGoesOn) (asks : ArgumentsAreAsked) {S : Type 0} (coming : Coming S) (p : Program)
+    (strings : List (List ℕ)) (input : List ℕ) (numbers : Numbers) (before heard : S) (old : Machine) (n : ℕ) (frames : List Started_frame)
+    (earlier : List (List Row)) (at : IsAt coming p strings input numbers before heard old n frames earlier) (few : suc n < 2 ^ 32) (map : IsMap old.memory.rows)
     (are : AreAmong earlier old.memory.rows) where
   answered : (new : Machine) (r : Result Pick Halt) → GrowsNext old new r → KeepsAnswered old new r
   answered new r g =

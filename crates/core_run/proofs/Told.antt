@@ -1,6 +1,7 @@
 -- What is told of the picks of a run.
-use Rattle.std.proofs.Common.{◌≡◌, ◌+◌, ℕ, suc, refl, ap, ◌∙◌, List, [], ◌∷◌, inl, inr, Option, Some, None}
+use Rattle.std.proofs.Common.{◌≡◌, ◌+◌, ℕ, suc, refl, ap, ◌∙◌, List, ◌∷◌, Some, None}
 use Rattle.ub_base.specs.declared.names.Item.{Item}
+use Rattle.c_typed.specs.declared.program.Program.{Program}
 use Rattle.c_model.specs.Completions.{Completed as Model_completed}
 use Rattle.c_model.specs.Runs.{Entry, Outcome, Running, State, canonical_after, canonical_pick, step, trace_of}
 use Rattle.c_model.specs.World.{World}
@@ -9,8 +10,11 @@ use Rattle.run_answers.specs.declared.pick.Pick.{Pick}
 use Rattle.run_answers.specs.declared.pick.Pick.TheVariants as pick
 use Rattle.canonical_laws.specs.Completes.{completed_told, completed_with}
 use Rattle.canonical_laws.specs.Listed.{TellsEntry, event_told}
-use Rattle.core_run.specs.Calls.{Call, Heard, Tells, calls_of, picked}
-use Rattle.core_run.specs.ToldPicks.{LastToldBy, TellsPick, Told, ToldBy, ToldIsCanonical, heard_with, none, notes_of, told}
+use Rattle.run_shown.specs.Showing.{Showing}
+use Rattle.run_shown.specs.Shown.{Shown, ShownBehind}
+use Rattle.core_run.specs.Calls.{Call, calls_of, picked}
+use Rattle.core_run.specs.Comes.{Come, Coming}
+use Rattle.core_run.specs.ToldPicks.{IsLastTold, TellsPick, Told, ToldIsCanonical, none, notes_of, told}
 use Rattle.core_run.specs.declared.watch.Go.{Go}
 use Rattle.core_run.specs.declared.watch.Go.TheVariants.{On}
 use Rattle.core_run.proofs.OneMore.{one_more, plus_one}
@@ -39,49 +43,23 @@ pick_tells world st o p items e steps newest tells completes = record {
   by = calls_are p items ∙ ap (λ (c : Model_completed). picked (event_told p) items ∷ notes_of (event_told p) c) completes;
 }
 
--- ---- calls that were heard
--- where the last one was answered by On, each was
-each_heard : (calls : List Call) (old new : Heard) → Tells calls On (Some old) (Some new) → new ≡ heard_with calls old
-each_heard [] old new t = some_heard new old t.1
-  where
-    kept : Option Heard → Heard → Heard
-    kept None other = other
-    kept (Some hs) other = hs
-
-    some_heard : (a b : Heard) → Some a ≡ Some b → a ≡ b
-    some_heard a b q = ap (λ (z : Option Heard). kept z a) q
-each_heard (c ∷ cs) old new (inl w) = absurd (cc (w.0))
-each_heard (c ∷ cs) old new (inr w) = each_heard cs ((c, On) ∷ old) new w
-
--- they are kept where those before are
-still_kept : (calls : List Call) (go : Go) (old : Heard) → Tells calls go (Some old) None → ⊥
-still_kept [] go old t = absurd (cc (t.1))
-still_kept (c ∷ cs) go old (inl w) = absurd (cc (w.1))
-still_kept (c ∷ cs) go old (inr w) = still_kept cs go ((c, On) ∷ old) w
-
 -- ---- one pick more was told
-module _ (world : World) (first : State) (n : ℕ) (st : State) (calls : List Call) where
+module _ {S : Type 0} (comes : Coming S) (world : World) (p : Program) (first : State) (n : ℕ) (st : State) (calls : List Call) (shown : Showing) where
   -- behind which the run goes on
-  pub told_on : (before old new : Option Heard) (after : State) → ToldBy world first before old n st → TellsPick world st (Running after) calls
-      → Tells calls On old new → ToldBy world first before new (suc n) after
-  told_on None old new after k is t = tt
-  told_on (Some before) None new after k is t = absurd k
-  told_on (Some before) (Some old) None after k is t = absurd (still_kept calls On old t)
-  told_on (Some before) (Some old) (Some new) after k is t = told n st after old new calls k is (each_heard calls old new t)
+  pub told_on : (before old new : S) (after : State) → Told comes world p first before n st old → TellsPick world st (Running after) calls
+      → Shown world p after shown → Come comes shown calls On old new → Told comes world p first before (suc n) after new
+  told_on before old new after k is s t = told n st after old new calls shown k is s t
 
   -- which is the last
-  pub told_last : (before old new : Option Heard) (go : Go) (o : Outcome) → ToldBy world first before old n st → TellsPick world st o calls
-      → Tells calls go old new → LastToldBy world first before new go (n + 1) o
-  told_last None old new go o k is t = tt
-  told_last (Some before) None new go o k is t = absurd k
-  told_last (Some before) (Some old) None go o k is t = absurd (still_kept calls go old t)
-  told_last (Some before) (Some old) (Some new) go o k is t =
-      record { earlier = n; all = plus_one n; st = st; until = old; so_far = k; calls = calls; tells = is; last = t }
+  pub told_last : (before old new : S) (go : Go) (o : Outcome) → Told comes world p first before n st old → TellsPick world st o calls
+      → ShownBehind world p o shown → Come comes shown calls go old new → IsLastTold comes world p first before go (n + 1) o new
+  told_last before old new go o k is s t =
+      record { earlier = n; all = plus_one n; st = st; until = old; so_far = k; calls = calls; tells = is; shown = shown; shows = s; come = t }
 
 -- ---- the states on the way
-pub told_canonical : ToldIsCanonical
-told_canonical world first before n st heard t = from n st heard t
+pub told_canonical : {S : Type 0} (comes : Coming S) → ToldIsCanonical comes
+told_canonical {S = S} comes world p first before n st w t = from n st w t
   where
-    from : (n : ℕ) (st : State) (heard : Heard) → Told world first before n st heard → canonical_after world n first ≡ Running st
+    from : (n : ℕ) (st : State) (w : S) → Told comes world p first before n st w → canonical_after world n first ≡ Running st
     from _ _ _ none = refl
-    from _ _ _ (told k earlier later old new calls t is q) = one_more world k first earlier (from k earlier old t) ∙ is.steps
+    from _ _ _ (told k earlier later old new calls shown t is s c) = one_more world k first earlier (from k earlier old t) ∙ is.steps

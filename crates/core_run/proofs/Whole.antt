@@ -36,9 +36,10 @@ use Rattle.value_facts.specs.Trees.{LawfulWorldsKeepSmall, MainIsPlaced}
 use Rattle.canonical_laws.specs.Begins.{GoingIsAlong}
 use Rattle.start_laws.specs.Bytes.{LawfulHasBytes}
 use Rattle.start_laws.specs.Starts.{IsMadeReady, IsStartCount, StartsGoing}
-use Rattle.core_run.specs.Calls.{Heard}
+use Rattle.run_shown.specs.Shown.{AreListed}
 use Rattle.core_run.specs.Canonical.{IsAt, world_in}
-use Rattle.core_run.specs.ToldPicks.{ToldBy, none}
+use Rattle.core_run.specs.Comes.{Coming}
+use Rattle.core_run.specs.ToldPicks.{none}
 use Rattle.core_run.specs.Whole.{HasTerms}
 use Rattle.core_run.proofs.Rows.{are_addresses, end_in_time}
 
@@ -71,14 +72,10 @@ its_world p strings rows number is = record {
   ends = end_in_time rows is;
 }
 
-told_none : (world : World) (first : State) (heard : Option Heard) → ToldBy world first heard heard 0 first
-told_none world first None = tt
-told_none world first (Some hs) = none
-
-pub begins_at : StartsGoing → GoingIsAlong → LawfulWorldsKeepSmall → MainIsPlaced → LawfulHasBytes → (p : Program) (strings : List (List ℕ))
-    (input : List ℕ) (numbers : Numbers) (heard : Option Heard) (m : Machine) (count : ℕ) → IsMade p strings input numbers m count
-    → IsAt p strings input numbers heard heard m 0 [] []
-begins_at starts goes keeps placed small p strings input numbers heard m count made = λ rows number suits.
+pub begins_at : StartsGoing → GoingIsAlong → LawfulWorldsKeepSmall → MainIsPlaced → LawfulHasBytes → {S : Type 0} (coming : Coming S) (p : Program)
+    (strings : List (List ℕ)) (input : List ℕ) (numbers : Numbers) (watch : S) (m : Machine) (count : ℕ) → IsMade p strings input numbers m count
+    → IsAt coming p strings input numbers watch watch m 0 [] []
+begins_at starts goes keeps placed small coming p strings input numbers watch m count made = λ rows number suits.
     let world = world_in p strings rows number in
     let extends = All-head (λ (z : List Row). Extends z rows) m.memory.rows [] suits.has in
     let set_up : IsSetUp world p numbers m.image.code.now m.jumps = record {
@@ -99,7 +96,8 @@ begins_at starts goes keeps placed small p strings input numbers heard m count m
       runs = refl;
       along = begins.along;
       listed = begins.listed [];
-      told = told_none world going.0 heard;
+      traced = subst (AreListed []) (sym begins.trace) tt;
+      told = none;
     }
 
 -- ---- the code

@@ -1,5 +1,5 @@
 -- A run tells the picks of the canonical order of its program, each with its items, and ends as the definitions of runs say (own).
-use Rattle.std.specs.Prelude.{◌≡◌, ◌⊎◌, ◌+◌, ◌-◌, ◌<◌, ℕ, suc, List, [], ◌∷◌, Option, Some, None, slice_get}
+use Rattle.std.specs.Prelude.{◌≡◌, ◌⊎◌, ◌+◌, ◌-◌, ◌<◌, ℕ, suc, List, [], ◌∷◌, Some, None, slice_get}
 use Rattle.std.specs.List.{All}
 use Rattle.ub_base.specs.declared.clause.Clause.{Clause}
 use Rattle.ub_base.specs.declared.names.Event.{Event}
@@ -23,8 +23,10 @@ use Rattle.run_answers.specs.declared.pick.Pick.TheVariants as pick
 use Rattle.run_answers.specs.Starting.{numbered}
 use Rattle.canonical_laws.specs.Along.{IsAlong}
 use Rattle.canonical_laws.specs.Listed.{NumbersAre, TopIsListed, event_of}
-use Rattle.core_run.specs.Calls.{Heard, row_by}
-use Rattle.core_run.specs.ToldPicks.{LastToldBy, ToldBy}
+use Rattle.run_shown.specs.Shown.{AreListed}
+use Rattle.core_run.specs.Calls.{row_by}
+use Rattle.core_run.specs.Comes.{Coming}
+use Rattle.core_run.specs.ToldPicks.{IsLastTold, Told}
 use Rattle.core_run.specs.declared.watch.Go.{Go}
 use Rattle.core_run.specs.declared.watch.Go.TheVariants as go
 use Rattle.core_run.specs.declared.watch.Ran.{Ran}
@@ -57,20 +59,20 @@ AreAmong [] rows = Unit {0}
 AreAmong (past ∷ pasts) rows = (AreApart past × RowsStay past rows) × AreAmong pasts rows
 
 -- 3. How a run ends, from the state in which the definitions begin.
-module _ (world : World) (first : State) (before after : Option Heard) (output : Outputs) where
+module _ {S : Type 0} (comes : Coming S) (world : World) (p : Program) (first : State) (before after : S) (output : Outputs) where
   -- after so many picks it goes on, and wrote this
   abbrev pub IsAfter : ℕ → Type 0
-  IsAfter picks = (st : State) × (canonical_after world picks first ≡ Running st) × (st.store.output ≡ output) × ToldBy world first before after picks st
+  IsAfter picks = (st : State) × (canonical_after world picks first ≡ Running st) × (st.store.output ≡ output) × Told comes world p first before picks st after
 
   -- .. and is stopped at the last of them
   abbrev pub IsStoppedAfter : ℕ → Type 0
   IsStoppedAfter picks = (st : State) × (canonical_after world picks first ≡ Running st) × (st.store.output ≡ output)
-      × LastToldBy world first before after go.Stop picks (Running st)
+      × IsLastTold comes world p first before go.Stop picks (Running st) after
 
   -- after so many picks it has ended with this status, and wrote this; the last call was answered so
   abbrev pub HasEnded : Go → (status picks : ℕ) → Type 0
   HasEnded last status picks = (trace : List Entry) × (canonical_after world picks first ≡ Ends status output trace)
-      × LastToldBy world first before after last picks (Ends status output trace)
+      × IsLastTold comes world p first before last picks (Ends status output trace) after
 
   -- the last of these picks raised the clause: an event, whose node stands in this line; before it this was written, and what was told was so
   pub record HasRaised (event : Event) (line : ℕ) (clause : Clause) (picks : ℕ) : Type 0 where
@@ -81,7 +83,7 @@ module _ (world : World) (first : State) (before after : Option Heard) (output :
     pub event_is : event_of world entry ≡ Some event
     pub line_is : entry.line ≡ line
     pub wrote : st.store.output ≡ output
-    pub told : ToldBy world first before after (picks - 1) st
+    pub told : Told comes world p first before (picks - 1) st after
 
   -- as is answered: that it has ended; that the last of the picks raised a clause, and wasn't told; that the watch stopped it, behind its last pick too;
   -- that there are no picks left; or that the next pick passes a limit, before which this was written
@@ -91,13 +93,14 @@ module _ (world : World) (first : State) (before after : Option Heard) (output :
   RunsTo (Stopped picks) = IsStoppedAfter picks ⊎ ((status : ℕ) × HasEnded go.Stop status picks)
   RunsTo (OutOfSteps picks) = IsAfter picks
   RunsTo (Outside cause number picks) = (canonical_after world (suc picks) first ≡ Over cause number)
-      × ((st : State) × (canonical_after world picks first ≡ Running st) × (st.store.output ≡ output) × ToldBy world first before after picks st)
+      × ((st : State) × (canonical_after world picks first ≡ Running st) × (st.store.output ≡ output) × Told comes world p first before picks st after)
 
 -- 4. The run so far.
-module _ (p : Program) (strings : List (List ℕ)) (input : List ℕ) (before after : Option Heard) where
+module _ {S : Type 0} (comes : Coming S) (p : Program) (strings : List (List ℕ)) (input : List ℕ) (before after : S) where
   -- in this world it started, has ended so, and wrote this
   abbrev pub EndsAs : World → Outputs → Ran → Type 0
-  EndsAs world output ran = (first : State) × (start world input (main_values p world strings) ≡ Running first) × RunsTo world first before after output ran
+  EndsAs world output ran = (first : State) × (start world input (main_values p world strings) ≡ Running first)
+      × RunsTo comes world p first before after output ran
 
   -- .. in each world whose rows have those of this map
   abbrev pub EndsOver : Outputs → List Started_frame → (placed : List Row) → Ran → Type 0
@@ -113,7 +116,7 @@ module _ (p : Program) (strings : List (List ℕ)) (input : List ℕ) (before af
   abbrev pub EndsSome : Outputs → List Started_frame → (placed : List Row) → Ran → Type 0
   EndsSome output frames placed ran = (pasts : List (List Row)) × AreAmong pasts placed × EndsIn output frames (placed ∷ pasts) ran
 
-module _ (p : Program) (strings : List (List ℕ)) (input : List ℕ) (numbers : Numbers) (before after : Option Heard) where
+module _ {S : Type 0} (comes : Coming S) (p : Program) (strings : List (List ℕ)) (input : List ℕ) (numbers : Numbers) (before after : S) where
   -- in a world: the definitions start, after so many picks it is this state, along which the machine is, and the picks were told
   pub record StandsAt (world : World) (m : Machine) (n : ℕ) (frames : List Started_frame) : Type 0 where
     pub first : State
@@ -122,7 +125,8 @@ module _ (p : Program) (strings : List (List ℕ)) (input : List ℕ) (numbers :
     pub runs : canonical_after world n first ≡ Running st
     pub along : IsAlong world p numbers m st n
     pub listed : TopIsListed frames st
-    pub told : ToldBy world first before after n st
+    pub traced : AreListed frames st.trace
+    pub told : Told comes world p first before n st after
 
   -- .. in each world that suits the rows of the memory now and before, and the frames so far
   abbrev pub IsAt : Machine → ℕ → List Started_frame → List (List Row) → Type 0
@@ -132,7 +136,7 @@ module _ (p : Program) (strings : List (List ℕ)) (input : List ℕ) (numbers :
   -- it goes on with one pick more, or has ended
   abbrev pub GoesOnAt : Machine → ℕ → List Started_frame → List (List Row) → Next → Type 0
   GoesOnAt m n frames earlier On = IsAt m (suc n) frames earlier
-  GoesOnAt m n frames earlier (End ran) = EndsIn p strings input before after m.streams.output frames (m.memory.rows ∷ earlier) ran
+  GoesOnAt m n frames earlier (End ran) = EndsIn comes p strings input before after m.streams.output frames (m.memory.rows ∷ earlier) ran
 
 -- 5. The calls of which a pick consists.
 

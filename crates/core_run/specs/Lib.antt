@@ -1,5 +1,6 @@
 pub mod Calls
 pub mod Canonical
+pub mod Comes
 pub mod Ends
 pub mod Record
 pub mod Steps

@@ -1,13 +1,17 @@
--- What a watch hears of the picks of a run, one by one, along the states of the definitions (own).
+-- What a watch is told of the picks of a run, and shown with them, one by one, along the states of the definitions (own).
 use Rattle.std.specs.Prelude.{◌≡◌, ℕ, suc, List, [], ◌∷◌, Option, Some, None}
 use Rattle.ub_base.specs.declared.names.Event.{Event}
 use Rattle.ub_base.specs.declared.names.Item.{Item}
+use Rattle.c_typed.specs.declared.program.Program.{Program}
 use Rattle.c_model.specs.Completions.{Completed, Incomplete, Own_node, Operands_of}
 use Rattle.c_model.specs.Runs.{Entry, Outcome, Running, State, canonical_after, canonical_pick, step, trace_of}
 use Rattle.c_model.specs.World.{World}
 use Rattle.canonical_laws.specs.Completes.{completed_with}
 use Rattle.canonical_laws.specs.Listed.{TellsEntry}
-use Rattle.core_run.specs.Calls.{Call, Heard, Tells, node_done, operands_done, picked}
+use Rattle.run_shown.specs.Showing.{Showing}
+use Rattle.run_shown.specs.Shown.{Shown, ShownBehind}
+use Rattle.core_run.specs.Calls.{Call, node_done, operands_done, picked}
+use Rattle.core_run.specs.Comes.{Come, Coming}
 use Rattle.core_run.specs.declared.watch.Go.{Go}
 use Rattle.core_run.specs.declared.watch.Go.TheVariants.{On}
 
@@ -33,42 +37,28 @@ pub record TellsPick (world : World) (st : State) (o : Outcome) (calls : List Ca
 
 -- 2. So many picks, from the first state on.
 
--- these calls behind those, each answered by On
-abbrev pub heard_with : List Call → Heard → Heard
-heard_with [] hs = hs
-heard_with (c ∷ cs) hs = heard_with cs ((c, On) ∷ hs)
-
-module _ (world : World) (first : State) (before : Heard) where
-  -- after so many canonical picks the run is in this state, and this was heard: the calls of each pick behind those of the pick before, and no others
-  pub data Told : ℕ → State → Heard → Type 0 where
-    none : Told 0 first before
-    told : (n : ℕ) (st after : State) (hs heard : Heard) (calls : List Call) → Told n st hs → TellsPick world st (Running after) calls
-        → heard ≡ heard_with calls hs → Told (suc n) after heard
+module _ {S : Type 0} (comes : Coming S) (world : World) (p : Program) (first : State) (begin : S) where
+  -- After so many canonical picks the run is in this state, and the watch is this one: behind each pick there came just its calls, with what is shown of the
+  -- state behind it.
+  pub data Told : ℕ → State → S → Type 0 where
+    none : Told 0 first begin
+    told : (n : ℕ) (st after : State) (w next : S) (calls : List Call) (shown : Showing) → Told n st w → TellsPick world st (Running after) calls
+        → Shown world p after shown → Come comes shown calls On w next → Told (suc n) after next
 
   -- The last of so many picks came to this, and its last call was answered so: behind one that was answered by Stop no other came.
-  pub record IsLastTold (go : Go) (picks : ℕ) (o : Outcome) (heard : Heard) : Type 0 where
+  pub record IsLastTold (go : Go) (picks : ℕ) (o : Outcome) (last : S) : Type 0 where
     pub earlier : ℕ
     pub all : picks ≡ suc earlier
     pub st : State
-    pub until : Heard
+    pub until : S
     pub so_far : Told earlier st until
     pub calls : List Call
     pub tells : TellsPick world st o calls
-    pub last : Tells calls go (Some until) (Some heard)
+    pub shown : Showing
+    pub shows : ShownBehind world p o shown
+    pub come : Come comes shown calls go until last
 
--- 3. .. where calls are kept.
-module _ (world : World) (first : State) where
-  abbrev pub ToldBy : (before after : Option Heard) → ℕ → State → Type 0
-  ToldBy None after n st = Unit {0}
-  ToldBy (Some before) None n st = ⊥
-  ToldBy (Some before) (Some heard) n st = Told world first before n st heard
-
-  abbrev pub LastToldBy : (before after : Option Heard) → Go → ℕ → Outcome → Type 0
-  LastToldBy None after go picks o = Unit {0}
-  LastToldBy (Some before) None go picks o = ⊥
-  LastToldBy (Some before) (Some heard) go picks o = IsLastTold world first before go picks o heard
-
--- 4. The states on the way are those of the canonical order.
-abbrev pub ToldIsCanonical : Type 0
-ToldIsCanonical = (world : World) (first : State) (before : Heard) (n : ℕ) (st : State) (heard : Heard) → Told world first before n st heard
-    → canonical_after world n first ≡ Running st
+-- 3. The states on the way are those of the canonical order.
+abbrev pub ToldIsCanonical : {S : Type 0} → Coming S → Type 0
+ToldIsCanonical {S = S} comes = (world : World) (p : Program) (first : State) (begin : S) (n : ℕ) (st : State) (w : S)
+    → Told comes world p first begin n st w → canonical_after world n first ≡ Running st

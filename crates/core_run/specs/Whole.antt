@@ -1,5 +1,5 @@
 -- A whole run of a lawful program (5.1.2.2.1, own).
-use Rattle.std.specs.Prelude.{◌≡◌, ◌⊎◌, ◌+◌, ◌<◌, ◌^◌, ℕ, List, [], length, map, Option}
+use Rattle.std.specs.Prelude.{◌≡◌, ◌⊎◌, ◌+◌, ◌<◌, ◌^◌, ℕ, List, [], length, map}
 use Rattle.ub_base.specs.declared.clause.Cause.TheVariants as cause
 use Rattle.ub_base.specs.Frames.{Path}
 use Rattle.addr_map.specs.declared.map.Row.{Row}
@@ -12,8 +12,8 @@ use Rattle.elaborate.specs.Terms.{term_for}
 use Rattle.c_model.specs.Runs.{Over, start}
 use Rattle.program_view.specs.View.{main_values}
 use Rattle.run_laws.specs.SetUp.{IsWhole}
-use Rattle.core_run.specs.Calls.{Heard}
 use Rattle.frame_numbers.specs.Numbers.{number_by}
+use Rattle.core_run.specs.Comes.{Coming}
 use Rattle.core_run.specs.Canonical.{EndsOver, Fits, world_in}
 use Rattle.core_run.specs.declared.watch.Ran.{Ran}
 use Rattle.core_run.specs.declared.watch.Ran.TheVariants.{Ended, Raised, Stopped, OutOfSteps, Outside}
@@ -56,9 +56,9 @@ module _ (p : Program) (strings : List (List ℕ)) (input : List ℕ) where
     pub errors : s.errors ≡ []
 
   -- Or it starts, and the picks that were told are those of the canonical order, with the end and what was written of the definitions.
-  abbrev pub RunsAsDefined : (before after : Option Heard) → RunState → Type 0
-  RunsAsDefined before after s =
-      IsOverAtStart s ⊎ EndsOver p strings input before after (record { standard = s.output; errors = s.errors }) s.frames s.map s.ran
+  abbrev pub RunsAsDefined : {S : Type 0} → Coming S → (before after : S) → RunState → Type 0
+  RunsAsDefined comes before after s =
+      IsOverAtStart s ⊎ EndsOver comes p strings input before after (record { standard = s.output; errors = s.errors }) s.frames s.map s.ran
 
 -- the world over the map itself, with the numbers of the list of frames, is one of those
 abbrev pub HasWorld : RunState → Type 0

@@ -5,13 +5,15 @@ ghost use Rattle.core_run.specs.Ends.{picks_of, told_of, IsOutOfSteps};
 ghost use Rattle.core_run.specs.Steps.{told_by, told_at_end, taken_by, EndsAfter, EndsRun, AnswersNext, IsUnstopped, GoesUnstopped, Grows};
 ghost use Rattle.core_run.specs.Told.{more};
 ghost use Rattle.core_run.specs.Canonical.{AreAmong, EndsSome, Follows, GoesOnAt, HasRow, IsAt, IsEndedBy, IsNumbered};
-ghost use Rattle.core_run.specs.Calls.{row_by, Heard};
+ghost use Rattle.core_run.specs.Calls.{row_by};
+ghost use Rattle.core_run.specs.Comes.{Come, watched};
+ghost use Rattle.run_shown.specs.Showing.{open_in, open_with, shown_in, showing};
 ghost use Rattle.ub_base.specs.Frames.{IsFrameList};
 ghost use Rattle.addr_map.specs.declared.map.Row.{Row};
 ghost use Rattle.addr_map.specs.Sound.{IsMap};
 ghost use Rattle.c_typed.specs.declared.program.Program.{Program};
 ghost use Rattle.run_statements.specs.declared.numbers.Numbers.{Numbers};
-ghost use Rattle.std.specs.Prelude.{map, string_bytes};
+ghost use Rattle.std.specs.Prelude.{map, string_bytes, take, if◌then◌else◌};
 ghost use Rattle.std.specs.List.{All};
 ghost use Rattle.value_facts.specs.Held.{AreBytes};
 ghost use Rattle.core_run.specs.Whole.{CanRun, HasWorld, IsOverBy, RunsAsDefined};
@@ -26,8 +28,9 @@ use frame_numbers::law_numbers;
 use mem_laws::law_apart_extend;
 use prov_memory::{Memory, Outputs};
 use run_machine::{
-    Completed, Halt, MOST_CREATED, Machine, Pick, View, canonical, code_of, prepare,
+    Begun, Completed, Halt, MOST_CREATED, Machine, Pick, View, canonical, code_of, prepare,
 };
+use run_shown::{law_shown, law_traced};
 use run_standing::start_bytes;
 use start_laws::{law_bytes, law_start};
 use std::alloc::Global;
@@ -71,7 +74,7 @@ pub fn run<W: Watch>(
 
     // Of a lawful program with its terms: it starts, takes the picks of the canonical order, and ends, as the definitions do.
     ensures canonical { CanRun p.now (map string_bytes args.now)
-        → IfOk result (RunsAsDefined p.now.program.now (map string_bytes args.now) input.now (W.heard watch.old) (W.heard watch.new)) }
+        → IfOk result (RunsAsDefined p.now.program.now (map string_bytes args.now) input.now (watched W.comes W.heard) watch.old watch.new) }
 {
     law_start();
     law_begins();
@@ -200,6 +203,33 @@ fn number_of(frames: &mut Frames, event: Event) -> Result<Frame, NoMemory>
     Ok(frame)
 }
 
+// The full expressions that have begun and aren't settled, of so many frames below the top one.
+fn open_of<'v, 'p>(begun: &'v [Begun<'p>], below: usize, is_open: bool) -> &'v [Begun<'p>]
+    requires { below < 2 ^ 63 }
+    ensures { result.now ≡ take (if is_open then below + 1 else below) begun.now }
+{
+    let open = if is_open { below + 1 } else { below };
+    &begun[..open.min(begun.len())]
+}
+
+// What is shown of the machine, with these frames.
+fn view_of<'v, 'p>(machine: &'v Machine<'p, '_>, frames: &'v Frames) -> View<'v, 'p>
+    ensures { showing result ≡ shown_in machine.now frames.now }
+{
+    let begun = open_of(
+        machine.begun.as_slice(),
+        machine.below.len(),
+        machine.top.stage.is_some(),
+    );
+    View {
+        frames,
+        map: machine.memory.map(),
+        program: machine.program,
+        begun,
+        top: machine.top.frame,
+    }
+}
+
 // Tells what a pick of this event completes.
 fn tell_completed<W: Watch>(
     view: &View,
@@ -211,6 +241,7 @@ fn tell_completed<W: Watch>(
     ensures told { OnOk result (W.told watch.new ≡ W.told watch.old) }
     ensures trees { OnOk result (W.trees watch.new ≡ W.trees watch.old) }
     ensures calls { IfOk result (λ go. Tells (completions event completed) go (W.heard watch.old) (W.heard watch.new)) }
+    ensures come { IfOk result (λ go. Come (watched W.comes W.heard) (showing view.now) (completions event completed) go watch.old watch.new) }
 {
     match completed {
         Completed::Nothing => Ok(Go::On),
@@ -235,8 +266,11 @@ fn tell<W: Watch>(
     ensures told { OnOk result (W.told watch.new ≡ more 1 (W.told watch.old)) }
     ensures trees { OnOk result (W.trees watch.new ≡ W.trees watch.old) }
     ensures calls { IfOk result (λ go. Tells (calls_of told machine.now.items) go (W.heard watch.old) (W.heard watch.new)) }
+    // Each call with what is shown of the machine.
+    ensures come { IfOk result
+        (λ go. Come (watched W.comes W.heard) (shown_in machine.now frames.now) (calls_of told machine.now.items) go watch.old watch.new) }
 {
-    let view = machine.view(frames);
+    let view = view_of(machine, frames);
     match told {
         Pick::Step(_) => watch.pick(&view, None, &machine.items),
         Pick::Starts(event) | Pick::Event(event, _, Some(_)) => {
@@ -256,6 +290,13 @@ fn keep_rules(machine: &Machine)
     ensures { IsMap machine.now.memory.rows }
 {
     machine.memory.map().law_rows();
+}
+
+// Each frame of the list was started in an earlier one.
+fn keep_list(frames: &Frames)
+    ensures { IsFrameList frames.now }
+{
+    let _count = frames.len();
 }
 
 // Whether the run goes on.
@@ -280,12 +321,13 @@ fn advance<W: Watch>(
     ensures answers { IfOk result (λ next. AnswersNext next (W.heard watch.new)) }
     ensures started { StartedBy (W.heard watch.old) frames.old → OnOk result (StartedBy (W.heard watch.new) frames.new) }
     // It is a pick of the canonical order, where those before were.
-    ensures canonical { (p : Program) (strings : List (List ℕ)) (input : List ℕ) (numbers : Numbers) (before : Option Heard) (earlier : List (List Row))
-        → IsAt p strings input numbers before (W.heard watch.old) machine.old picks frames.old earlier
-        → IfOk result (GoesOnAt p strings input numbers before (W.heard watch.new) machine.new picks frames.new (machine.old.memory.rows ∷ earlier)) }
+    ensures canonical { (p : Program) (strings : List (List ℕ)) (input : List ℕ) (numbers : Numbers) (before : W) (earlier : List (List Row))
+        → IsAt (watched W.comes W.heard) p strings input numbers before watch.old machine.old picks frames.old earlier → IfOk result
+        (GoesOnAt (watched W.comes W.heard) p strings input numbers before watch.new machine.new picks frames.new (machine.old.memory.rows ∷ earlier)) }
     // Then the memory has each row that it had.
-    ensures grows { (p : Program) (strings : List (List ℕ)) (input : List ℕ) (numbers : Numbers) (before : Option Heard) (earlier : List (List Row))
-        → IsAt p strings input numbers before (W.heard watch.old) machine.old picks frames.old earlier → AreAmong earlier machine.old.memory.rows
+    ensures grows { (p : Program) (strings : List (List ℕ)) (input : List ℕ) (numbers : Numbers) (before : W) (earlier : List (List Row))
+        → IsAt (watched W.comes W.heard) p strings input numbers before watch.old machine.old picks frames.old earlier
+        → AreAmong earlier machine.old.memory.rows
         → OnOk result (AreAmong (machine.old.memory.rows ∷ earlier) machine.new.memory.rows) }
 {
     law_along();
@@ -294,12 +336,15 @@ fn advance<W: Watch>(
     law_event_asked();
     law_control();
     law_entered_arguments();
+    law_shown();
+    law_traced();
     keep_rules(machine);
     let told = match canonical(machine) {
         Ok(told) => told,
         Err(halt) => return Ok(Next::End(ended_by(halt, picks)?)),
     };
     start_frame(machine, frames, told)?;
+    keep_list(frames);
     match tell(machine, frames, told, watch)? {
         Go::Stop => Ok(Next::End(Ran::Stopped { picks: picks + 1 })),
         Go::On => Ok(after(told, picks)),
@@ -370,8 +415,8 @@ fn follow<W: Watch>(
     ensures started { OnOk result (StartedBy (W.heard watch.new) frames.new) }
     // Where it begins so, it follows the canonical order.
     ensures canonical { (p : Program) (strings : List (List ℕ)) (input : List ℕ) (numbers : Numbers)
-        → IsAt p strings input numbers (W.heard watch.old) (W.heard watch.old) machine.old 0 [] []
-        → IfOk result (EndsSome p strings input (W.heard watch.old) (W.heard watch.new) machine.new.streams.output frames.new machine.new.memory.rows) }
+        → IsAt (watched W.comes W.heard) p strings input numbers watch.old watch.old machine.old 0 [] [] → IfOk result
+        (EndsSome (watched W.comes W.heard) p strings input watch.old watch.new machine.new.streams.output frames.new machine.new.memory.rows) }
 {
     for picks in 0..budget {
         match advance(machine, frames, picks, watch)? {

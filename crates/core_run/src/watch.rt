@@ -19,7 +19,9 @@ pub enum Go {
 /// `operands_done` of the node above where that awaits nothing more. After Stop it is told nothing more.
 pub trait Watch {
     ghost use Rattle.core_run.specs.Calls.{Heard, picked, node_done as node_done_call, operands_done as operands_done_call, noted, GoesOn, FollowsPick};
-    ghost use Rattle.core_run.specs.Calls.{FollowsNode};
+    ghost use Rattle.core_run.specs.Calls.{Call, FollowsNode};
+    ghost use Rattle.core_run.specs.declared.watch.Go.{Go};
+    ghost use Rattle.run_shown.specs.Showing.{Showing, showing};
 
     /// How many picks it was told, where it counts them.
     ghost told: { Self → Option ℕ } = { λ _. None };
@@ -30,19 +32,24 @@ pub trait Watch {
     /// The trees that it was given, which no call changes.
     ghost trees: { Self → List Tree } = { λ _. [] };
 
+    /// What a call comes to: of this watch, where this is shown with the call, and it is answered so, that watch.
+    ghost comes: { Self → Showing → Call → Go → Self → Type 0 } = { λ w shown call go next. Unit {0} };
+
     /// A pick and what it touched; a control step has no event.
     fn pick(&mut self, v: &View, event: Option<Event>, items: &Touched) -> Result<Go, NoMemory>
         requires { GoesOn (heard self.old) }
         ensures told { OnOk result (told self.new ≡ more 1 (told self.old)) }
         ensures trees { OnOk result (trees self.new ≡ trees self.old) }
-        ensures heard { IfOk result (λ go. heard self.new ≡ noted (picked event items.now) go (heard self.old)) };
+        ensures heard { IfOk result (λ go. heard self.new ≡ noted (picked event items.now) go (heard self.old)) }
+        ensures comes { IfOk result (λ go. comes self.old (showing v.now) (picked event items.now) go self.new) };
 
     /// The pick that was told last was the last event of this node and of all below it.
     fn node_done(&mut self, v: &View, frame: Frame, turn: u64, node: u32) -> Result<Go, NoMemory>
         requires { FollowsPick frame turn node (heard self.old) }
         ensures told { OnOk result (told self.new ≡ told self.old) }
         ensures trees { OnOk result (trees self.new ≡ trees self.old) }
-        ensures heard { IfOk result (λ go. heard self.new ≡ noted (node_done_call frame turn node) go (heard self.old)) };
+        ensures heard { IfOk result (λ go. heard self.new ≡ noted (node_done_call frame turn node) go (heard self.old)) }
+        ensures comes { IfOk result (λ go. comes self.old (showing v.now) (node_done_call frame turn node) go self.new) };
 
     /// The pick that was told last completed a node, and with it all that stands below this node, the one above it.
     fn operands_done(
@@ -55,7 +62,8 @@ pub trait Watch {
         requires { FollowsNode frame turn (heard self.old) }
         ensures told { OnOk result (told self.new ≡ told self.old) }
         ensures trees { OnOk result (trees self.new ≡ trees self.old) }
-        ensures heard { IfOk result (λ go. heard self.new ≡ noted (operands_done_call frame turn node) go (heard self.old)) };
+        ensures heard { IfOk result (λ go. heard self.new ≡ noted (operands_done_call frame turn node) go (heard self.old)) }
+        ensures comes { IfOk result (λ go. comes self.old (showing v.now) (operands_done_call frame turn node) go self.new) };
 }
 
 /// How a run ended, and after how many picks.

@@ -2,6 +2,7 @@ use Rattle.std.proofs.Common.{◌≡◌, ◌≤◌, ◌+◌, ◌∙◌, ℕ, Lis
 use Rattle.ub_base.specs.Frames.{Row as Started_frame}
 use Rattle.core_run.specs.Calls.{StartedBy}
 use Rattle.core_run.specs.Canonical.{EndsIn, GoesOnAt, IsAt}
+use Rattle.core_run.specs.Comes.{watched}
 use Rattle.core_run.specs.Steps.{AnswersNext, told_by, taken_by}
 use Rattle.core_run.specs.Told.{more}
 use Rattle.core_run.specs.declared.canonical.Next.{Next}
@@ -22,7 +23,7 @@ loop-picks-init g c = record {
     [],
     tt,
     subst (λ (z : List Started_frame).
-        IsAt p strings input numbers (g.W.Watch.heard c.args.watch.now) (g.W.Watch.heard c.args.watch.now) c.args.machine.now 0 z [])
+        IsAt (watched g.W.Watch.comes g.W.Watch.heard) p strings input numbers c.args.watch.now c.args.watch.now c.args.machine.now 0 z [])
         (sym c.requires.first) at,
   );
 }
@@ -41,12 +42,12 @@ loop-picks-preserved g c = record {
   canonical = λ p strings input numbers at.
       let so_far = c.loop-picks.invariant.canonical p strings input numbers at in (
         c.loop-picks.machine.memory.rows ∷ so_far.0,
-        c.in_ok-advance.ensures.grows p strings input numbers (g.W.Watch.heard c.args.watch.now) so_far.0 so_far.2 so_far.1,
-        goes_behind p strings input numbers (g.W.Watch.heard c.args.watch.now) (g.W.Watch.heard c.advance.new.watch) c.advance.new.machine c.loop-picks.picks
+        c.in_ok-advance.ensures.grows p strings input numbers c.args.watch.now so_far.0 so_far.2 so_far.1,
+        goes_behind (watched g.W.Watch.comes g.W.Watch.heard) p strings input numbers c.args.watch.now c.advance.new.watch c.advance.new.machine c.loop-picks.picks
             c.advance.new.frames (c.loop-picks.machine.memory.rows ∷ so_far.0)
-            (subst (GoesOnAt p strings input numbers (g.W.Watch.heard c.args.watch.now) (g.W.Watch.heard c.advance.new.watch) c.advance.new.machine
+            (subst (GoesOnAt (watched g.W.Watch.comes g.W.Watch.heard) p strings input numbers c.args.watch.now c.advance.new.watch c.advance.new.machine
             c.loop-picks.picks c.advance.new.frames (c.loop-picks.machine.memory.rows ∷ so_far.0)) c.in-On.is
-            (c.in_ok-advance.ensures.canonical p strings input numbers (g.W.Watch.heard c.args.watch.now) so_far.0 so_far.2)),
+            (c.in_ok-advance.ensures.canonical p strings input numbers c.args.watch.now so_far.0 so_far.2)),
       );
 }
 
@@ -54,10 +55,10 @@ pub returns-in-End-clause-canonical : goal.returns-in-End-clause-canonical
 returns-in-End-clause-canonical g c = λ p strings input numbers at.
     let so_far = c.loop-picks.invariant.canonical p strings input numbers at in (
       c.loop-picks.machine.memory.rows ∷ so_far.0,
-      c.in_ok-advance.ensures.grows p strings input numbers (g.W.Watch.heard c.args.watch.now) so_far.0 so_far.2 so_far.1,
-      subst (GoesOnAt p strings input numbers (g.W.Watch.heard c.args.watch.now) (g.W.Watch.heard c.advance.new.watch) c.advance.new.machine c.loop-picks.picks
+      c.in_ok-advance.ensures.grows p strings input numbers c.args.watch.now so_far.0 so_far.2 so_far.1,
+      subst (GoesOnAt (watched g.W.Watch.comes g.W.Watch.heard) p strings input numbers c.args.watch.now c.advance.new.watch c.advance.new.machine c.loop-picks.picks
           c.advance.new.frames (c.loop-picks.machine.memory.rows ∷ so_far.0)) c.in-End.is
-          (c.in_ok-advance.ensures.canonical p strings input numbers (g.W.Watch.heard c.args.watch.now) so_far.0 so_far.2),
+          (c.in_ok-advance.ensures.canonical p strings input numbers c.args.watch.now so_far.0 so_far.2),
     )
 
 pub returns-clause-canonical : goal.returns-clause-canonical
@@ -66,8 +67,8 @@ returns-clause-canonical g c = λ p strings input numbers at.
     let all : c.loop-picks.picks ≡ c.args.budget = omega (arith, c.loop-picks-test.false, c.loop-picks.auto.picks-end) in (
       so_far.0,
       so_far.1,
-      subst (λ (k : ℕ). EndsIn p strings input (g.W.Watch.heard c.args.watch.now) (g.W.Watch.heard c.loop-picks.watch)
+      subst (λ (k : ℕ). EndsIn (watched g.W.Watch.comes g.W.Watch.heard) p strings input c.args.watch.now c.loop-picks.watch
           c.loop-picks.machine.streams.output c.loop-picks.frames (c.loop-picks.machine.memory.rows ∷ so_far.0) (OutOfSteps k)) all
-          (ends_here p strings input numbers (g.W.Watch.heard c.args.watch.now) (g.W.Watch.heard c.loop-picks.watch) c.loop-picks.machine c.loop-picks.picks
+          (ends_here (watched g.W.Watch.comes g.W.Watch.heard) p strings input numbers c.args.watch.now c.loop-picks.watch c.loop-picks.machine c.loop-picks.picks
           c.loop-picks.frames so_far.0 so_far.2),
     )

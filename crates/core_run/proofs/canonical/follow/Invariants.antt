@@ -4,6 +4,7 @@ use Rattle.c_typed.specs.declared.program.Program.{Program}
 use Rattle.run_statements.specs.declared.numbers.Numbers.{Numbers}
 use Rattle.core_run.specs.Calls.{GoesOn, StartedBy}
 use Rattle.core_run.specs.Canonical.{AreAmong, IsAt}
+use Rattle.core_run.specs.Comes.{watched}
 use Rattle.core_run.specs.Told.{more}
 use Rattle.core_run.proofs.canonical.follow.Given as goal
 
@@ -15,7 +16,7 @@ invariant-loop-picks g l = record {
   ready : GoesOn (g.W.Watch.heard l.watch);
   started : StartedBy (g.W.Watch.heard l.watch) l.frames;
   canonical : (p : Program) (strings : List (List ℕ)) (input : List ℕ) (numbers : Numbers)
-      → IsAt p strings input numbers (g.W.Watch.heard l.initial.watch) (g.W.Watch.heard l.initial.watch) l.initial.machine 0 [] []
+      → IsAt (watched g.W.Watch.comes g.W.Watch.heard) p strings input numbers l.initial.watch l.initial.watch l.initial.machine 0 [] []
       → (earlier : List (List Row)) × AreAmong earlier l.machine.memory.rows
-      × IsAt p strings input numbers (g.W.Watch.heard l.initial.watch) (g.W.Watch.heard l.watch) l.machine l.picks l.frames earlier;
+      × IsAt (watched g.W.Watch.comes g.W.Watch.heard) p strings input numbers l.initial.watch l.watch l.machine l.picks l.frames earlier;
 }

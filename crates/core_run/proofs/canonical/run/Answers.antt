@@ -10,6 +10,7 @@ use Rattle.run_layout.specs.OfTrees.{AreTermsOf}
 use Rattle.run_laws.specs.SetUp.{IsItsCode}
 use Rattle.core_run.specs.Calls.{StartedBy}
 use Rattle.core_run.specs.Canonical.{EndsSome, world_in}
+use Rattle.core_run.specs.Comes.{watched}
 use Rattle.core_run.proofs.Rows.{ends_over, own_fits}
 use Rattle.core_run.proofs.Telling.{answers_unstopped, started_first}
 use Rattle.core_run.proofs.Whole.{IsGivenCode, IsGivenMachine, are_terms, begins_at, empty_of, is_made, its_code, none_above, profile}
@@ -51,7 +52,8 @@ returns-clause-canonical g c = λ can.
     let p = c.args.p.now.program.now in
     let words = map string_bytes c.args.args.now in
     let input = c.args.input.now in
-    let heard = g.W.Watch.heard c.args.watch.now in
+    let coming = watched g.W.Watch.comes g.W.Watch.heard in
+    let watch = c.args.watch.now in
     let terms = c.as_slice.result.now in
     let few : length c.args.args.now + 1 < 2 ^ 32 = omega (arith, length-map c.args.args.now string_bytes, can.few) in
     let made = c.in_ok-code.ensures in
@@ -80,17 +82,17 @@ returns-clause-canonical g c = λ can.
     (subst (λ (b : Bor Code). IsItsCode p given.bodies.0 b.now) (sym c.in-Ok.ensures.code) its)
     (subst (λ (i : List ℕ). IsGivenMachine p words i c.in-Ok.machine.image.code c.in-Ok.machine) c.in_ok-input.ensures ready)
     (c.start_bytes-reached.ensures.exact few) (omega (arith, c.if-reached-gt-MOST_CREATED.false)) c.are_words.ensures c.are_bytes.ensures can.few in
-    let now = g.W.Watch.heard c.follow.new.watch in
+    let now = c.follow.new.watch in
     let m = c.follow.new.machine in
     let written : Outputs = record { standard = c.written_and_placed-output.result.0; errors = c.written_and_placed-output.result.1 } in
     let some = c.in_ok-ran.ensures.canonical p words input given.bodies.0
-    (begins_at c.law_start.ensures.goes c.law_begins.ensures c.law_lawful_small.ensures.worlds c.law_lawful_small.ensures.main c.law_bytes.ensures p words input
-    given.bodies.0 heard c.in-Ok.machine c.start_bytes-reached.result held) in
-    inr (ends_over c.law_apart_extend.ensures p words input heard now written c.follow.new.frames c.written_and_placed-output.result.2 c.in_ok-ran.ran
+    (begins_at c.law_start.ensures.goes c.law_begins.ensures c.law_lawful_small.ensures.worlds c.law_lawful_small.ensures.main c.law_bytes.ensures coming p words
+    input given.bodies.0 watch c.in-Ok.machine c.start_bytes-reached.result held) in
+    inr (ends_over c.law_apart_extend.ensures coming p words input watch now written c.follow.new.frames c.written_and_placed-output.result.2 c.in_ok-ran.ran
     c.law_rows.ensures
-    (subst (λ (rows : List Row). EndsSome p words input heard now written c.follow.new.frames rows c.in_ok-ran.ran)
+    (subst (λ (rows : List Row). EndsSome coming p words input watch now written c.follow.new.frames rows c.in_ok-ran.ran)
     (sym c.written_and_placed-output.ensures.map)
-    (subst (λ (o : Outputs). EndsSome p words input heard now o c.follow.new.frames m.memory.rows c.in_ok-ran.ran)
+    (subst (λ (o : Outputs). EndsSome coming p words input watch now o c.follow.new.frames m.memory.rows c.in_ok-ran.ran)
     c.written_and_placed-output.ensures.output some)))
 
 pub returns-then-reached-gt-MOST_CREATED-clause-map :

@@ -1,5 +1,6 @@
+use Rattle.core_run.specs.Comes.{watched}
 use Rattle.core_run.proofs.Told.{told_canonical}
 use Rattle.core_run.proofs.laws.law_told.Goals as goal
 
 pub returns : goal.returns
-returns c = told_canonical
+returns g c = told_canonical (watched g.W.Watch.comes g.W.Watch.heard)
