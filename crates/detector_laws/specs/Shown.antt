@@ -1,12 +1,13 @@
 -- What has to be shown with each call of a watch, for what is recorded to be what the definitions have (own).
-use Rattle.std.specs.Prelude.{◌≡◌, ◌⊎◌, ◌<◌, ◌^◌, ℕ, true, List, [], ◌∷◌, Option, Some, None}
+use Rattle.std.specs.Prelude.{◌≡◌, ◌⊎◌, ◌<◌, ◌^◌, ℕ, true, List, [], ◌∷◌, Option, Some, None, if◌then◌else◌}
+use Rattle.ub_base.specs.declared.clause.Kind.TheVariants.{Val}
 use Rattle.ub_base.specs.Frames.{Row as FrameRow}
 use Rattle.ub_base.specs.declared.names.Frame.{Frame}
 use Rattle.ub_base.specs.declared.names.Item.{Item}
 use Rattle.addr_map.specs.Conflict.{items_conflict, stands_at}
 use Rattle.addr_map.specs.declared.map.Row.{Row}
 use Rattle.c_typed.specs.declared.tree.Place.{Place}
-use Rattle.c_typed.specs.Order.{Taken}
+use Rattle.c_typed.specs.Order.{Taken, is_due, place}
 use Rattle.c_typed.specs.Tree.{Tree, size}
 use Rattle.c_model.specs.Keys.{all_by_bytes}
 use Rattle.c_model.specs.Program.{tree_of}
@@ -20,6 +21,10 @@ use Rattle.run_evaluations.specs.Told.{Opened}
 use Rattle.detector_laws.specs.Records.{Records, TellsItems}
 
 -- ---- full expressions
+-- what nodes have chosen, of those that are evaluated
+abbrev pub where_evaluated : Tree → Taken → Taken
+where_evaluated tree taken n = if is_due tree taken (place n Val) then taken n else None
+
 -- one that has begun, as it is shown: its frame and turn, its tree, and what its nodes have chosen by now
 pub record ShownExpression : Type 0 where
   pub frame : Frame
@@ -32,7 +37,7 @@ pub record IsShownOf (world : World) (f : Scene) (e : Begun) (b : ShownExpressio
   pub frame : b.frame.0 ≡ world.number f.path
   pub turn : b.turn ≡ f.turn
   pub tree : b.tree ≡ tree_of e.root
-  pub taken : b.taken ≡ taken_by world f e
+  pub taken : (n : ℕ) → b.taken n ≡ where_evaluated (tree_of e.root) (taken_by world f e) n
   pub formed : is_formed b.tree ≡ true
   pub small : size b.tree < 2 ^ 32
 
@@ -73,8 +78,8 @@ pub record Shown (world : World) (st : State) (frames : List FrameRow) (map : Li
   pub items_are : (e : Entry) (es : List Entry) → st.trace ≡ e ∷ es → TellsItems items e.items
   pub within : (i : Item) → IsAmong items i → IsWithin i
 
--- so what was told of a full expression is what is shown of it
+-- so what was told of a full expression is what is shown of it, but that only choices of nodes that are evaluated are shown
 abbrev pub ShownFits : Type 0
 ShownFits = (world : World) (trace : List Entry) (f : Scene) (e : Begun) (closed done : List Place) (t : Opened) (b : ShownExpression)
     → Records world trace f e closed done t → IsShownOf world f e b
-    → (t.frame ≡ b.frame) × (t.turn ≡ b.turn) × (t.scope.tree ≡ b.tree) × (t.scope.taken ≡ b.taken)
+    → (t.frame ≡ b.frame) × (t.turn ≡ b.turn) × (t.scope.tree ≡ b.tree) × ((n : ℕ) → b.taken n ≡ where_evaluated t.scope.tree t.scope.taken n)

@@ -1,0 +1,5 @@
+mod Known
+mod Standing
+mod Bytes
+mod Items
+mod Whole

@@ -1,0 +1,4 @@
+pub mod Named
+pub mod Standing
+pub mod Items
+pub mod Whole
