@@ -131,8 +131,8 @@ module _ (asked : EventIsAsked) (goes : ControlGoesOn) (asks : ArgumentsAreAsked
 -- ---- so it is of each pick of a run
 module _ (extend : ApartExtend) (asked : EventIsAsked) (goes : ControlGoesOn) (asks : ArgumentsAreAsked) {S : Type 0} (coming : Coming S) (p : Program)
     (strings : List (List ℕ)) (input : List ℕ) (numbers : Numbers) (before heard : S) (old : Machine) (n : ℕ) (frames : List Started_frame)
-    (earlier : List (List Row)) (at : IsAt coming p strings input numbers before heard old n frames earlier) (few : suc n < 2 ^ 32) (map : IsMap old.memory.rows)
-    (are : AreAmong earlier old.memory.rows) where
+    (earlier : List (List Row)) (at : IsAt coming p strings input numbers before heard old n frames earlier) (few : suc n < 2 ^ 32)
+    (map : IsMap old.memory.rows) (are : AreAmong earlier old.memory.rows) where
   answered : (new : Machine) (r : Result Pick Halt) → GrowsNext old new r → KeepsAnswered old new r
   answered new r g =
       let rows = old.memory.rows in

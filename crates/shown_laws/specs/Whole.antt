@@ -22,7 +22,8 @@ use Rattle.shown_laws.specs.Standing.{WasCreated}
 abbrev pub as_shown : Begun → ShownExpression
 as_shown b = record { frame = b.frame; turn = b.turn; tree = tree_of b.root.now; taken = taken_in b.taken }
 
--- What is asked of a trace: the items of the newest entry name frames of the trace, and their bytes end in time; objects that are exposed, or die, were created.
+-- What is asked of a trace: the items of the newest entry name frames of the trace, and their bytes end below 2^64; objects that are exposed, or die, were
+-- created.
 pub record IsNamed (world : World) (st : State) : Type 0 where
   pub frames : (e : Entry) (es : List Entry) → st.trace ≡ e ∷ es → (i : Item) → IsAmong (all_by_bytes e.items) i → NamesFrames world st.trace i
   pub objects : (i : Item) → IsOfTrace st.trace i → WasCreated st.store i

@@ -29,7 +29,8 @@ returns-in-Stop-clause-canonical g c = λ p strings input numbers before earlier
       picks = c.law_traced.ensures.picks;
       lists = c.law_traced.ensures.grows;
     }) (watched g.W.Watch.comes g.W.Watch.heard) p strings input numbers before c.args.watch.now c.tell.new.watch c.args.machine.now c.args.picks
-    c.args.frames.now c.start_frame.new.frames earlier at (omega (arith, c.requires.few)) c.keep_list.ensures c.in-Ok.told c.canonical.new.machine c.start_frame.new.machine
+    c.args.frames.now c.start_frame.new.frames earlier at (omega (arith, c.requires.few)) c.keep_list.ensures
+    c.in-Ok.told c.canonical.new.machine c.start_frame.new.machine
     (subst (AnswersAll c.args.machine.now c.canonical.new.machine) c.in-Ok.is (record {
       takes = c.canonical.ensures.takes;
       steps = c.canonical.ensures.steps;
@@ -54,7 +55,8 @@ returns-in-On-clause-canonical g c = λ p strings input numbers before earlier a
       picks = c.law_traced.ensures.picks;
       lists = c.law_traced.ensures.grows;
     }) (watched g.W.Watch.comes g.W.Watch.heard) p strings input numbers before c.args.watch.now c.tell.new.watch c.args.machine.now c.args.picks
-    c.args.frames.now c.start_frame.new.frames earlier at (omega (arith, c.requires.few)) c.keep_list.ensures c.in-Ok.told c.canonical.new.machine c.start_frame.new.machine
+    c.args.frames.now c.start_frame.new.frames earlier at (omega (arith, c.requires.few)) c.keep_list.ensures
+    c.in-Ok.told c.canonical.new.machine c.start_frame.new.machine
     c.after.result (subst (AnswersAll c.args.machine.now c.canonical.new.machine) c.in-Ok.is (record {
       takes = c.canonical.ensures.takes;
       steps = c.canonical.ensures.steps;
@@ -91,21 +93,24 @@ returns-in-Err-clause-canonical g c = λ p strings input numbers before earlier 
 
 pub returns-in-Stop-clause-grows : goal.returns-in-Stop-clause-grows
 returns-in-Stop-clause-grows g c = λ p strings input numbers before earlier at among.
-    grown_rows c.law_apart_extend.ensures c.law_event_asked.ensures c.law_control.ensures c.law_entered_arguments.ensures (watched g.W.Watch.comes g.W.Watch.heard)
-    p strings input numbers before c.args.watch.now c.args.machine.now c.args.picks c.args.frames.now earlier at (omega (arith, c.requires.few)) c.keep_rules.ensures among
+    grown_rows c.law_apart_extend.ensures c.law_event_asked.ensures c.law_control.ensures c.law_entered_arguments.ensures
+    (watched g.W.Watch.comes g.W.Watch.heard) p strings input numbers before c.args.watch.now c.args.machine.now c.args.picks c.args.frames.now earlier at
+    (omega (arith, c.requires.few)) c.keep_rules.ensures among
     c.in-Ok.told c.canonical.new.machine c.start_frame.new.machine c.start_frame.new.frames c.in_ok-start_frame.ensures.numbered
     (subst (GrowsNext c.args.machine.now c.canonical.new.machine) c.in-Ok.is c.canonical.ensures.rows)
 
 pub returns-in-On-clause-grows : goal.returns-in-On-clause-grows
 returns-in-On-clause-grows g c = λ p strings input numbers before earlier at among.
-    grown_rows c.law_apart_extend.ensures c.law_event_asked.ensures c.law_control.ensures c.law_entered_arguments.ensures (watched g.W.Watch.comes g.W.Watch.heard)
-    p strings input numbers before c.args.watch.now c.args.machine.now c.args.picks c.args.frames.now earlier at (omega (arith, c.requires.few)) c.keep_rules.ensures among
+    grown_rows c.law_apart_extend.ensures c.law_event_asked.ensures c.law_control.ensures c.law_entered_arguments.ensures
+    (watched g.W.Watch.comes g.W.Watch.heard) p strings input numbers before c.args.watch.now c.args.machine.now c.args.picks c.args.frames.now earlier at
+    (omega (arith, c.requires.few)) c.keep_rules.ensures among
     c.in-Ok.told c.canonical.new.machine c.start_frame.new.machine c.start_frame.new.frames c.in_ok-start_frame.ensures.numbered
     (subst (GrowsNext c.args.machine.now c.canonical.new.machine) c.in-Ok.is c.canonical.ensures.rows)
 
 pub returns-in-Err-clause-grows : goal.returns-in-Err-clause-grows
 returns-in-Err-clause-grows g c = λ p strings input numbers before earlier at among.
-    grown_end c.law_apart_extend.ensures c.law_event_asked.ensures c.law_control.ensures c.law_entered_arguments.ensures (watched g.W.Watch.comes g.W.Watch.heard)
-    p strings input numbers before c.args.watch.now c.args.machine.now c.args.picks c.args.frames.now earlier at (omega (arith, c.requires.few)) c.keep_rules.ensures among
+    grown_end c.law_apart_extend.ensures c.law_event_asked.ensures c.law_control.ensures c.law_entered_arguments.ensures
+    (watched g.W.Watch.comes g.W.Watch.heard) p strings input numbers before c.args.watch.now c.args.machine.now c.args.picks c.args.frames.now earlier at
+    (omega (arith, c.requires.few)) c.keep_rules.ensures among
     c.canonical.new.machine c.in-Err.halt c.in_ok-ended_by-in-Err.field-0 c.in_ok-ended_by-in-Err.ensures.ended
     (subst (GrowsNext c.args.machine.now c.canonical.new.machine) c.in-Err.is c.canonical.ensures.rows)

@@ -43,8 +43,8 @@ loop-picks-preserved g c = record {
       let so_far = c.loop-picks.invariant.canonical p strings input numbers at in (
         c.loop-picks.machine.memory.rows ∷ so_far.0,
         c.in_ok-advance.ensures.grows p strings input numbers c.args.watch.now so_far.0 so_far.2 so_far.1,
-        goes_behind (watched g.W.Watch.comes g.W.Watch.heard) p strings input numbers c.args.watch.now c.advance.new.watch c.advance.new.machine c.loop-picks.picks
-            c.advance.new.frames (c.loop-picks.machine.memory.rows ∷ so_far.0)
+        goes_behind (watched g.W.Watch.comes g.W.Watch.heard) p strings input numbers c.args.watch.now c.advance.new.watch c.advance.new.machine
+            c.loop-picks.picks c.advance.new.frames (c.loop-picks.machine.memory.rows ∷ so_far.0)
             (subst (GoesOnAt (watched g.W.Watch.comes g.W.Watch.heard) p strings input numbers c.args.watch.now c.advance.new.watch c.advance.new.machine
             c.loop-picks.picks c.advance.new.frames (c.loop-picks.machine.memory.rows ∷ so_far.0)) c.in-On.is
             (c.in_ok-advance.ensures.canonical p strings input numbers c.args.watch.now so_far.0 so_far.2)),
@@ -56,8 +56,8 @@ returns-in-End-clause-canonical g c = λ p strings input numbers at.
     let so_far = c.loop-picks.invariant.canonical p strings input numbers at in (
       c.loop-picks.machine.memory.rows ∷ so_far.0,
       c.in_ok-advance.ensures.grows p strings input numbers c.args.watch.now so_far.0 so_far.2 so_far.1,
-      subst (GoesOnAt (watched g.W.Watch.comes g.W.Watch.heard) p strings input numbers c.args.watch.now c.advance.new.watch c.advance.new.machine c.loop-picks.picks
-          c.advance.new.frames (c.loop-picks.machine.memory.rows ∷ so_far.0)) c.in-End.is
+      subst (GoesOnAt (watched g.W.Watch.comes g.W.Watch.heard) p strings input numbers c.args.watch.now c.advance.new.watch c.advance.new.machine
+          c.loop-picks.picks c.advance.new.frames (c.loop-picks.machine.memory.rows ∷ so_far.0)) c.in-End.is
           (c.in_ok-advance.ensures.canonical p strings input numbers c.args.watch.now so_far.0 so_far.2),
     )
 
@@ -69,6 +69,6 @@ returns-clause-canonical g c = λ p strings input numbers at.
       so_far.1,
       subst (λ (k : ℕ). EndsIn (watched g.W.Watch.comes g.W.Watch.heard) p strings input c.args.watch.now c.loop-picks.watch
           c.loop-picks.machine.streams.output c.loop-picks.frames (c.loop-picks.machine.memory.rows ∷ so_far.0) (OutOfSteps k)) all
-          (ends_here (watched g.W.Watch.comes g.W.Watch.heard) p strings input numbers c.args.watch.now c.loop-picks.watch c.loop-picks.machine c.loop-picks.picks
-          c.loop-picks.frames so_far.0 so_far.2),
+          (ends_here (watched g.W.Watch.comes g.W.Watch.heard) p strings input numbers c.args.watch.now c.loop-picks.watch c.loop-picks.machine
+          c.loop-picks.picks c.loop-picks.frames so_far.0 so_far.2),
     )

@@ -86,8 +86,8 @@ returns-clause-canonical g c = λ can.
     let m = c.follow.new.machine in
     let written : Outputs = record { standard = c.written_and_placed-output.result.0; errors = c.written_and_placed-output.result.1 } in
     let some = c.in_ok-ran.ensures.canonical p words input given.bodies.0
-    (begins_at c.law_start.ensures.goes c.law_begins.ensures c.law_lawful_small.ensures.worlds c.law_lawful_small.ensures.main c.law_bytes.ensures coming p words
-    input given.bodies.0 watch c.in-Ok.machine c.start_bytes-reached.result held) in
+    (begins_at c.law_start.ensures.goes c.law_begins.ensures c.law_lawful_small.ensures.worlds c.law_lawful_small.ensures.main c.law_bytes.ensures coming p
+    words input given.bodies.0 watch c.in-Ok.machine c.start_bytes-reached.result held) in
     inr (ends_over c.law_apart_extend.ensures coming p words input watch now written c.follow.new.frames c.written_and_placed-output.result.2 c.in_ok-ran.ran
     c.law_rows.ensures
     (subst (λ (rows : List Row). EndsSome coming p words input watch now written c.follow.new.frames rows c.in_ok-ran.ran)
