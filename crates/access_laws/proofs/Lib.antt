@@ -1,0 +1,5 @@
+mod Posts
+mod Acts
+mod Library
+mod Printing
+mod Picks
