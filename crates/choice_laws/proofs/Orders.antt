@@ -15,6 +15,10 @@ use Rattle.listing_laws.specs.Due.{AgreeWhereDue, ListsAlike}
 use Rattle.choice_laws.specs.Alike.{DuesAlike, OrdersAlike}
 
 -- ---- nodes that are no choice
+pub goes_plain : (class : Class) (c d : Option ℕ) (i : ℕ) → is_choice class ≡ false → goes class c i ≡ goes class d i
+goes_plain Choice c d i h = absurd (true≢false h)
+goes_plain _ c d i h = refl
+
 across_plain : (class : Class) (c d : Option ℕ) (i j : ℕ) → is_choice class ≡ false → across class c i j ≡ across class d i j
 across_plain Choice c d i j h = absurd (true≢false h)
 across_plain _ c d i j h = refl
@@ -32,7 +36,7 @@ lifts_plain class c d i last Val h = ap₂ (λ a b. a || b) (upward_plain class 
 lifts_plain class c d i last Body h = upward_plain class c d i last Body h
 lifts_plain class c d i last _ h = upward_plain class c d i last _ h
 
-choice_val : (class : Class) → is_choice class ≡ true → has_kind (kinds_of class) Val ≡ true
+pub choice_val : (class : Class) → is_choice class ≡ true → has_kind (kinds_of class) Val ≡ true
 choice_val Choice h = refl
 choice_val _ h = absurd (true≢false (sym h))
 

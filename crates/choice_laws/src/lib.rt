@@ -1,7 +1,7 @@
 //! Choices of nodes that aren't evaluated change nothing of what is told of an open full expression. Laws without code.
 #![tactic(auto)]
 
-ghost use Rattle.choice_laws.specs.Alike.{DuesAlike, OrdersAlike};
+ghost use Rattle.choice_laws.specs.Alike.{AnswersAlike, DuesAlike, OrdersAlike};
 
 use listing_laws::law_unevaluated_choices;
 
@@ -9,6 +9,13 @@ use listing_laws::law_unevaluated_choices;
 pub fn law_choices()
     ensures dues { DuesAlike }
     ensures orders { OrdersAlike }
+{
+    law_unevaluated_choices();
+}
+
+/// So of an open full expression the first conflict of the pairs of which the calls tell behind an event is the same.
+pub fn law_answers()
+    ensures { AnswersAlike }
 {
     law_unevaluated_choices();
 }
