@@ -1,5 +1,5 @@
 -- Each access of each pick of a program lies in the row of its object.
-use Rattle.std.proofs.Common.{◌≡◌, ◌+◌, ◌≤◌, ◌<◌, ◌^◌, ◌||◌, ℕ, suc, true, refl, sym, subst, arith, List, [], ◌∷◌, Option, Some, None, is_some}
+use Rattle.std.proofs.Common.{◌≡◌, ◌+◌, ◌≤◌, ◌<◌, ◌^◌, ◌||◌, ℕ, suc, true, refl, sym, subst, arith, List, [], ◌∷◌, Option, Some, None, is_some, zero, ap}
 use Rattle.std.specs.Prelude.{replicate}
 use Rattle.std.proofs.lemmas.List.{length-replicate}
 use Rattle.ub_base.specs.declared.clause.Cause.{Cause}
@@ -29,9 +29,9 @@ use Rattle.c_model.specs.Steps.{call_act, event_act, object_at, pass_all, bear_a
 use Rattle.c_model.specs.Libraries.{library}
 use Rattle.c_model.specs.Moves.{End, Move, Start, Stay}
 use Rattle.c_model.specs.Runs.{Ends, Entry, No_row, Outcome, Over, Raises, Refused, Running, State, acted, allocation_passes, back, depth_of, enter_passes}
-use Rattle.c_model.specs.Runs.{entry_of, limit_passed, limited, moved, pick_allocates, trace_of, within}
+use Rattle.c_model.specs.Runs.{canonical_after, canonical_pick, entry_of, limit_passed, limited, moved, on_running, pick_allocates, step, trace_of, within}
 use Rattle.c_model.specs.Steps.{move}
-use Rattle.access_laws.specs.Inside.{AllInside, InsideEnds, StepsInside, TraceInside}
+use Rattle.access_laws.specs.Inside.{AllInside, CanonicalInside, InsideEnds, StepsInside, TraceInside}
 use Rattle.access_laws.proofs.Posts.{Anything, Inside, bind, go_on, items_in, need, run_inside, when}
 use Rattle.access_laws.proofs.Acts.{act_inside, create_sized, put_inside}
 use Rattle.access_laws.proofs.Printing.{library_inside}
@@ -155,6 +155,29 @@ steps_inside world st p own h =
     through world own (enter_passes world.limits st p) (acted world st p (run world.rows (does world st.top st.top.begun p) st.store))
     (acted_inside world own st p (run world.rows (does world st.top st.top.begun p) st.store)
     (run_inside world.rows Anything (does world st.top st.top.begun p) st.store (does_inside world own st.top st.top.begun p)) h)
+
+-- ---- along the canonical order
+some_running : (a b : State) → Running a ≡ Running b → a ≡ b
+some_running a b q = ap (λ (o : Outcome). state_of o a) q
+  where
+    state_of : Outcome → State → State
+    state_of (Running st) other = st
+    state_of o other = other
+
+pub canonical_inside : CanonicalInside
+canonical_inside world zero st after own h q = subst (λ (z : State). TraceInside world.rows z.trace) (some_running st after q) h
+canonical_inside world (suc n) st after own h q =
+    from (λ next k r. canonical_inside world n next after own k r) (step world st (canonical_pick world st.top st.top.begun))
+    (steps_inside world st (canonical_pick world st.top st.top.begun) own h) q
+  where
+    from : ((next : State) → TraceInside world.rows next.trace → canonical_after world n next ≡ Running after → TraceInside world.rows after.trace)
+        → (o : Outcome) → TraceInside world.rows (trace_of o) → on_running o (canonical_after world n) ≡ Running after → TraceInside world.rows after.trace
+    from again Refused k r = absurd (cc (r))
+    from again (Raises c trace) k r = absurd (cc (r))
+    from again (Over c m) k r = absurd (cc (r))
+    from again No_row k r = absurd (cc (r))
+    from again (Ends m out trace) k r = absurd (cc (r))
+    from again (Running next) k r = again next k r
 
 -- ---- rows end below 2^47
 row_ends : (o : Option Row) (a n : ℕ) → ((r : Row) → o ≡ Some r → is_lawful r ≡ true) → a + n ≤ size_in o → a + n < 2 ^ 64

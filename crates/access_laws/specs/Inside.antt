@@ -7,7 +7,7 @@ use Rattle.addr_map.specs.declared.map.Row.{Row}
 use Rattle.addr_map.specs.Rows.{is_lawful, row_of}
 use Rattle.mem_spec.specs.Acts.{size_in}
 use Rattle.c_model.specs.Libraries.{library}
-use Rattle.c_model.specs.Runs.{Entry, State, step, trace_of}
+use Rattle.c_model.specs.Runs.{Entry, Running, State, canonical_after, step, trace_of}
 use Rattle.c_model.specs.Steps.{Pick}
 use Rattle.c_model.specs.World.{World}
 
@@ -31,7 +31,12 @@ abbrev pub StepsInside : Type 0
 StepsInside = (world : World) (st : State) (p : Pick) → world.library ≡ library world.rows → TraceInside world.rows st.trace
     → TraceInside world.rows (trace_of (step world st p))
 
--- so the bytes of each access end below the last of 64 bits, where rows keep the rules of an address map
+-- so it is along the canonical order
+abbrev pub CanonicalInside : Type 0
+CanonicalInside = (world : World) (n : ℕ) (st after : State) → world.library ≡ library world.rows → TraceInside world.rows st.trace
+    → canonical_after world n st ≡ Running after → TraceInside world.rows after.trace
+
+-- and the bytes of each access end below the last of 64 bits, where rows keep the rules of an address map
 abbrev pub InsideEnds : Type 0
 InsideEnds = (rows : List Row) (x : ObjName) (a n : ℕ) → ((y : ObjName) (r : Row) → row_of rows y ≡ Some r → is_lawful r ≡ true)
     → a + n ≤ size_in (row_of rows x) → a + n < 2 ^ 64

@@ -18,7 +18,9 @@ use Rattle.finding_laws.specs.Footprints.{IsAmong, IsWithin}
 use Rattle.finding_laws.proofs.Bytes.{left_of, one_of, right_of}
 use Rattle.detector_laws.specs.Records.{TellsItems}
 use Rattle.canonical_laws.specs.Listed.{HasItems}
-use Rattle.shown_laws.specs.Items.{AllWithin, ItemsAreTold}
+use Rattle.addr_map.specs.declared.map.Row.{Row}
+use Rattle.access_laws.specs.Inside.{AllInside, InsideEnds, IsInside}
+use Rattle.shown_laws.specs.Items.{AllWithin, AreLawful, InsideIsWithin, ItemsAreTold}
 use Rattle.shown_laws.proofs.Bytes.{and_left, and_right, in_bytes, stood_for}
 
 -- ---- what is touched by a list of items is among their bytes
@@ -146,3 +148,18 @@ items_told told own has within =
       )),
       end,
     )
+
+-- ---- accesses that lie in rows
+module _ (ends : InsideEnds) (rows : List Row) (lawful : AreLawful rows) where
+  one_within : (i : Item) → IsInside rows i → IsWithin i
+  one_within (Read x a n) h = ends rows x a n lawful h
+  one_within (Write x a n) h = ends rows x a n lawful h
+  one_within _ h = tt
+
+  all_within : (is : List Item) → AllInside rows is → AllWithin is
+  all_within [] h i among = absurd among
+  all_within (j ∷ js) h i (inl own) = subst IsWithin own (one_within j h.0)
+  all_within (j ∷ js) h i (inr later) = all_within js h.1 i later
+
+pub inside_within : InsideEnds → InsideIsWithin
+inside_within ends rows is lawful h = all_within ends rows lawful is h

@@ -14,7 +14,9 @@ use Rattle.run_state.specs.declared.watch.Begun.{Begun as Shown_begun}
 use Rattle.detector_laws.specs.Records.{TellsItems}
 use Rattle.detector_laws.specs.Shown as detector
 use Rattle.run_shown.specs.Shown.{AreShownOf, IsShownOf, all_begun, begun_below, begun_in}
-use Rattle.shown_laws.specs.Items.{ItemsAreTold}
+use Rattle.addr_map.specs.declared.map.Row.{Row}
+use Rattle.access_laws.specs.Inside.{AllInside, TraceInside}
+use Rattle.shown_laws.specs.Items.{InsideIsWithin, ItemsAreTold}
 use Rattle.shown_laws.specs.Named.{ItemsAreKnown}
 use Rattle.shown_laws.specs.Standing.{ConflictsStand}
 use Rattle.shown_laws.specs.Whole.{ShownIsWhole, as_shown}
@@ -54,9 +56,12 @@ same_begun st = same_in st.top.scene st.top.begun (begun_below st.held) (detecto
 same_newest : (d e : Entry) (ds es : List Entry) → d ∷ ds ≡ e ∷ es → d ≡ e
 same_newest d e ds es h = cc (h)
 
-pub shown_whole : ItemsAreKnown → ConflictsStand → ItemsAreTold → ShownIsWhole
-shown_whole known stand are_told world p st s told e es shown named newest has =
-    let own = are_told told e.items has (named.within e es newest) in record {
+newest_inside : (rows : List Row) (trace : List Entry) (e : Entry) (es : List Entry) → trace ≡ e ∷ es → TraceInside rows trace → AllInside rows e.items
+newest_inside rows trace e es is h = (let k : TraceInside rows (e ∷ es) = subst (TraceInside rows) is h in k).0
+
+pub shown_whole : ItemsAreKnown → ConflictsStand → ItemsAreTold → InsideIsWithin → ShownIsWhole
+shown_whole known stand are_told within world p st s told e es shown named inside lawful newest has =
+    let own = are_told told e.items has (within world.rows e.items lawful (newest_inside world.rows st.trace e es newest inside)) in record {
       top_is = shown.top;
       begun_are =
           subst (λ xs. detector.AreShownOf world xs (map as_shown (reverse s.begun))) (same_begun st)

@@ -14,7 +14,8 @@ use Rattle.detector_laws.specs.Shown as detector
 use Rattle.canonical_laws.specs.Listed.{HasItems}
 use Rattle.run_shown.specs.Showing.{Showing}
 use Rattle.run_shown.specs.Shown.{Shown}
-use Rattle.shown_laws.specs.Items.{AllWithin}
+use Rattle.access_laws.specs.Inside.{TraceInside}
+use Rattle.shown_laws.specs.Items.{AreLawful}
 use Rattle.shown_laws.specs.Named.{NamesFrames}
 use Rattle.shown_laws.specs.Standing.{WasCreated}
 
@@ -22,15 +23,13 @@ use Rattle.shown_laws.specs.Standing.{WasCreated}
 abbrev pub as_shown : Begun → ShownExpression
 as_shown b = record { frame = b.frame; turn = b.turn; tree = tree_of b.root.now; taken = taken_in b.taken }
 
--- What is asked of a trace: the items of the newest entry name frames of the trace, and their bytes end below 2^64; objects that are exposed, or die, were
--- created.
+-- What is asked of a trace: the items of the newest entry name frames of the trace; objects that are exposed, or die, were created.
 pub record IsNamed (world : World) (st : State) : Type 0 where
   pub frames : (e : Entry) (es : List Entry) → st.trace ≡ e ∷ es → (i : Item) → IsAmong (all_by_bytes e.items) i → NamesFrames world st.trace i
   pub objects : (i : Item) → IsOfTrace st.trace i → WasCreated st.store i
-  pub within : (e : Entry) (es : List Entry) → st.trace ≡ e ∷ es → AllWithin e.items
 
--- then all is shown, with items that tell the newest entry
+-- Then all is shown, with items that tell the newest entry; accesses lie in the rows of their objects, which keep the rules of an address map.
 abbrev pub ShownIsWhole : Type 0
 ShownIsWhole = (world : World) (p : Program) (st : State) (s : Showing) (told : List Item) (e : Entry) (es : List Entry) → Shown world p st s
-    → IsNamed world st → st.trace ≡ e ∷ es → HasItems told e.items
+    → IsNamed world st → TraceInside world.rows st.trace → AreLawful world.rows → st.trace ≡ e ∷ es → HasItems told e.items
     → detector.Shown world st s.frames s.map s.top (map as_shown (reverse s.begun)) told
