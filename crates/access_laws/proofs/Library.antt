@@ -21,7 +21,8 @@ use Rattle.mem_spec.specs.Script.{Ask, Get, Put, Bury, Print, Script, Give, touc
 use Rattle.mem_spec.specs.Acts.{Accessed, argument, argument_object, argument_in, the_one_in, in_row, offset_in, settle_by, check_writable, copy_between}
 use Rattle.mem_spec.specs.Acts.{declared_of, stored_from, bytes, whole, all_written, show_pieces, size_in, retagged}
 use Rattle.libc_spec.specs.Library.{LibValue, number, pointer, nothing, null, argument_at, address_in, prov_in, integer_in, size_of_value, low_byte}
-use Rattle.libc_spec.specs.Library.{plain, number_of_byte, numbers, read_numbers, check_target, bytes_at, write_numbers, ends_in_zero, behind, until_zero, Text, text_at}
+use Rattle.libc_spec.specs.Library.{number_of_byte}
+use Rattle.libc_spec.specs.Library.{plain, numbers, read_numbers, check_target, bytes_at, write_numbers, ends_in_zero, behind, until_zero, Text, text_at}
 use Rattle.libc_spec.specs.Library.{text_from, text, order_of, overlap, heap_name, heap_kind, is_given, new_object, malloc, calloc, is_heap_start}
 use Rattle.libc_spec.specs.Library.{start_object, free, moved, resized, realloc, memmove, memset, memcmp, strlen, strcpy, strcmp, place_of}
 use Rattle.libc_spec.specs.Library.{pointer_behind, strchr, getchar, putchar, puts, without_zero, byte_or_end}
