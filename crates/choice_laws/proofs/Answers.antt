@@ -1,25 +1,24 @@
 -- The first conflict of the pairs of which the calls tell is the same, whatever is chosen by nodes that aren't evaluated.
 use Rattle.std.proofs.lemmas.Option.{same_Some}
-use Rattle.std.proofs.Common.{◌≡◌, ◌≤◌, ◌<◌, ◌+◌, ℕ, suc, Bool, true, false, refl, sym, ap, ◌∙◌, subst, inl, inr, true≢false, arith, List, Option, Some, None}
+use Rattle.std.proofs.Common.{◌≡◌, ◌==◌, ◌≤◌, ◌<◌, ◌+◌, ℕ, suc, Bool, true, false, refl, sym, ap, ◌∙◌, inl, inr, arith, List, Option, Some, None}
 use Rattle.ub_base.specs.Frames.{Row as FrameRow}
 use Rattle.ub_base.specs.declared.clause.Kind.TheVariants.{Val}
 use Rattle.addr_map.specs.declared.map.Row.{Row}
 use Rattle.c_typed.specs.declared.class.Class.{Class}
-use Rattle.c_typed.specs.declared.class.Class.TheVariants.{Choice}
 use Rattle.c_typed.specs.declared.tree.Place.{Place}
-use Rattle.c_typed.specs.Decide.{due_in, has_kind, is_before}
-use Rattle.c_typed.specs.Order.{Taken, events, goes, has, is_choice, is_due, place}
-use Rattle.c_typed.specs.Tree.{Tree, Trees, kinds_of, node, size}
+use Rattle.c_typed.specs.Decide.{due_in}
+use Rattle.c_typed.specs.Order.{Taken, goes, has, is_choice, place}
+use Rattle.c_typed.specs.Tree.{Tree, Trees, node, size}
 use Rattle.c_model.specs.Completions.{Completed, Incomplete, Operands_of, Own_node}
 use Rattle.c_model.proofs.Decided.{has_due}
 use Rattle.c_model.proofs.Ranks.{eq_eq, if_true}
 use Rattle.evaluation_log.specs.declared.found.Found.{Found}
-use Rattle.evaluation_search.specs.First.{IsFirst, IsFirstOf}
+use Rattle.evaluation_search.specs.First.{IsFirstOf}
 use Rattle.listing_laws.specs.Due.{AgreeWhereDue, ListsAlike}
 use Rattle.run_evaluations.specs.First.{IsConflictIn}
-use Rattle.run_evaluations.specs.Scopes.{IsOperandOf, Scope, part_in, part_of}
-use Rattle.run_evaluations.specs.Shows.{AreApart, AreOfTwo, IsAmong, IsIn}
-use Rattle.run_evaluations.specs.Told.{Evaluation, IsOperandIn, IsUnder, Opened, chosen_by}
+use Rattle.run_evaluations.specs.Scopes.{Scope, part_of}
+use Rattle.run_evaluations.specs.Shows.{AreApart, AreOfTwo, IsIn}
+use Rattle.run_evaluations.specs.Told.{IsOperandIn, IsUnder, Opened, chosen_by}
 use Rattle.run_evaluations.proofs.PartLemmas.{side_at}
 use Rattle.run_evaluations.proofs.ToldLemmas.{operand_part}
 use Rattle.telling_laws.specs.FirstFound.{ByPlaces, ToldPairs}

@@ -1,5 +1,5 @@
 -- Where an event of a part of a tree is due, what is due in the part is due in the tree.
-use Rattle.std.proofs.Common.{◌≡◌, ◌≤◌, ◌<◌, ◌+◌, ◌==◌, nat_lt, ℕ, zero, suc, Bool, true, false, ◌&&◌, if◌then◌else◌, refl, sym, ap, ◌∙◌, arith, Option, Some}
+use Rattle.std.proofs.Common.{◌≡◌, ◌≤◌, ◌<◌, ◌+◌, ◌==◌, nat_lt, ℕ, suc, true, sym, ap, ◌∙◌, arith, Option, Some}
 use Rattle.std.proofs.lemmas.Option.{same_Some}
 use Rattle.ub_base.proofs.Tests.{and_both, and_left, and_right, if_false, if_true, less_test, not_less_test, number_other}
 use Rattle.c_typed.specs.declared.class.Class.{Class}

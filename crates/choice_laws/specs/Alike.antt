@@ -1,5 +1,7 @@
 -- Choices of nodes that aren't evaluated change nothing of what is told of an open full expression (own; 6.5.13p4, 6.5.14p4, 6.5.15p4).
-use Rattle.std.specs.Prelude.{◌≡◌, true}
+use Rattle.std.specs.Prelude.{◌≡◌, ℕ, true, List, Option}
+use Rattle.ub_base.specs.Frames.{Row as FrameRow}
+use Rattle.addr_map.specs.declared.map.Row.{Row}
 use Rattle.c_typed.specs.declared.tree.Place.{Place}
 use Rattle.c_typed.specs.Decide.{due_in, is_before}
 use Rattle.c_typed.specs.Order.{Taken}
