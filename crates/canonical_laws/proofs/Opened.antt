@@ -6,8 +6,8 @@ use Rattle.c_model.specs.Runs.{State}
 use Rattle.c_model.specs.Steps.{Begun}
 use Rattle.c_model.specs.Values.{Value}
 use Rattle.c_model.specs.World.{World}
-use Rattle.prov_memory.specs.declared.value.Value.{Value as Kept_value}
-use Rattle.prov_memory.specs.Memory.{Kept}
+use Rattle.mem_objects.specs.declared.value.Value.{Value as Kept_value}
+use Rattle.mem_objects.specs.Memory.{Kept}
 use Rattle.run_control.specs.View.{Meaning}
 use Rattle.run_layout.specs.declared.nodes.NodeInfo.{NodeInfo}
 use Rattle.run_layout.specs.declared.steps.Expression.{Expression as Laid}

@@ -30,10 +30,10 @@ use Rattle.c_typed.specs.Tree as order
 use Rattle.c_typed.specs.Tree.{is_quiet, is_quiet_class, member_class, class_of, size, sizes, trees_of}
 use Rattle.mem_spec.specs.Acts.{base_in}
 use Rattle.mem_spec.specs.Store.{Store}
-use Rattle.prov_memory.specs.Keeps.{RowsStay}
-use Rattle.prov_memory.specs.Made.{IsMade}
-use Rattle.prov_memory.specs.Memory.{Kept}
-use Rattle.prov_memory.specs.Sound.{IsSound}
+use Rattle.mem_objects.specs.Keeps.{RowsStay}
+use Rattle.mem_objects.specs.Made.{IsMade}
+use Rattle.mem_objects.specs.Memory.{Kept}
+use Rattle.mem_objects.specs.Sound.{IsSound}
 use Rattle.c_model.specs.Program as model
 use Rattle.c_model.specs.Program.{Expr, expr, Exprs, tree_of}
 use Rattle.c_model.specs.Steps.{Scene, auto_name, name_of, turn_of}

@@ -4,7 +4,7 @@ use Rattle.addr_map.specs.declared.map.Row.{Row}
 use Rattle.ub_base.specs.Frames.{Path}
 use Rattle.c_typed.specs.declared.program.Program.{Program}
 use Rattle.c_typed.specs.Lawful.{IsLawful}
-use Rattle.prov_memory.specs.Keeps.{RowsStay}
+use Rattle.mem_objects.specs.Keeps.{RowsStay}
 use Rattle.c_model.specs.Program.{Standing}
 use Rattle.c_model.specs.World.{Limits}
 use Rattle.program_view.specs.View.{main_values, standing_of}

@@ -7,7 +7,7 @@ use Rattle.c_typed.specs.Lawful.{IsLawful}
 use Rattle.core_ir.specs.declared.term.Core.{Core}
 use Rattle.elaborate.specs.Expressions.{program_trees}
 use Rattle.elaborate.specs.Formed.{EachFormed}
-use Rattle.prov_memory.specs.Keeps.{RowsStay}
+use Rattle.mem_objects.specs.Keeps.{RowsStay}
 use Rattle.c_model.specs.Program.{Standing}
 use Rattle.c_model.specs.World.{Limits}
 use Rattle.program_view.specs.View.{main_values, standing_of, world_of}

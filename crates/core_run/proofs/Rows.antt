@@ -10,7 +10,7 @@ use Rattle.c_typed.specs.declared.program.Program.{Program}
 use Rattle.c_typed.specs.declared.tree.Place.{Place}
 use Rattle.mem_laws.specs.MoreRows.{ApartExtend, Extends}
 use Rattle.mem_spec.specs.Streams.{Outputs}
-use Rattle.prov_memory.specs.Keeps.{RowsStay}
+use Rattle.mem_objects.specs.Keeps.{RowsStay}
 use Rattle.c_model.specs.Runs.{State, canonical_pick}
 use Rattle.c_model.specs.Steps.{Control, Ev, Pick as Model_pick}
 use Rattle.c_model.specs.World.{World}

@@ -15,7 +15,7 @@ use Rattle.core_ir.specs.declared.term.Cores.{Cores, fold_out-Cores, out-Cores}
 use Rattle.core_ir.specs.Term.{Term, Terms, core_step, cores_step, terms_of, term_of, terms_from}
 use Rattle.elaborate.specs.Expressions.{program_trees}
 use Rattle.elaborate.specs.Formed.{EachFormed}
-use Rattle.prov_memory.specs.Memory.{Kept, empty}
+use Rattle.mem_objects.specs.Memory.{Kept, empty}
 use Rattle.run_layout.specs.declared.whole.Code.{Code}
 use Rattle.run_layout.specs.Fitting.{AreFit, TreeFits}
 use Rattle.run_layout.specs.Functions.{HaveBlocks, HaveExpressions, laid_in}

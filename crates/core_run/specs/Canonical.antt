@@ -10,7 +10,7 @@ use Rattle.addr_map.specs.declared.map.Row.{Row}
 use Rattle.c_typed.specs.declared.program.Program.{Program}
 use Rattle.mem_laws.specs.MoreRows.{Extends}
 use Rattle.mem_spec.specs.Streams.{Outputs}
-use Rattle.prov_memory.specs.Keeps.{RowsStay}
+use Rattle.mem_objects.specs.Keeps.{RowsStay}
 use Rattle.c_model.specs.Runs.{Ends, Entry, Over, Raises, Running, State, canonical_after, start}
 use Rattle.c_model.specs.World.{World, profile_limits}
 use Rattle.program_view.specs.View.{main_values, world_of}

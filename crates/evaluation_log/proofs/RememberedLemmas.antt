@@ -5,7 +5,7 @@ use Rattle.std.specs.Prelude.{slice_get, slice_index_or, length, ◌==◌}
 use Rattle.std.proofs.lemmas.Option.{same_Some, slice_get-get_or}
 use Rattle.ub_base.specs.declared.names.Frame.{Frame}
 use Rattle.ub_base.specs.declared.names.Item.{Item}
-use Rattle.ub_base.specs.declared.names.Item.TheVariants.{Read, Write, Alive, Dies}
+use Rattle.ub_base.specs.declared.names.Item.TheVariants.{Read, Write, Alive}
 use Rattle.ub_base.specs.Names.{same_object}
 use Rattle.ub_base.proofs.NameLemmas.{same_object_is}
 use Rattle.ub_base.proofs.Tests.{and_parts, number_is}
@@ -13,6 +13,7 @@ use Rattle.footprint.specs.declared.foot.Foot.{Foot}
 use Rattle.footprint.specs.Holds.{holds, stands_for}
 use Rattle.evaluation_log.specs.declared.known.Known.{Known}
 use Rattle.evaluation_log.specs.Bodies.{Keeps}
+use Rattle.evaluation_log.proofs.KeepLemmas.{lost_after}
 use Rattle.evaluation_log.specs.Remembered.{is_remembered, same_access, has_entry, Knows, HasHad, HasHadAll, AreKnown, IsOfOne}
 
 -- a note adds one item of one frame
@@ -20,9 +21,7 @@ abbrev pub IsNoted : Known → Known → Frame → Item → Type 0
 IsNoted old new frame item = (other : Frame) (one : Item) → Knows new other one → Knows old other one ⊎ ((other ≡ frame) × (one ≡ item))
 
 pub had_after : (f g : Foot) → Keeps f g → (i : Item) → HasHad f i → HasHad g i
-had_after f g k i h =
-    ⊎_elim (λ held. k i held)
-    (λ lost. ⊎_elim (λ dead. inr (lost.0, lost.1, dead)) (λ buried. absurd (let e : false ≡ true = buried.1 in cc)) (k (Dies lost.0) lost.2)) h
+had_after f g k i h = ⊎_elim (λ held. k i held) (λ lost. inr (lost_after f g k i lost)) h
 
 pub all_after : (f g : Foot) (item : Item) → Keeps f g → HasHadAll f item → HasHadAll g item
 all_after f g item k h j s = had_after f g k j (h j s)

@@ -1,13 +1,13 @@
 -- The accesses of which it is remembered that sets of open frames have them (own).
 use Rattle.std.specs.Prelude.{◌≡◌, ◌⊎◌, ℕ, Bool, true, false, ◌&&◌, ◌==◌, List, Option, Some, None, slice_get}
 use Rattle.ub_base.specs.declared.names.Frame.{Frame}
-use Rattle.ub_base.specs.declared.names.ObjName.{ObjName}
 use Rattle.ub_base.specs.declared.names.Item.{Item}
-use Rattle.ub_base.specs.declared.names.Item.TheVariants.{Read, Write, Alive, Dies}
+use Rattle.ub_base.specs.declared.names.Item.TheVariants.{Read, Write, Alive}
 use Rattle.ub_base.specs.Names.{same_object}
 use Rattle.footprint.specs.declared.foot.Foot.{Foot}
-use Rattle.footprint.specs.Holds.{holds, stands_for, is_forgotten}
+use Rattle.footprint.specs.Holds.{holds, stands_for}
 use Rattle.evaluation_log.specs.declared.known.Known.{Known}
+use Rattle.evaluation_log.specs.Bodies.{IsLost}
 
 -- the kinds of items that are remembered
 abbrev pub is_remembered : Item → Bool
@@ -32,9 +32,9 @@ has_entry (Some e) frame item = same_access e.1 item && (e.0.0 == frame.0)
 abbrev pub Knows : Known → Frame → Item → Type 0
 Knows known frame item = (is_remembered item ≡ true) × ((p : ℕ) × (slice_get known.entries.items p ≡ Some (frame, item)))
 
--- the set has the item, or had it until the object died that it is of
+-- the set has the item, or had it until the object died that it is of, and that was born with what the set has
 abbrev pub HasHad : Foot → Item → Type 0
-HasHad f i = (holds f i ≡ true) ⊎ ((x : ObjName) × (is_forgotten x i ≡ true) × (holds f (Dies x) ≡ true))
+HasHad f i = (holds f i ≡ true) ⊎ IsLost f i
 
 -- the set has or had all that the item stands for
 abbrev pub HasHadAll : Foot → Item → Type 0

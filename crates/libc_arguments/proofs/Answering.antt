@@ -12,14 +12,14 @@ use Rattle.exposure.specs.declared.prov.Prov.{Prov}
 use Rattle.exposure.specs.declared.prov.Prov.TheVariants.{Empty}
 use Rattle.c_types.specs.declared.library.LibFunc.{LibFunc}
 use Rattle.c_types.specs.declared.library.LibFunc.TheVariants.{Malloc, Calloc, Realloc, Free}
-use Rattle.prov_memory.specs.declared.value.Value.{Value}
-use Rattle.prov_memory.specs.declared.value.Value.TheVariants.{Nothing}
-use Rattle.prov_memory.specs.declared.answer.LibAnswer.{LibAnswer}
-use Rattle.prov_memory.specs.declared.answer.LibAnswer.TheVariants as answers
+use Rattle.mem_objects.specs.declared.value.Value.{Value}
+use Rattle.mem_objects.specs.declared.value.Value.TheVariants.{Nothing}
+use Rattle.mem_objects.specs.declared.answer.LibAnswer.{LibAnswer}
+use Rattle.mem_objects.specs.declared.answer.LibAnswer.TheVariants as answers
 use Rattle.mem_spec.specs.Store.{Store}
 use Rattle.mem_spec.specs.Script.{Act, Done, Raised, Outside, Unplaced, Give, ◌>>◌, run}
 use Rattle.mem_spec.specs.Streams.{Io, total}
-use Rattle.prov_memory.specs.Memory.{Kept, HasCell}
+use Rattle.mem_objects.specs.Memory.{Kept, HasCell}
 use Rattle.libc_spec.specs.Library.{
   LibValue,
   pointer,

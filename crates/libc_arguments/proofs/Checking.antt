@@ -43,13 +43,13 @@ use Rattle.addr_map.specs.Rows.{row_of, free_of}
 use Rattle.ub_base.specs.Names.{same_object}
 use Rattle.exposure.specs.declared.prov.Prov.{Prov}
 use Rattle.exposure.specs.Cells.{has_cell, is_other}
-use Rattle.prov_memory.specs.declared.answer.LibAnswer.{LibAnswer}
+use Rattle.mem_objects.specs.declared.answer.LibAnswer.{LibAnswer}
 use Rattle.mem_spec.specs.Store.{Store, Life, TaggedByte, is_live, range_from}
 use Rattle.mem_spec.specs.Script.{Script, require, ◌>>=◌, ◌>>◌, Act, Done, Raised, touched, run}
 use Rattle.mem_spec.specs.Acts.{Accessed, in_row, offset_in, size_in, argument_object, argument_in, argument}
 use Rattle.mem_spec.specs.Streams.{Io}
-use Rattle.prov_memory.specs.Held.{held_of}
-use Rattle.prov_memory.specs.Memory.{Kept, life_in, store_of}
+use Rattle.mem_objects.specs.Held.{held_of}
+use Rattle.mem_objects.specs.Memory.{Kept, life_in, store_of}
 use Rattle.libc_spec.specs.Library.{Text, text_at, text_from, text, until_zero, joined, is_zero}
 use Rattle.libc_arguments.specs.declared.arguments.Range.{Range}
 use Rattle.libc_arguments.specs.Parts.{

@@ -36,15 +36,15 @@ use Rattle.addr_map.specs.declared.map.Row.{Row}
 use Rattle.exposure.specs.declared.prov.Prov.{Prov}
 use Rattle.c_types.specs.Shapes.{Form}
 use Rattle.c_types.specs.declared.library.LibFunc.TheVariants.{Strcpy}
-use Rattle.prov_memory.specs.declared.value.Value.TheVariants.{Ptr}
-use Rattle.prov_memory.specs.declared.answer.LibAnswer.{LibAnswer}
-use Rattle.prov_memory.specs.declared.answer.LibAnswer.TheVariants as answers
+use Rattle.mem_objects.specs.declared.value.Value.TheVariants.{Ptr}
+use Rattle.mem_objects.specs.declared.answer.LibAnswer.{LibAnswer}
+use Rattle.mem_objects.specs.declared.answer.LibAnswer.TheVariants as answers
 use Rattle.mem_spec.specs.Store.{Store, TaggedByte, range_from, with_bytes}
 use Rattle.mem_spec.specs.Script.{Get, Put, Script, Give, touch, require, ◌>>=◌, ◌>>◌, Act, Done, Raised, run}
 use Rattle.mem_spec.specs.Acts.{Accessed, whole, declared_of, stored_from, retagged, argument, check_writable, copy_between}
 use Rattle.mem_spec.specs.Streams.{Io}
-use Rattle.prov_memory.specs.Held.{held_of}
-use Rattle.prov_memory.specs.Memory.{Kept, act_of, life_in, store_of}
+use Rattle.mem_objects.specs.Held.{held_of}
+use Rattle.mem_objects.specs.Memory.{Kept, act_of, life_in, store_of}
 use Rattle.libc_spec.specs.Library.{
   LibValue,
   pointer,

@@ -35,17 +35,17 @@ use Rattle.mem_spec.specs.Store.{Store}
 use Rattle.mem_spec.specs.Script.{Touch, Ask, Get, Put, Bear, Bury, Show, Find, Settle, Take, Print, item_of, refuses, refused, Answer, answer, left, Script}
 use Rattle.mem_spec.specs.Script.{Give, Raise, Finish, Exceed, Misplace, Do, require, ◌>>=◌, Act, Done, Raised, Ended, Outside, Unplaced, touched, run}
 use Rattle.mem_spec.specs.Acts.{argument, copy_between}
-use Rattle.prov_memory.specs.declared.cell.Cell.{Cell}
-use Rattle.prov_memory.specs.declared.value.Value.{Value}
-use Rattle.prov_memory.specs.declared.value.Value.TheVariants.{Ptr}
-use Rattle.prov_memory.specs.declared.answer.LibAnswer.{LibAnswer}
-use Rattle.prov_memory.specs.declared.answer.LibAnswer.TheVariants as answers
-use Rattle.prov_memory.specs.Cells.{plain_cell}
-use Rattle.prov_memory.specs.Keeps.{Keeps}
-use Rattle.prov_memory.specs.Made.{IsMade}
-use Rattle.prov_memory.specs.Memory.{Kept, CellsKnown}
-use Rattle.prov_memory.specs.Pieces.{IsMadeValue}
-use Rattle.prov_memory.specs.Tags.{CellsTagged}
+use Rattle.mem_objects.specs.declared.cell.Cell.{Cell}
+use Rattle.mem_objects.specs.declared.value.Value.{Value}
+use Rattle.mem_objects.specs.declared.value.Value.TheVariants.{Ptr}
+use Rattle.mem_objects.specs.declared.answer.LibAnswer.{LibAnswer}
+use Rattle.mem_objects.specs.declared.answer.LibAnswer.TheVariants as answers
+use Rattle.mem_objects.specs.Cells.{plain_cell}
+use Rattle.mem_objects.specs.Keeps.{Keeps}
+use Rattle.mem_objects.specs.Made.{IsMade}
+use Rattle.mem_objects.specs.Memory.{Kept, CellsKnown}
+use Rattle.mem_objects.specs.Pieces.{IsMadeValue}
+use Rattle.mem_objects.specs.Tags.{CellsTagged}
 use Rattle.libc_spec.specs.Library as lib
 use Rattle.libc_spec.specs.Library.{
   LibValue,

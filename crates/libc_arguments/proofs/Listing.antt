@@ -35,14 +35,14 @@ use Rattle.ub_base.specs.declared.names.ObjName.{ObjName}
 use Rattle.addr_map.specs.declared.map.Row.{Row}
 use Rattle.exposure.specs.declared.prov.Prov.{Prov}
 use Rattle.c_types.specs.declared.library.LibFunc.TheVariants.{Memcmp}
-use Rattle.prov_memory.specs.declared.value.Value.{Value}
-use Rattle.prov_memory.specs.declared.answer.LibAnswer.{LibAnswer}
-use Rattle.prov_memory.specs.declared.answer.LibAnswer.TheVariants as answers
+use Rattle.mem_objects.specs.declared.value.Value.{Value}
+use Rattle.mem_objects.specs.declared.answer.LibAnswer.{LibAnswer}
+use Rattle.mem_objects.specs.declared.answer.LibAnswer.TheVariants as answers
 use Rattle.mem_spec.specs.Store.{Store, TaggedByte, range_from}
 use Rattle.mem_spec.specs.Script.{Get, Script, Give, touch, ◌>>=◌, Act, Done, Raised, run}
 use Rattle.mem_spec.specs.Acts.{Accessed, argument}
 use Rattle.mem_spec.specs.Streams.{Io}
-use Rattle.prov_memory.specs.Memory.{Kept, store_of}
+use Rattle.mem_objects.specs.Memory.{Kept, store_of}
 use Rattle.libc_spec.specs.Library.{
   LibValue,
   number,

@@ -8,11 +8,11 @@ use Rattle.exposure.specs.declared.prov.Prov.TheVariants.{Whole}
 use Rattle.mem_spec.specs.Store.{Store, shown}
 use Rattle.mem_spec.specs.Script.{Done, run}
 use Rattle.mem_spec.specs.Acts.{expose}
-use Rattle.prov_memory.specs.Keeps.{Keeps}
+use Rattle.mem_objects.specs.Keeps.{Keeps}
 use Rattle.prov_memory.proofs.KeepLemmas.{keeps_then}
 use Rattle.mem_spec.specs.Streams.{Io, silent}
-use Rattle.prov_memory.specs.Memory.{Kept, store_of}
-use Rattle.prov_memory.specs.Tags.{AreTagged}
+use Rattle.mem_objects.specs.Memory.{Kept, store_of}
+use Rattle.mem_objects.specs.Tags.{AreTagged}
 use Rattle.libc_arguments.specs.Parts.{IsSettled}
 use Rattle.libc_arguments.specs.Writes.{LiveOn, has_expose, is_expose}
 use Rattle.libc_arguments.proofs.Settling.{SettlesRest, settles_on}

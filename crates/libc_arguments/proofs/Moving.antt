@@ -13,12 +13,12 @@ use Rattle.addr_map.specs.declared.map.Row.{Row}
 use Rattle.addr_map.specs.Rows.{row_of}
 use Rattle.exposure.specs.declared.prov.Prov.{Prov}
 use Rattle.exposure.specs.declared.prov.Prov.TheVariants.{Empty, Whole, Either}
-use Rattle.prov_memory.specs.declared.value.Value.TheVariants.{Ptr}
-use Rattle.prov_memory.specs.declared.answer.LibAnswer.{LibAnswer}
-use Rattle.prov_memory.specs.declared.answer.LibAnswer.TheVariants as answers
-use Rattle.prov_memory.specs.declared.answer.MemFault.{MemFault}
-use Rattle.prov_memory.specs.declared.answer.MemFault.TheVariants as faults
-use Rattle.prov_memory.specs.declared.cell.Cell.{Cell}
+use Rattle.mem_objects.specs.declared.value.Value.TheVariants.{Ptr}
+use Rattle.mem_objects.specs.declared.answer.LibAnswer.{LibAnswer}
+use Rattle.mem_objects.specs.declared.answer.LibAnswer.TheVariants as answers
+use Rattle.mem_objects.specs.declared.answer.MemFault.{MemFault}
+use Rattle.mem_objects.specs.declared.answer.MemFault.TheVariants as faults
+use Rattle.mem_objects.specs.declared.cell.Cell.{Cell}
 use Rattle.mem_spec.specs.Store.{Store, Life, TaggedByte, is_live, range_from, with_bytes}
 use Rattle.mem_spec.specs.Script.{Answer, Touch, Ask, Get, Put, Bear, Bury, Show, Find, Settle, Take, Print, item_of, refuses, refused, answer, left, Script}
 use Rattle.mem_spec.specs.Script.{Give, Raise, Finish, Exceed, Misplace, Do, require, ◌>>=◌, ◌>>◌, Act, Done, Raised, Ended, Outside, Unplaced, touched, run}
@@ -41,11 +41,11 @@ use Rattle.mem_spec.specs.Acts.{
   check_writable,
 }
 use Rattle.mem_spec.specs.Streams.{Io}
-use Rattle.prov_memory.specs.Held.{held_of}
-use Rattle.prov_memory.specs.Memory.{Kept, AreKnown, ObjectsKnown, life_in, store_of}
-use Rattle.prov_memory.specs.Stores.{tagged_all}
-use Rattle.prov_memory.specs.Tags.{AreTagged}
-use Rattle.prov_memory.specs.Loads.{IfRaise}
+use Rattle.mem_objects.specs.Held.{held_of}
+use Rattle.mem_objects.specs.Memory.{Kept, AreKnown, ObjectsKnown, life_in, store_of}
+use Rattle.mem_objects.specs.Stores.{tagged_all}
+use Rattle.mem_objects.specs.Tags.{AreTagged}
+use Rattle.mem_objects.specs.Loads.{IfRaise}
 use Rattle.libc_spec.specs.Library.{LibValue, pointer, pointer_in, argument_at, size_of_value, overlap, check_target, memmove, called}
 use Rattle.libc_arguments.specs.declared.arguments.Range.{Range}
 use Rattle.libc_arguments.specs.Answers.{Answers, AreWithin, AreTyped, copy_function}

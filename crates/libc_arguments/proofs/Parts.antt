@@ -41,14 +41,14 @@ use Rattle.ub_base.specs.Names.{same_object}
 use Rattle.ub_base.proofs.NameLemmas.{same_object_refl}
 use Rattle.addr_map.specs.declared.map.Row.{Row}
 use Rattle.exposure.specs.Cells.{Cells}
-use Rattle.prov_memory.specs.declared.answer.LibAnswer.{LibAnswer}
-use Rattle.prov_memory.specs.declared.answer.LibAnswer.TheVariants as answers
+use Rattle.mem_objects.specs.declared.answer.LibAnswer.{LibAnswer}
+use Rattle.mem_objects.specs.declared.answer.LibAnswer.TheVariants as answers
 use Rattle.mem_spec.specs.Store.{Store, TaggedByte, range_from}
 use Rattle.mem_spec.specs.Script.{Script, Give, require, ◌>>=◌, ◌>>◌, Act, Done, Raised, touched, run}
 use Rattle.mem_spec.specs.Acts.{all_written, show_each, show_pieces, origins_in}
-use Rattle.prov_memory.specs.Loads.{origins_of}
+use Rattle.mem_objects.specs.Loads.{origins_of}
 use Rattle.mem_spec.specs.Streams.{Io}
-use Rattle.prov_memory.specs.Memory.{Kept, store_of}
+use Rattle.mem_objects.specs.Memory.{Kept, store_of}
 use Rattle.libc_spec.specs.Library.{until_zero, is_zero, behind as more_bytes, joins, joined, numbers, read_numbers}
 use Rattle.libc_arguments.specs.Parts.{effect, after, CanFollow, is_read, starts_in_read, has_read, is_joined, Gives, Follows, one_more, string_size}
 use Rattle.libc_arguments.proofs.Scripts.{then, behind, run_then, behind_done}

@@ -4,14 +4,14 @@ use Rattle.std.specs.Prelude.{Result, Ok, Err}
 use Rattle.std.proofs.lemmas.List.{append-nil, map-append}
 use Rattle.ub_base.specs.declared.names.Item.{Item}
 use Rattle.ub_base.specs.declared.names.Item.TheVariants.{Expose}
-use Rattle.prov_memory.specs.declared.answer.LibAnswer.{LibAnswer}
-use Rattle.prov_memory.specs.declared.answer.LibAnswer.TheVariants as answers
+use Rattle.mem_objects.specs.declared.answer.LibAnswer.{LibAnswer}
+use Rattle.mem_objects.specs.declared.answer.LibAnswer.TheVariants as answers
 use Rattle.mem_spec.specs.Store.{TaggedByte, range_from}
 use Rattle.mem_spec.specs.Acts.{is_written, all_written, origins_in}
-use Rattle.prov_memory.specs.Loads.{origins_of}
+use Rattle.mem_objects.specs.Loads.{origins_of}
 use Rattle.mem_spec.specs.Script.{Raised}
 use Rattle.mem_spec.specs.Streams.{Io}
-use Rattle.prov_memory.specs.Memory.{Kept, store_of}
+use Rattle.mem_objects.specs.Memory.{Kept, store_of}
 use Rattle.libc_spec.specs.Library.{numbers, number_of_byte, read_numbers}
 use Rattle.libc_arguments.specs.Parts.{after, Gives, Follows, ReadsByte, ReadsAll}
 use Rattle.libc_arguments.proofs.Parts.{numbers_given, numbers_raised}

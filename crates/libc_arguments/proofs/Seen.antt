@@ -35,7 +35,7 @@ use Rattle.std.specs.Ordering.{ordering_then, nat_cmp}
 use Rattle.std.specs.List.{position_from}
 use Rattle.std.specs.declared.cmp.Ordering.{Ordering}
 use Rattle.std.specs.declared.cmp.Ordering.TheVariants.{Less, Equal, Greater}
-use Rattle.prov_memory.specs.declared.value.Value.{Value}
+use Rattle.mem_objects.specs.declared.value.Value.{Value}
 use Rattle.libc_spec.specs.Library.{nothing, argument_at, order_of, place_of}
 use Rattle.libc_arguments.specs.Seen.{value_seen, values_seen}
 

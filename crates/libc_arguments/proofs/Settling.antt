@@ -12,7 +12,7 @@ use Rattle.mem_spec.specs.Store.{Store, settled, shown}
 use Rattle.mem_spec.specs.Script.{Done, run}
 use Rattle.mem_spec.specs.Acts.{expose}
 use Rattle.mem_spec.specs.Streams.{Io}
-use Rattle.prov_memory.specs.Memory.{Kept, AreKnown, ObjectsKnown, store_of}
+use Rattle.mem_objects.specs.Memory.{Kept, AreKnown, ObjectsKnown, store_of}
 use Rattle.libc_arguments.specs.Parts.{effect, after, CanDo, CanFollow, IsSettled, AreSettled}
 
 can_do : (cs ds : Cells) (i : Item) (s : Store) → ((e : Event) → has_cell ds e ≡ has_cell cs e) → CanDo cs i s → CanDo ds i s

@@ -45,22 +45,22 @@ use Rattle.exposure.specs.declared.prov.Prov.{Prov}
 use Rattle.exposure.specs.declared.prov.Prov.TheVariants.{Whole}
 use Rattle.c_types.specs.Shapes.{Form}
 use Rattle.c_types.specs.declared.library.LibFunc.TheVariants.{Memset}
-use Rattle.prov_memory.specs.declared.value.Value.TheVariants.{Ptr}
-use Rattle.prov_memory.specs.declared.answer.LibAnswer.{LibAnswer}
-use Rattle.prov_memory.specs.declared.answer.LibAnswer.TheVariants as answers
-use Rattle.prov_memory.specs.declared.cell.Cell.{Cell}
-use Rattle.prov_memory.specs.declared.cell.Via.{Via}
-use Rattle.prov_memory.specs.declared.cell.Via.TheVariants as vias
+use Rattle.mem_objects.specs.declared.value.Value.TheVariants.{Ptr}
+use Rattle.mem_objects.specs.declared.answer.LibAnswer.{LibAnswer}
+use Rattle.mem_objects.specs.declared.answer.LibAnswer.TheVariants as answers
+use Rattle.mem_objects.specs.declared.cell.Cell.{Cell}
+use Rattle.mem_objects.specs.declared.cell.Via.{Via}
+use Rattle.mem_objects.specs.declared.cell.Via.TheVariants as vias
 use Rattle.mem_spec.specs.Store.{Store, Life, TaggedByte, is_live, with_bytes}
 use Rattle.mem_spec.specs.Script.{Script, Give, require, ◌>>=◌, ◌>>◌, Act, Done, Raised, run}
 use Rattle.mem_spec.specs.Acts as acts
 use Rattle.mem_spec.specs.Acts.{Accessed, Seen, whole, bytes, in_row, offset_in, is_literal, is_constant, declared_of, stored_from, argument, check_writable}
-use Rattle.prov_memory.specs.Cells.{plain_cell}
+use Rattle.mem_objects.specs.Cells.{plain_cell}
 use Rattle.mem_spec.specs.Streams.{Io}
-use Rattle.prov_memory.specs.Held.{held_of}
-use Rattle.prov_memory.specs.Memory.{Kept, CellsKnown, HasCell, act_of, life_in, store_of}
-use Rattle.prov_memory.specs.Stores.{Sees, tagged_all}
-use Rattle.prov_memory.specs.Stores as stores
+use Rattle.mem_objects.specs.Held.{held_of}
+use Rattle.mem_objects.specs.Memory.{Kept, CellsKnown, HasCell, act_of, life_in, store_of}
+use Rattle.mem_objects.specs.Stores.{Sees, tagged_all}
+use Rattle.mem_objects.specs.Stores as stores
 use Rattle.libc_spec.specs.Library.{
   LibValue,
   pointer,

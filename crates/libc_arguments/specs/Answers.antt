@@ -6,18 +6,18 @@ use Rattle.addr_map.specs.declared.map.Row.{Row}
 use Rattle.addr_map.specs.Sound.{Above}
 use Rattle.c_types.specs.declared.library.LibFunc.{LibFunc}
 use Rattle.c_types.specs.declared.library.LibFunc.TheVariants.{Malloc, Calloc, Realloc, Memcpy, Memmove, Memset, Memcmp}
-use Rattle.prov_memory.specs.declared.value.Value.{Value}
-use Rattle.prov_memory.specs.declared.value.Value.TheVariants.{Int, Ptr, Nothing}
-use Rattle.prov_memory.specs.declared.answer.LibAnswer.{LibAnswer}
-use Rattle.prov_memory.specs.declared.answer.LibAnswer.TheVariants as answers
+use Rattle.mem_objects.specs.declared.value.Value.{Value}
+use Rattle.mem_objects.specs.declared.value.Value.TheVariants.{Int, Ptr, Nothing}
+use Rattle.mem_objects.specs.declared.answer.LibAnswer.{LibAnswer}
+use Rattle.mem_objects.specs.declared.answer.LibAnswer.TheVariants as answers
 use Rattle.mem_spec.specs.Store.{Store}
 use Rattle.mem_spec.specs.Script.{Act, Done, Raised, Ended, Outside, Unplaced}
 use Rattle.mem_spec.specs.Streams.{Io, total}
-use Rattle.prov_memory.specs.Held.{held_of}
-use Rattle.prov_memory.specs.Memory.{Kept, AreKnown, HasCell, life_in}
-use Rattle.prov_memory.specs.Tags.{AreTagged}
-use Rattle.prov_memory.specs.Made.{IsMade}
-use Rattle.prov_memory.specs.Pieces.{IsMadeValue}
+use Rattle.mem_objects.specs.Held.{held_of}
+use Rattle.mem_objects.specs.Memory.{Kept, AreKnown, HasCell, life_in}
+use Rattle.mem_objects.specs.Tags.{AreTagged}
+use Rattle.mem_objects.specs.Made.{IsMade}
+use Rattle.mem_objects.specs.Pieces.{IsMadeValue}
 use Rattle.libc_spec.specs.Library.{LibValue, number, pointer, nothing, argument_at, integer_in, prov_in}
 
 -- a value of the definitions as one of a run

@@ -36,17 +36,17 @@ use Rattle.ub_base.specs.Names.{same_event}
 use Rattle.addr_map.specs.declared.map.Row.{Row}
 use Rattle.exposure.specs.declared.prov.Prov.{Prov}
 use Rattle.exposure.specs.Cells.{Cells, has_cell, is_other}
-use Rattle.prov_memory.specs.declared.value.Value.{Value}
-use Rattle.prov_memory.specs.declared.answer.LibAnswer.{LibAnswer}
-use Rattle.prov_memory.specs.declared.answer.LibAnswer.TheVariants as answers
+use Rattle.mem_objects.specs.declared.value.Value.{Value}
+use Rattle.mem_objects.specs.declared.answer.LibAnswer.{LibAnswer}
+use Rattle.mem_objects.specs.declared.answer.LibAnswer.TheVariants as answers
 use Rattle.mem_spec.specs.Store.{Store, TaggedByte, range_from, settled, shown}
 use Rattle.mem_spec.specs.declared.stream.Stream.TheVariants as streams
 use Rattle.mem_spec.specs.Script.{Settle, Print, Script, Give, touch, ◌>>=◌, ◌>>◌, Act, Done, Raised, run}
 use Rattle.mem_spec.specs.Acts.{Accessed, settle_by, the_one_in, in_row, offset_in, is_written, all_written, origins_in}
-use Rattle.prov_memory.specs.Loads.{origins_of}
+use Rattle.mem_objects.specs.Loads.{origins_of}
 use Rattle.mem_spec.specs.Streams.{Io}
-use Rattle.prov_memory.specs.Held.{held_of}
-use Rattle.prov_memory.specs.Memory.{Kept, AreKnown, store_of, life_in, tagged_in_object}
+use Rattle.mem_objects.specs.Held.{held_of}
+use Rattle.mem_objects.specs.Memory.{Kept, AreKnown, store_of, life_in, tagged_in_object}
 use Rattle.libc_spec.specs.Library.{
   LibValue,
   number,

@@ -1,7 +1,7 @@
 -- The values of a run as those of the library's definitions.
 use Rattle.std.specs.Prelude.{List, map}
-use Rattle.prov_memory.specs.declared.value.Value.{Value}
-use Rattle.prov_memory.specs.declared.value.Value.TheVariants.{Int, Ptr}
+use Rattle.mem_objects.specs.declared.value.Value.{Value}
+use Rattle.mem_objects.specs.declared.value.Value.TheVariants.{Int, Ptr}
 use Rattle.libc_spec.specs.Library.{LibValue, number, pointer, nothing}
 use Rattle.libc_arguments.specs.declared.arguments.Pointer.{Pointer}
 

@@ -31,16 +31,16 @@ use Rattle.ub_base.specs.declared.names.ObjName.{ObjName}
 use Rattle.addr_map.specs.declared.map.Row.{Row}
 use Rattle.addr_map.specs.Rows.{row_of}
 use Rattle.exposure.specs.declared.prov.Prov.{Prov}
-use Rattle.prov_memory.specs.declared.answer.LibAnswer.{LibAnswer}
-use Rattle.prov_memory.specs.declared.answer.LibAnswer.TheVariants as answers
-use Rattle.prov_memory.specs.declared.cell.Via.{Via}
-use Rattle.prov_memory.specs.declared.cell.Via.TheVariants as vias
+use Rattle.mem_objects.specs.declared.answer.LibAnswer.{LibAnswer}
+use Rattle.mem_objects.specs.declared.answer.LibAnswer.TheVariants as answers
+use Rattle.mem_objects.specs.declared.cell.Via.{Via}
+use Rattle.mem_objects.specs.declared.cell.Via.TheVariants as vias
 use Rattle.mem_spec.specs.Store.{Life, Store, is_live, with_bytes}
 use Rattle.mem_spec.specs.Script.{Script, Give, require, ◌>>=◌, ◌>>◌, Act, Done, Raised, run}
 use Rattle.mem_spec.specs.Acts.{Accessed, Seen, whole, bytes, in_row, offset_in, is_literal, is_constant, declared_of, stored_from, retagged, argument}
 use Rattle.mem_spec.specs.Streams.{Io}
-use Rattle.prov_memory.specs.Held.{held_of}
-use Rattle.prov_memory.specs.Memory.{Kept, store_of, life_in}
+use Rattle.mem_objects.specs.Held.{held_of}
+use Rattle.mem_objects.specs.Memory.{Kept, store_of, life_in}
 use Rattle.libc_spec.specs.Library.{LibValue, text, plain, overlap, read_numbers, check_target, output_within, created_within}
 use Rattle.libc_arguments.specs.declared.arguments.Range.{Range}
 use Rattle.libc_arguments.specs.Parts.{after, CanFollow, bytes_of, read_items}

@@ -2,7 +2,7 @@
 ghost use Rattle.std.specs.Prelude.{◌≡◌, ◌<◌, ◌≤◌, ◌+◌, ◌^◌, nat_lt, Some, None, Ok, Err, OnOk, IfNone, if◌then◌else◌};
 ghost use Rattle.ub_base.specs.declared.clause.Cause.TheVariants.{Output};
 ghost use Rattle.mem_spec.specs.Streams.{total};
-ghost use Rattle.prov_memory.specs.declared.answer.LibAnswer.TheVariants as answers;
+ghost use Rattle.mem_objects.specs.declared.answer.LibAnswer.TheVariants as answers;
 
 use prov_memory::{LibAnswer, Streams};
 use ub_base::Cause;

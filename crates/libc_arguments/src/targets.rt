@@ -1,12 +1,12 @@
 // Ranges that are written to, and the bytes that are copied (7.24).
 ghost use Rattle.std.specs.Prelude.{◌≡◌, length, true, Ok, Err, IfOk, IfSome, OnOk, if◌then◌else◌};
 ghost use Rattle.mem_spec.specs.Acts.{declared_of, retagged};
-ghost use Rattle.prov_memory.specs.Keeps.{Keeps};
-ghost use Rattle.prov_memory.specs.Held.{held_of};
+ghost use Rattle.mem_objects.specs.Keeps.{Keeps};
+ghost use Rattle.mem_objects.specs.Held.{held_of};
 ghost use Rattle.mem_spec.specs.Streams.{Io};
-ghost use Rattle.prov_memory.specs.Memory.{AreKnown, CellsKnown, HasCell, life_in, store_of};
-ghost use Rattle.prov_memory.specs.Stores.{tagged_all};
-ghost use Rattle.prov_memory.specs.Tags.{AreTagged, CellsTagged};
+ghost use Rattle.mem_objects.specs.Memory.{AreKnown, CellsKnown, HasCell, life_in, store_of};
+ghost use Rattle.mem_objects.specs.Stores.{tagged_all};
+ghost use Rattle.mem_objects.specs.Tags.{AreTagged, CellsTagged};
 ghost use Rattle.libc_arguments.specs.Parts.{Follows, IsRange, accessed_if, bytes_of};
 ghost use Rattle.libc_arguments.specs.Writes.{IsKept, IsPlace, target_at, target_checked};
 ghost use Rattle.libc_spec.specs.Library.{low_byte, order_of, overlap};

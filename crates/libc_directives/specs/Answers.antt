@@ -1,7 +1,7 @@
 -- What functions of this crate answer, against scripts that touch no memory.
 use Rattle.std.specs.Prelude.{◌≡◌, ℕ, List, ◌++◌, Result, Ok, Err}
-use Rattle.prov_memory.specs.declared.answer.LibAnswer.{LibAnswer}
-use Rattle.prov_memory.specs.declared.answer.LibAnswer.TheVariants as answers
+use Rattle.mem_objects.specs.declared.answer.LibAnswer.{LibAnswer}
+use Rattle.mem_objects.specs.declared.answer.LibAnswer.TheVariants as answers
 use Rattle.mem_spec.specs.Script.{Script, Give, Raise as RaiseOf, Exceed}
 use Rattle.libc_spec.specs.Print.{Argument, Taken}
 use Rattle.libc_directives.specs.declared.refusal.Refusal.{Refusal}

@@ -37,17 +37,17 @@ use Rattle.addr_map.specs.Rows.{row_of}
 use Rattle.addr_map.specs.Sound.{Above}
 use Rattle.exposure.specs.Cells.{Cells}
 use Rattle.c_types.specs.Shapes.{Form}
-use Rattle.prov_memory.specs.declared.cell.Cell.{Cell}
-use Rattle.prov_memory.specs.declared.cell.Via.TheVariants as vias
+use Rattle.mem_objects.specs.declared.cell.Cell.{Cell}
+use Rattle.mem_objects.specs.declared.cell.Via.TheVariants as vias
 use Rattle.mem_spec.specs.Store.{Store, TaggedByte, Life, fresh, is_live, range_from, with_bytes, born, buried}
 use Rattle.mem_spec.specs.Script.{Done, run}
 use Rattle.mem_spec.specs.Acts.{whole, create, kill, retagged, declared_of, in_row, offset_in, base_in, size_in}
 use Rattle.mem_spec.specs.Streams.{Io}
-use Rattle.prov_memory.specs.Held.{Held, held_of}
-use Rattle.prov_memory.specs.Memory.{Kept, AreKnown, ObjectsKnown, IsBorn, newborn, store_of, life_in}
-use Rattle.prov_memory.specs.Made.{Settling, CanSettle, after_settling}
-use Rattle.prov_memory.specs.Stores.{tagged_all}
-use Rattle.prov_memory.specs.Tags.{AreTagged, CellsTagged, ObjectsTagged}
+use Rattle.mem_objects.specs.Held.{Held, held_of}
+use Rattle.mem_objects.specs.Memory.{Kept, AreKnown, ObjectsKnown, IsBorn, newborn, store_of, life_in}
+use Rattle.mem_objects.specs.Made.{Settling, CanSettle, after_settling}
+use Rattle.mem_objects.specs.Stores.{tagged_all}
+use Rattle.mem_objects.specs.Tags.{AreTagged, CellsTagged, ObjectsTagged}
 use Rattle.libc_spec.specs.Library.{heap_kind, is_heap_start}
 use Rattle.libc_arguments.specs.declared.arguments.Range.{Range}
 use Rattle.libc_arguments.specs.declared.arguments.Pointer.{Pointer}

@@ -14,8 +14,8 @@ use Rattle.mem_spec.specs.Store.{Store, buried, settled}
 use Rattle.mem_spec.specs.Script.{Done, run}
 use Rattle.mem_spec.specs.Acts.{kill}
 use Rattle.mem_spec.specs.Streams.{Io}
-use Rattle.prov_memory.specs.Held.{held_of}
-use Rattle.prov_memory.specs.Memory.{Kept, store_of, life_in}
+use Rattle.mem_objects.specs.Held.{held_of}
+use Rattle.mem_objects.specs.Memory.{Kept, store_of, life_in}
 use Rattle.libc_spec.specs.Library.{is_heap_start, free}
 use Rattle.libc_arguments.specs.Answers.{Does}
 use Rattle.libc_heap.proofs.Allocating.{does_same}

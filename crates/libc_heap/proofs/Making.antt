@@ -56,22 +56,22 @@ use Rattle.addr_map.proofs.Tests.{eq_true}
 use Rattle.addr_map.proofs.RowLists.{above-insert}
 use Rattle.addr_map.proofs.RowLists.{free_floor}
 use Rattle.exposure.specs.declared.prov.Prov.TheVariants.{Whole}
-use Rattle.prov_memory.specs.declared.answer.LibAnswer.{LibAnswer}
-use Rattle.prov_memory.specs.declared.answer.LibAnswer.TheVariants as answers
-use Rattle.prov_memory.specs.declared.cell.Cell.{Cell}
-use Rattle.prov_memory.specs.declared.cell.Via.{Via}
-use Rattle.prov_memory.specs.declared.cell.Via.TheVariants as vias
-use Rattle.prov_memory.specs.declared.value.Value.TheVariants.{Ptr}
+use Rattle.mem_objects.specs.declared.answer.LibAnswer.{LibAnswer}
+use Rattle.mem_objects.specs.declared.answer.LibAnswer.TheVariants as answers
+use Rattle.mem_objects.specs.declared.cell.Cell.{Cell}
+use Rattle.mem_objects.specs.declared.cell.Via.{Via}
+use Rattle.mem_objects.specs.declared.cell.Via.TheVariants as vias
+use Rattle.mem_objects.specs.declared.value.Value.TheVariants.{Ptr}
 use Rattle.mem_spec.specs.Store.{Store, Life, TaggedByte, born, with_bytes, is_live}
 use Rattle.mem_spec.specs.Script.{Ask, Put, Bear, Give, Misplace, touch, ◌>>=◌, ◌>>◌, Act, Done, Raised, Outside, Unplaced, run}
 use Rattle.mem_spec.specs.Acts.{Seen, scalar, whole, bytes, access, in_row, offset_in, is_aligned, suits_store, stored_from, store, create, has_place, base_in}
 use Rattle.mem_spec.specs.Streams.{Io}
-use Rattle.prov_memory.specs.Cells.{plain_cell}
-use Rattle.prov_memory.specs.Held.{held_of}
-use Rattle.prov_memory.specs.Memory.{Kept, HasCell, CellsKnown, store_of, life_in, no_place, base_by, rows_with, cannot_create}
-use Rattle.prov_memory.specs.Stores.{Sees, IsShort, tagged_all}
-use Rattle.prov_memory.proofs.AccessLemmas.{done_then, reaches}
-use Rattle.prov_memory.proofs.WriteLemmas.{store_in}
+use Rattle.mem_objects.specs.Cells.{plain_cell}
+use Rattle.mem_objects.specs.Held.{held_of}
+use Rattle.mem_objects.specs.Memory.{Kept, HasCell, CellsKnown, store_of, life_in, no_place, base_by, rows_with, cannot_create}
+use Rattle.mem_objects.specs.Stores.{Sees, IsShort, tagged_all}
+use Rattle.mem_objects.proofs.AccessLemmas.{done_then, reaches}
+use Rattle.mem_objects.proofs.WriteLemmas.{store_in}
 use Rattle.libc_spec.specs.Library.{LibValue, pointer, plain, is_given, heap_name, heap_kind, new_object, calloc, created_with, created_within}
 use Rattle.libc_arguments.specs.declared.arguments.Pointer.{Pointer}
 use Rattle.libc_arguments.specs.Answers.{Does, given_value}

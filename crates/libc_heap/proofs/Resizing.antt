@@ -49,18 +49,18 @@ use Rattle.ub_base.proofs.NameLemmas.{same_object_is}
 use Rattle.exposure.specs.declared.prov.Prov.{Prov}
 use Rattle.exposure.specs.declared.prov.Prov.TheVariants.{Empty, Whole, Either}
 use Rattle.exposure.specs.Cells.{kept_in, has_cell, is_other}
-use Rattle.prov_memory.specs.declared.answer.LibAnswer.{LibAnswer}
-use Rattle.prov_memory.specs.declared.answer.LibAnswer.TheVariants as answers
-use Rattle.prov_memory.specs.declared.value.Value.{Value}
-use Rattle.prov_memory.specs.declared.value.Value.TheVariants.{Ptr}
+use Rattle.mem_objects.specs.declared.answer.LibAnswer.{LibAnswer}
+use Rattle.mem_objects.specs.declared.answer.LibAnswer.TheVariants as answers
+use Rattle.mem_objects.specs.declared.value.Value.{Value}
+use Rattle.mem_objects.specs.declared.value.Value.TheVariants.{Ptr}
 use Rattle.mem_spec.specs.Store.{Store, TaggedByte, Life, is_live, range_from, born, settled}
 use Rattle.mem_spec.specs.Script.{Ask, Script, Give, touch, require, ◌>>=◌, ◌>>◌, Act, Done, Raised, Ended, Outside, Unplaced, touched, run}
 use Rattle.mem_spec.specs.Acts.{create, has_place, base_in, size_in}
 use Rattle.mem_spec.specs.Streams.{Io}
-use Rattle.prov_memory.specs.Held.{Held, held_of}
-use Rattle.prov_memory.specs.Memory.{Kept, HasCell, store_of, life_in, no_place, base_by, rows_with, cannot_create}
-use Rattle.prov_memory.specs.Made.{Settling, CanSettle, after_settling, settling_items}
-use Rattle.prov_memory.proofs.StoreLemmas.{inserted_other}
+use Rattle.mem_objects.specs.Held.{Held, held_of}
+use Rattle.mem_objects.specs.Memory.{Kept, HasCell, store_of, life_in, no_place, base_by, rows_with, cannot_create}
+use Rattle.mem_objects.specs.Made.{Settling, CanSettle, after_settling, settling_items}
+use Rattle.mem_objects.proofs.StoreLemmas.{inserted_other}
 use Rattle.libc_spec.specs.Library.{LibValue, heap_kind, pointer, null, is_given, is_heap_start, heap_name, start_object, malloc, free, moved, resized, realloc}
 use Rattle.libc_spec.specs.Library.{created_with, created_within}
 use Rattle.libc_arguments.specs.declared.arguments.Pointer.{Pointer}

@@ -11,10 +11,10 @@ use Rattle.exposure.specs.Cells.{Cells, kept_in, is_other}
 use Rattle.mem_spec.specs.Store.{Life, Store, TaggedByte, range_from, with_bytes, born, buried}
 use Rattle.mem_spec.specs.Script.{Script, Give, ◌>>◌}
 use Rattle.mem_spec.specs.Acts.{size_in}
-use Rattle.prov_memory.specs.Held.{held_of}
-use Rattle.prov_memory.specs.Memory.{Kept, AreKnown, life_in, cannot_create, base_by, rows_with}
-use Rattle.prov_memory.specs.Made.{Settling}
-use Rattle.prov_memory.specs.Tags.{AreTagged}
+use Rattle.mem_objects.specs.Held.{held_of}
+use Rattle.mem_objects.specs.Memory.{Kept, AreKnown, life_in, cannot_create, base_by, rows_with}
+use Rattle.mem_objects.specs.Made.{Settling}
+use Rattle.mem_objects.specs.Tags.{AreTagged}
 use Rattle.libc_spec.specs.Library.{LibValue, null, free, heap_kind, is_heap_start}
 use Rattle.libc_arguments.specs.Answers.{AreBare}
 

@@ -4,14 +4,14 @@ ghost use Rattle.c_types.specs.declared.library.LibFunc.TheVariants.{Malloc, Fre
 ghost use Rattle.ub_base.specs.declared.clause.Cause.TheVariants.{Output};
 ghost use Rattle.addr_map.specs.declared.map.Row.{Row};
 ghost use Rattle.mem_spec.specs.Script.{Script, run};
-ghost use Rattle.prov_memory.specs.Keeps.{Keeps};
-ghost use Rattle.prov_memory.specs.Memory.{Kept, AreKnown, HasCell, store_of};
+ghost use Rattle.mem_objects.specs.Keeps.{Keeps};
+ghost use Rattle.mem_objects.specs.Memory.{Kept, AreKnown, HasCell, store_of};
 ghost use Rattle.mem_spec.specs.Streams.{Io};
 ghost use Rattle.libc_spec.specs.Library.{LibValue, called, byte_or_end, integer_in, argument_at};
 ghost use Rattle.ub_base.specs.declared.names.Event.{Event};
 ghost use Rattle.libc_arguments.specs.Seen.{values_seen};
 ghost use Rattle.libc_arguments.specs.Parts.{Gives, Follows, line, line_at, printing, limited};
-ghost use Rattle.prov_memory.specs.Tags.{AreTagged};
+ghost use Rattle.mem_objects.specs.Tags.{AreTagged};
 ghost use Rattle.libc_arguments.specs.Answers.{ArgumentsMade, GivesMade, allocates, IsCall, AreWithin, Answers, answer_in, given_value, gives_value};
 ghost use Rattle.libc_arguments.specs.Answers.{leaves_all};
 ghost use Rattle.libc_arguments.specs.Answers.{wants_memory};

@@ -45,12 +45,12 @@ use Rattle.addr_map.specs.declared.map.Row.{Row}
 use Rattle.addr_map.specs.Rows.{row_of}
 use Rattle.exposure.specs.declared.prov.Prov.{Prov}
 use Rattle.exposure.specs.Cells.{Cells}
-use Rattle.prov_memory.specs.declared.answer.LibAnswer.{LibAnswer}
+use Rattle.mem_objects.specs.declared.answer.LibAnswer.{LibAnswer}
 use Rattle.mem_spec.specs.Store.{Store, TaggedByte, range_from}
 use Rattle.mem_spec.specs.Script.{Script, Give, ◌>>=◌, Act, Done, Raised, touched, run}
 use Rattle.mem_spec.specs.Acts.{Accessed, argument, size_in}
 use Rattle.mem_spec.specs.Streams.{Io}
-use Rattle.prov_memory.specs.Memory.{Kept, store_of}
+use Rattle.mem_objects.specs.Memory.{Kept, store_of}
 use Rattle.libc_spec.specs.Library.{pointer, Text, read_numbers, is_zero, joined}
 use Rattle.libc_spec.specs.Print.{before_zero, until_most, bounded_from, string_bytes}
 use Rattle.libc_arguments.specs.declared.arguments.Range.{Range}

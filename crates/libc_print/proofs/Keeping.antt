@@ -9,8 +9,8 @@ use Rattle.mem_spec.specs.declared.stream.Stream.{Stream}
 use Rattle.mem_spec.specs.declared.stream.Stream.TheVariants as streams
 use Rattle.mem_spec.specs.Store.{Store}
 use Rattle.mem_spec.specs.Script.{Script, Raise, require, run}
-use Rattle.prov_memory.specs.declared.answer.LibAnswer.{LibAnswer}
-use Rattle.prov_memory.specs.Memory.{Kept}
+use Rattle.mem_objects.specs.declared.answer.LibAnswer.{LibAnswer}
+use Rattle.mem_objects.specs.Memory.{Kept}
 use Rattle.libc_spec.specs.Library.{LibValue, address_in, prov_in, text, read_numbers, without_zero, write_numbers, in_ranges}
 use Rattle.libc_spec.specs.Print.{Argument, text_of, print_to, printf, printed_by}
 use Rattle.libc_spec.specs.Formatted.{

@@ -4,11 +4,11 @@ use Rattle.ub_base.specs.declared.clause.Cause.{Cause}
 use Rattle.ub_base.specs.declared.names.Item.{Item}
 use Rattle.addr_map.specs.declared.map.Row.{Row}
 use Rattle.exposure.specs.declared.prov.Prov.{Prov}
-use Rattle.prov_memory.specs.declared.answer.LibAnswer.{LibAnswer}
-use Rattle.prov_memory.specs.declared.answer.LibAnswer.TheVariants as answers
+use Rattle.mem_objects.specs.declared.answer.LibAnswer.{LibAnswer}
+use Rattle.mem_objects.specs.declared.answer.LibAnswer.TheVariants as answers
 use Rattle.mem_spec.specs.Script.{Script, ◌>>=◌, Act, Outside, touched, run}
 use Rattle.mem_spec.specs.Streams.{Io}
-use Rattle.prov_memory.specs.Memory.{Kept, store_of}
+use Rattle.mem_objects.specs.Memory.{Kept, store_of}
 use Rattle.libc_spec.specs.Library.{Text, text, read_numbers, without_zero}
 use Rattle.libc_spec.specs.Print.{Argument, text_of}
 use Rattle.libc_arguments.specs.declared.arguments.Range.{Range}

@@ -48,9 +48,9 @@ use Rattle.ub_base.specs.Names.{same_object}
 use Rattle.ub_base.proofs.NameLemmas.{same_object_is}
 use Rattle.addr_map.specs.declared.map.Row.{Row}
 use Rattle.exposure.specs.declared.prov.Prov.{Prov}
-use Rattle.prov_memory.specs.declared.value.Value.TheVariants.{Int}
-use Rattle.prov_memory.specs.declared.answer.LibAnswer.{LibAnswer}
-use Rattle.prov_memory.specs.declared.answer.LibAnswer.TheVariants as answers
+use Rattle.mem_objects.specs.declared.value.Value.TheVariants.{Int}
+use Rattle.mem_objects.specs.declared.answer.LibAnswer.{LibAnswer}
+use Rattle.mem_objects.specs.declared.answer.LibAnswer.TheVariants as answers
 use Rattle.mem_spec.specs.Store.{Store}
 use Rattle.mem_spec.specs.Script.{
   Touch,
@@ -90,7 +90,7 @@ use Rattle.mem_spec.specs.Script.{
 }
 use Rattle.mem_spec.specs.Acts.{Accessed}
 use Rattle.mem_spec.specs.Streams.{Io}
-use Rattle.prov_memory.specs.Memory.{Kept, store_of}
+use Rattle.mem_objects.specs.Memory.{Kept, store_of}
 use Rattle.libc_spec.specs.Library.{LibValue, number, pointer, pointer_in, argument_at, joins, joined, write_numbers}
 use Rattle.libc_spec.specs.Print.{Argument}
 use Rattle.libc_spec.specs.Formatted as formatted

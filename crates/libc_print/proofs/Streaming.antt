@@ -1,3 +1,3 @@
 -- Lemmas on calls of fprintf.
-use Rattle.prov_memory.specs.declared.answer.LibAnswer.TheVariants as answers
+use Rattle.mem_objects.specs.declared.answer.LibAnswer.TheVariants as answers
 use Rattle.mem_spec.specs.declared.stream.Stream.TheVariants as streams

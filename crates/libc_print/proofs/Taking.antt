@@ -4,7 +4,7 @@ use Rattle.c_types.specs.declared.kind.IntKind.{IntKind}
 use Rattle.c_types.specs.declared.kind.IntKind.TheVariants.{Int}
 use Rattle.c_types.specs.Types.{void, type_of, qualified_of}
 use Rattle.c_types.specs.declared.ty.Qual.{Qual, the_lemmas}
-use Rattle.prov_memory.specs.declared.value.Value.{Value}
+use Rattle.mem_objects.specs.declared.value.Value.{Value}
 use Rattle.libc_spec.specs.Library.{argument_at}
 use Rattle.libc_spec.specs.Print.{same_kind}
 use Rattle.libc_arguments.specs.Seen.{values_seen}

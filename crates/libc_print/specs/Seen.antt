@@ -2,7 +2,7 @@
 use Rattle.std.specs.Prelude.{ℕ, zero, suc, List, [], ◌∷◌, drop}
 use Rattle.c_types.specs.declared.ty.Qual.{Qual}
 use Rattle.c_types.specs.Types.{CType, void, qualified_of}
-use Rattle.prov_memory.specs.declared.value.Value.{Value}
+use Rattle.mem_objects.specs.declared.value.Value.{Value}
 use Rattle.libc_spec.specs.Library.{argument_at}
 use Rattle.libc_arguments.specs.Seen.{value_seen, values_seen}
 use Rattle.libc_spec.specs.Print.{Argument}

@@ -2,7 +2,7 @@
 use Rattle.std.specs.Prelude.{ℕ, Bool, false, List, Option, Some, None}
 use Rattle.ub_base.specs.declared.names.Item.{Item}
 use Rattle.mem_spec.specs.Script.{Script, ◌>>=◌, Act, Done, Raised, Ended, Outside, Unplaced}
-use Rattle.prov_memory.specs.Memory.{Kept}
+use Rattle.mem_objects.specs.Memory.{Kept}
 use Rattle.libc_spec.specs.Formatted as formatted
 use Rattle.libc_spec.specs.Library.{LibValue}
 use Rattle.libc_spec.specs.Formatted.{Noted, noting, touches_any, store_text}

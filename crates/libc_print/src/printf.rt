@@ -16,8 +16,8 @@ ghost use Rattle.libc_print.specs.Runs.{Prints, printed_text, Adds, directive_by
 ghost use Rattle.libc_print.specs.Calls.{printing, limited};
 ghost use Rattle.mem_spec.specs.Script.{Script, run};
 ghost use Rattle.mem_spec.specs.Streams.{Io};
-ghost use Rattle.prov_memory.specs.Keeps.{Keeps};
-ghost use Rattle.prov_memory.specs.Memory.{Kept, HasCell, AreKnown, store_of};
+ghost use Rattle.mem_objects.specs.Keeps.{Keeps};
+ghost use Rattle.mem_objects.specs.Memory.{Kept, HasCell, AreKnown, store_of};
 
 use crate::strings::string_of;
 use crate::values::{Arguments, take_int, take_integer, take_pointer, take_precision, take_width};

@@ -17,8 +17,8 @@ ghost use Rattle.libc_print.specs.Runs.{Prints};
 ghost use Rattle.libc_print.specs.Stored.{overlaps, placed_seen, storing};
 ghost use Rattle.mem_spec.specs.Script.{Script, run};
 ghost use Rattle.mem_spec.specs.Streams.{Io};
-ghost use Rattle.prov_memory.specs.Keeps.{Keeps};
-ghost use Rattle.prov_memory.specs.Memory.{AreKnown, HasCell, store_of};
+ghost use Rattle.mem_objects.specs.Keeps.{Keeps};
+ghost use Rattle.mem_objects.specs.Memory.{AreKnown, HasCell, store_of};
 
 use crate::stream::short_text;
 use c_types::Qual;

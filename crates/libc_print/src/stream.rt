@@ -3,7 +3,7 @@
 ghost use Rattle.std.specs.Prelude.{◌≡◌, [], drop, false, OnErr, Ok, Err, nat_lt, ◌^◌, if◌then◌else◌};
 ghost use Rattle.std.specs.Ordering.{int_eq};
 ghost use Rattle.ub_base.specs.declared.clause.Cause.TheVariants.{Output};
-ghost use Rattle.prov_memory.specs.declared.answer.LibAnswer.TheVariants as answers;
+ghost use Rattle.mem_objects.specs.declared.answer.LibAnswer.TheVariants as answers;
 ghost use Rattle.libc_spec.specs.Library.{argument_at, integer_in};
 ghost use Rattle.libc_spec.specs.Formatted.{printed_to_by};
 ghost use Rattle.libc_arguments.specs.Answers.{AreWithin, Answers, GivesMade, HaveCells, answer_in, gives_value};
@@ -12,8 +12,8 @@ ghost use Rattle.libc_print.specs.Seen.{typed};
 ghost use Rattle.libc_print.specs.Runs.{Prints, printed_text};
 ghost use Rattle.libc_print.specs.Calls.{short_text};
 ghost use Rattle.mem_spec.specs.Streams.{Io};
-ghost use Rattle.prov_memory.specs.Keeps.{Keeps};
-ghost use Rattle.prov_memory.specs.Memory.{AreKnown, HasCell, store_of};
+ghost use Rattle.mem_objects.specs.Keeps.{Keeps};
+ghost use Rattle.mem_objects.specs.Memory.{AreKnown, HasCell, store_of};
 
 use crate::printf::{printed, printed_text};
 use c_types::Qual;

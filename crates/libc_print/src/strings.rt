@@ -4,7 +4,7 @@ ghost use Rattle.std.specs.List.{position};
 ghost use Rattle.addr_map.specs.Rows.{row_of};
 ghost use Rattle.mem_spec.specs.Acts.{size_in};
 ghost use Rattle.mem_spec.specs.Streams.{Io};
-ghost use Rattle.prov_memory.specs.Memory.{HasCell};
+ghost use Rattle.mem_objects.specs.Memory.{HasCell};
 ghost use Rattle.libc_spec.specs.Library.{is_zero};
 ghost use Rattle.libc_spec.specs.Print.{before_zero, string_bytes};
 ghost use Rattle.libc_arguments.specs.Seen.{pointer_seen};

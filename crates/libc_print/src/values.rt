@@ -5,7 +5,7 @@ ghost use Rattle.c_types.specs.Types.{type_of, pointer};
 ghost use Rattle.libc_spec.specs.Print.{next_int, next_integer, next_pointer, width_taken, precision_taken, not_negative, signed_kind, converted, same_kind};
 ghost use Rattle.libc_spec.specs.Print.{fits_kind, is_target};
 ghost use Rattle.libc_spec.specs.Directives.{most};
-ghost use Rattle.prov_memory.specs.Memory.{Kept, HasCell};
+ghost use Rattle.mem_objects.specs.Memory.{Kept, HasCell};
 ghost use Rattle.libc_arguments.specs.Answers.{HaveCells};
 ghost use Rattle.libc_arguments.specs.Seen.{pointer_seen, values_seen};
 ghost use Rattle.libc_directives.specs.Seen.{count_seen, length_seen, width_seen};

@@ -3,10 +3,10 @@ ghost use Rattle.std.specs.Prelude.{◌≡◌, ◌++◌, ◌||◌, [], true, fal
 ghost use Rattle.ub_base.specs.declared.names.Event.{Event};
 ghost use Rattle.ub_base.specs.declared.clause.Clause.TheVariants.{MemcpyOverlap};
 ghost use Rattle.c_types.specs.declared.library.LibFunc.TheVariants.{Memset, Memcmp};
-ghost use Rattle.prov_memory.specs.Keeps.{Keeps};
+ghost use Rattle.mem_objects.specs.Keeps.{Keeps};
 ghost use Rattle.mem_spec.specs.Streams.{Io};
-ghost use Rattle.prov_memory.specs.Memory.{AreKnown, HasCell, store_of};
-ghost use Rattle.prov_memory.specs.Tags.{AreTagged};
+ghost use Rattle.mem_objects.specs.Memory.{AreKnown, HasCell, store_of};
+ghost use Rattle.mem_objects.specs.Tags.{AreTagged};
 ghost use Rattle.libc_arguments.specs.Seen.{value_seen, values_seen};
 ghost use Rattle.libc_arguments.specs.Answers.{IsCall, Answers, answer_in, copy_function, leaves_all, wants_memory};
 ghost use Rattle.libc_arguments.specs.Parts.{after, CanFollow, Follows, IsPassed, IsRange, IsShort, accessed_if, bytes_if, reads_if, ReadsAll};

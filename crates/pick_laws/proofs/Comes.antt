@@ -3,7 +3,7 @@ use Rattle.std.proofs.Common.{◌≡◌, ◌<◌, ◌^◌, ℕ, suc, List, [], O
 use Rattle.ub_base.specs.declared.names.Frame.{Frame}
 use Rattle.c_typed.specs.declared.program.Program.{Program}
 use Rattle.c_typed.specs.declared.tree.Place.{Place}
-use Rattle.prov_memory.specs.Keeps.{RowsStay}
+use Rattle.mem_objects.specs.Keeps.{RowsStay}
 use Rattle.c_model.specs.Runs.{Outcome, Running, State, canonical_pick, step}
 use Rattle.c_model.specs.Steps.{Begun, Control, Ev, MayPick, Pick as Model_pick}
 use Rattle.c_model.specs.World.{World}

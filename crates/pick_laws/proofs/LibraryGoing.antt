@@ -9,7 +9,7 @@ use Rattle.c_types.specs.Types.{CType}
 use Rattle.c_typed.specs.declared.program.Program.{Program}
 use Rattle.c_typed.specs.declared.tree.Place.{Place}
 use Rattle.libc_spec.specs.Library.{LibValue}
-use Rattle.prov_memory.specs.declared.value.Value.{Value as Kept_value}
+use Rattle.mem_objects.specs.declared.value.Value.{Value as Kept_value}
 use Rattle.c_model.specs.Runs.{State}
 use Rattle.c_model.specs.Steps.{Begun}
 use Rattle.c_model.specs.World.{World}

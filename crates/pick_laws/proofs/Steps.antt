@@ -15,7 +15,7 @@ use Rattle.c_model.specs.Runs.{Running, State, step}
 use Rattle.c_model.specs.Steps.{Begun, Control, Ev, Local, MayPick, Scene, next, with_given}
 use Rattle.c_model.specs.Values.{Value}
 use Rattle.c_model.specs.World.{World}
-use Rattle.prov_memory.specs.declared.value.Value.{Value as Kept_value}
+use Rattle.mem_objects.specs.declared.value.Value.{Value as Kept_value}
 use Rattle.program_view.specs.Trees.{expr_of}
 use Rattle.elaborate.specs.Formed.{is_formed}
 use Rattle.program_view.proofs.Seen.{same_tree}

@@ -5,7 +5,7 @@ use Rattle.std.proofs.lemmas.Option.{same_Some}
 use Rattle.c_typed.specs.declared.tree.Place.{Place}
 use Rattle.c_model.specs.Steps.{Begun, Local, Scene}
 use Rattle.c_model.specs.World.{World}
-use Rattle.prov_memory.specs.declared.value.Value.{Value as Kept_value}
+use Rattle.mem_objects.specs.declared.value.Value.{Value as Kept_value}
 use Rattle.seq_order.specs.Marked.{taken_in}
 use Rattle.run_control.specs.declared.work.Work.{Work}
 use Rattle.run_control.specs.View.{Meaning}

@@ -7,7 +7,7 @@ use Rattle.c_types.specs.Types.{CType}
 use Rattle.c_typed.specs.declared.program.Program.{Program}
 use Rattle.c_typed.specs.declared.tree.Place.{Place}
 use Rattle.libc_spec.specs.Library.{LibValue}
-use Rattle.prov_memory.specs.declared.value.Value.{Value as Kept_value}
+use Rattle.mem_objects.specs.declared.value.Value.{Value as Kept_value}
 use Rattle.c_model.specs.Libraries.{result}
 use Rattle.c_model.specs.Runs.{Running, State, canonical_pick, step}
 use Rattle.c_model.specs.Steps.{Begun, Control, Ev, with_given}

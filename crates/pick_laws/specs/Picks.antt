@@ -7,7 +7,7 @@ use Rattle.c_types.specs.declared.library.LibFunc.{LibFunc}
 use Rattle.c_typed.specs.declared.program.Program.{Program}
 use Rattle.c_typed.specs.declared.tree.Place.{Place}
 use Rattle.mem_laws.specs.MoreRows.{Extends}
-use Rattle.prov_memory.specs.Keeps.{RowsStay}
+use Rattle.mem_objects.specs.Keeps.{RowsStay}
 use Rattle.library_laws.specs.Called.{items_of}
 use Rattle.c_model.specs.Runs.{Entry, Ends, No_row, Outcome, Over, Raises, Running, State, canonical_pick, step}
 use Rattle.c_model.specs.Steps.{Begun, Control, Ev}

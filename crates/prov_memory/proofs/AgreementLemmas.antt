@@ -39,9 +39,9 @@ use Rattle.c_types.specs.Same.{agrees, matches}
 use Rattle.c_types.proofs.SameTests.{agrees_tells}
 use Rattle.mem_spec.specs.Agreement.{leaf_agrees, some_agrees, suits_form}
 use Rattle.c_types.specs.declared.ty.Ty.{Ty}
-use Rattle.prov_memory.specs.Cells.{kind_numbered, integer_or}
-use Rattle.prov_memory.specs.Memory.{Kept}
-use Rattle.prov_memory.specs.Stores.{IsTypeOf}
+use Rattle.mem_objects.specs.Cells.{kind_numbered, integer_or}
+use Rattle.mem_objects.specs.Memory.{Kept}
+use Rattle.mem_objects.specs.Stores.{IsTypeOf}
 
 both : (a b : Bool) → (a && b) ≡ true → (a ≡ true) × (b ≡ true)
 both true b e = (refl, e)

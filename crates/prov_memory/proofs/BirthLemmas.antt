@@ -20,17 +20,17 @@ use Rattle.exposure.specs.Cells.{Cells, kept_in, has_cell}
 use Rattle.c_types.specs.declared.shape.Shape.{Shape}
 use Rattle.c_types.specs.Shapes.{form_of}
 use Rattle.mem_spec.specs.declared.kind.ObjKind.{ObjKind}
-use Rattle.prov_memory.specs.Cells.{prov_numbered}
-use Rattle.prov_memory.specs.Held.{Held, held_of}
-use Rattle.prov_memory.specs.Memory.{Kept, IsBorn, newborn, life_in, cannot_create, no_place, has_room, base_by, rows_with}
-use Rattle.prov_memory.specs.Made.{AreNamed, IsMade}
-use Rattle.prov_memory.specs.Sound.{IsSound}
-use Rattle.prov_memory.specs.Tags.{CellsTagged, ObjectsTagged}
-use Rattle.prov_memory.specs.Room.{IsClose}
-use Rattle.prov_memory.specs.Keeps.{lasting, RowsStay, Keeps, MayHaveRow}
-use Rattle.prov_memory.proofs.ProvLemmas.{extends_none}
-use Rattle.prov_memory.proofs.StoreLemmas.{inserted_other}
-use Rattle.prov_memory.proofs.SoundLemmas.{some_row, created_made, created_sound}
+use Rattle.mem_objects.specs.Cells.{prov_numbered}
+use Rattle.mem_objects.specs.Held.{Held, held_of}
+use Rattle.mem_objects.specs.Memory.{Kept, IsBorn, newborn, life_in, cannot_create, no_place, has_room, base_by, rows_with}
+use Rattle.mem_objects.specs.Made.{AreNamed, IsMade}
+use Rattle.mem_objects.specs.Sound.{IsSound}
+use Rattle.mem_objects.specs.Tags.{CellsTagged, ObjectsTagged}
+use Rattle.mem_objects.specs.Room.{IsClose}
+use Rattle.mem_objects.specs.Keeps.{lasting, RowsStay, Keeps, MayHaveRow}
+use Rattle.mem_objects.proofs.ProvLemmas.{extends_none}
+use Rattle.mem_objects.proofs.StoreLemmas.{inserted_other}
+use Rattle.mem_objects.proofs.SoundLemmas.{some_row, created_made, created_sound}
 use Rattle.prov_memory.proofs.KeepLemmas.{goes_on_same}
 use Rattle.prov_memory.proofs.RoomLemmas.{born_close}
 

@@ -7,22 +7,22 @@ use Rattle.ub_base.specs.declared.names.Item.TheVariants.{Alive, Read}
 use Rattle.exposure.specs.declared.prov.Prov.{Prov}
 use Rattle.exposure.specs.Cells.{Cells}
 use Rattle.c_types.specs.Shapes.{form_of}
-use Rattle.prov_memory.specs.declared.cell.Cell.{Cell}
-use Rattle.prov_memory.specs.declared.memory.access.Accessed.{Accessed as Found}
+use Rattle.mem_objects.specs.declared.cell.Cell.{Cell}
+use Rattle.mem_objects.specs.declared.accessed.Accessed.{Accessed as Found}
 use Rattle.mem_spec.specs.Store.{Store, TaggedByte}
 use Rattle.mem_spec.specs.Script.{Script, Give, Get, Done, Raised, run, touch, ◌>>=◌}
 use Rattle.mem_spec.specs.Acts.{Accessed, access, declared_of, retagged, load_block}
 use Rattle.mem_spec.specs.Streams.{Io}
-use Rattle.prov_memory.specs.Held.{Held, held_of}
-use Rattle.prov_memory.specs.Memory.{Kept, HasCell, store_of, life_in}
-use Rattle.prov_memory.specs.Made.{CanSettle, after_settling, settling_items}
-use Rattle.prov_memory.specs.Access.{CanSettleOf, IsReached, reached, bytes_in}
-use Rattle.prov_memory.specs.Stores.{tagged_all}
-use Rattle.prov_memory.specs.Tags.{AddsTypes, AreTagged, CellsTagged, IsTaken}
-use Rattle.prov_memory.proofs.AccessLemmas.{done_then, raised_first}
-use Rattle.prov_memory.proofs.WriteLemmas.{Makes}
+use Rattle.mem_objects.specs.Held.{Held, held_of}
+use Rattle.mem_objects.specs.Memory.{Kept, HasCell, store_of, life_in}
+use Rattle.mem_objects.specs.Made.{CanSettle, after_settling, settling_items}
+use Rattle.mem_objects.specs.Access.{CanSettleOf, IsReached, reached, bytes_in}
+use Rattle.mem_objects.specs.Stores.{tagged_all}
+use Rattle.mem_objects.specs.Tags.{AddsTypes, AreTagged, CellsTagged, IsTaken}
+use Rattle.mem_objects.proofs.AccessLemmas.{done_then, raised_first}
+use Rattle.mem_objects.proofs.WriteLemmas.{Makes}
 use Rattle.prov_memory.proofs.LoadLemmas.{range_is}
-use Rattle.prov_memory.proofs.TagLemmas.{store_adds, all_tagged_adds}
+use Rattle.mem_objects.proofs.TagLemmas.{store_adds, all_tagged_adds}
 
 abbrev pub block_in : ℕ → Accessed → Script (List TaggedByte)
 block_in size at = do

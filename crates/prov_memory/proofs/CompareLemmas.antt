@@ -16,10 +16,10 @@ use Rattle.mem_spec.specs.Store.{Store, settled}
 use Rattle.mem_spec.specs.Script.{Act, Done, Raised, Settle, touch, ◌>>◌, run, touched}
 use Rattle.mem_spec.specs.Acts.{settle_to, settle_common}
 use Rattle.mem_spec.specs.Streams.{Io, silent}
-use Rattle.prov_memory.specs.Memory.{Kept, store_of}
-use Rattle.prov_memory.specs.Made.{Settling, CanSettle, settling_items, after_settling, IsMade}
+use Rattle.mem_objects.specs.Memory.{Kept, store_of}
+use Rattle.mem_objects.specs.Made.{Settling, CanSettle, settling_items, after_settling, IsMade}
 use Rattle.prov_memory.specs.Comparing.{settling_of, both_settlings, common_settling}
-use Rattle.prov_memory.proofs.SettleLemmas.{done_is}
+use Rattle.mem_objects.proofs.SettleLemmas.{done_is}
 
 -- what an act does that settles twice
 abbrev pub both_outcome : Result (Settling × Settling) Clause → Store → Act (Unit {0})

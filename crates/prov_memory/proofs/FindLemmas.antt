@@ -37,20 +37,20 @@ use Rattle.exposure.specs.Cells.{Cells, kept_in, has_cell, MakesCell}
 use Rattle.exposure.specs.Choice.{chosen}
 use Rattle.c_types.specs.declared.ty.Ty.{Ty}
 use Rattle.c_types.specs.Types.{type_of}
-use Rattle.prov_memory.specs.declared.cell.State.{State}
-use Rattle.prov_memory.specs.declared.cell.State.TheVariants as states
-use Rattle.prov_memory.specs.declared.cell.Cell.{Cell}
+use Rattle.mem_objects.specs.declared.cell.State.{State}
+use Rattle.mem_objects.specs.declared.cell.State.TheVariants as states
+use Rattle.mem_objects.specs.declared.cell.Cell.{Cell}
 use Rattle.mem_spec.specs.Store.{Store, Byte, written, findable, can_find, is_live}
 use Rattle.mem_spec.specs.Script.{Done, run}
 use Rattle.mem_spec.specs.Acts.{from_int}
 use Rattle.mem_spec.specs.Streams.{Io, silent}
-use Rattle.prov_memory.specs.Cells.{cell_at, byte_in_state, tag_in}
-use Rattle.prov_memory.specs.Held.{Held, held_of}
-use Rattle.prov_memory.specs.Memory.{Kept, store_of, life_in, is_shown, tagged_in_object, AreKnown}
-use Rattle.prov_memory.specs.Made.{Extends, HasMore, AreCreated, look_up_items}
-use Rattle.prov_memory.proofs.ActLemmas.{KnownIn, known_at, known_held}
-use Rattle.prov_memory.proofs.ProvLemmas.{prov_more, extends_none}
-use Rattle.prov_memory.proofs.SettleLemmas.{done_is}
+use Rattle.mem_objects.specs.Cells.{cell_at, byte_in_state, tag_in}
+use Rattle.mem_objects.specs.Held.{Held, held_of}
+use Rattle.mem_objects.specs.Memory.{Kept, store_of, life_in, is_shown, tagged_in_object, AreKnown}
+use Rattle.mem_objects.specs.Made.{Extends, HasMore, AreCreated, look_up_items}
+use Rattle.mem_objects.proofs.ActLemmas.{KnownIn, known_at, known_held}
+use Rattle.mem_objects.proofs.ProvLemmas.{prov_more, extends_none}
+use Rattle.mem_objects.proofs.SettleLemmas.{done_is}
 
 -- ---- what is found was created
 some_is : (a b : ObjName) → Some a ≡ Some b → a ≡ b

@@ -12,23 +12,23 @@ use Rattle.addr_map.specs.Sound.{Above}
 use Rattle.exposure.specs.declared.prov.Prov.{Prov}
 use Rattle.exposure.specs.Cells.{Cells, kept_in, has_cell, is_other, Settles}
 use Rattle.c_types.specs.declared.ty.Ty.{Ty}
-use Rattle.prov_memory.specs.declared.cell.Cell.{Cell}
-use Rattle.prov_memory.specs.declared.cell.Via.{Via}
-use Rattle.prov_memory.specs.declared.cell.Via.TheVariants as vias
-use Rattle.prov_memory.specs.Cells.{is_character_numbered, untagged, cell_at, cell_left}
-use Rattle.prov_memory.specs.Held.{Held, IsWritten, held_of, changed, killed, emptied, uncovered, holding}
-use Rattle.prov_memory.specs.Memory.{Kept, CellsKnown, ObjectsKnown, life_in, uncovered_each}
-use Rattle.prov_memory.specs.Made.{EachNamed, HasMore}
-use Rattle.prov_memory.specs.Sound.{IsSound}
-use Rattle.prov_memory.specs.Tags.{AddsTypes, IsTagged, CellsTagged, ObjectsTagged, AreTagged}
-use Rattle.prov_memory.specs.Room.{IsPacked, AreRowsCreated}
-use Rattle.prov_memory.specs.Keeps.{lasting, GoesOn, SettledStays, AreBare, Keeps, IsNumbered}
-use Rattle.prov_memory.proofs.ProvLemmas.{extends_none}
-use Rattle.prov_memory.proofs.SettleLemmas.{stays_made}
-use Rattle.prov_memory.proofs.ActLemmas.{known_killed, known_emptied, known_uncovered}
-use Rattle.prov_memory.proofs.WriteLemmas.{held_known, holding_known, written_known}
-use Rattle.prov_memory.proofs.TagLemmas.{tag_at, tags_of, all_tagged_adds}
-use Rattle.prov_memory.proofs.SoundLemmas.{Alters, alters_made, alters_sound, more_made, settled_sound, typed_made, typed_sound}
+use Rattle.mem_objects.specs.declared.cell.Cell.{Cell}
+use Rattle.mem_objects.specs.declared.cell.Via.{Via}
+use Rattle.mem_objects.specs.declared.cell.Via.TheVariants as vias
+use Rattle.mem_objects.specs.Cells.{is_character_numbered, untagged, cell_at, cell_left}
+use Rattle.mem_objects.specs.Held.{Held, IsWritten, held_of, changed, killed, emptied, uncovered, holding}
+use Rattle.mem_objects.specs.Memory.{Kept, CellsKnown, ObjectsKnown, life_in, uncovered_each}
+use Rattle.mem_objects.specs.Made.{EachNamed, HasMore}
+use Rattle.mem_objects.specs.Sound.{IsSound}
+use Rattle.mem_objects.specs.Tags.{AddsTypes, IsTagged, CellsTagged, ObjectsTagged, AreTagged}
+use Rattle.mem_objects.specs.Room.{IsPacked, AreRowsCreated}
+use Rattle.mem_objects.specs.Keeps.{lasting, GoesOn, SettledStays, AreBare, Keeps, IsNumbered}
+use Rattle.mem_objects.proofs.ProvLemmas.{extends_none}
+use Rattle.mem_objects.proofs.SettleLemmas.{stays_made}
+use Rattle.mem_objects.proofs.ActLemmas.{known_killed, known_emptied, known_uncovered}
+use Rattle.mem_objects.proofs.WriteLemmas.{held_known, holding_known, written_known}
+use Rattle.mem_objects.proofs.TagLemmas.{tag_at, tags_of, all_tagged_adds}
+use Rattle.mem_objects.proofs.SoundLemmas.{Alters, alters_made, alters_sound, more_made, settled_sound, typed_made, typed_sound}
 
 -- ---- nothing, and one step after the other
 append_none : {A : Type 0} (l : List A) → l ++ [] ≡ l

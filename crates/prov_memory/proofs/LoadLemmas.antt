@@ -46,10 +46,10 @@ use Rattle.c_types.specs.Layout.{bytes as bytes_of}
 use Rattle.c_types.specs.declared.ty.Ty.{Ty}
 use Rattle.c_types.specs.Types.{CType, int, type_of}
 use Rattle.c_types.specs.Shapes.{form_of}
-use Rattle.prov_memory.specs.declared.cell.Cell.{Cell}
-use Rattle.prov_memory.specs.declared.cell.State.{State}
-use Rattle.prov_memory.specs.declared.cell.State.TheVariants as states
-use Rattle.prov_memory.specs.declared.memory.access.Accessed.{Accessed as Found}
+use Rattle.mem_objects.specs.declared.cell.Cell.{Cell}
+use Rattle.mem_objects.specs.declared.cell.State.{State}
+use Rattle.mem_objects.specs.declared.cell.State.TheVariants as states
+use Rattle.mem_objects.specs.declared.accessed.Accessed.{Accessed as Found}
 use Rattle.mem_spec.specs.Agreement.{number_of_kind, bytes_of_kind}
 use Rattle.mem_spec.specs.Store.{Store, Life, TaggedByte, range_from}
 use Rattle.mem_spec.specs.Script.{Script, Give, Get, Raised, run, touch, require, ◌>>=◌, ◌>>◌}
@@ -70,14 +70,14 @@ use Rattle.mem_spec.specs.Acts.{
   load_func,
 }
 use Rattle.mem_spec.specs.Streams.{Io}
-use Rattle.prov_memory.specs.Cells.{byte_in, byte_in_state, kind_numbered, integer_or, type_numbered, tag_in}
-use Rattle.prov_memory.specs.Held.{Held, held_of}
-use Rattle.prov_memory.specs.Memory.{Kept, store_of, life_in, tagged_in_object}
-use Rattle.prov_memory.specs.Made.{Settling, after_settling, settling_items}
-use Rattle.prov_memory.specs.Access.{IsReached, reached, bytes_in}
-use Rattle.prov_memory.specs.Loads.{number_held, number_if, number_checked, number_read}
-use Rattle.prov_memory.proofs.AccessLemmas.{raised_then, raised_first}
-use Rattle.prov_memory.proofs.WriteLemmas.{Makes}
+use Rattle.mem_objects.specs.Cells.{byte_in, byte_in_state, kind_numbered, integer_or, type_numbered, tag_in}
+use Rattle.mem_objects.specs.Held.{Held, held_of}
+use Rattle.mem_objects.specs.Memory.{Kept, store_of, life_in, tagged_in_object}
+use Rattle.mem_objects.specs.Made.{Settling, after_settling, settling_items}
+use Rattle.mem_objects.specs.Access.{IsReached, reached, bytes_in}
+use Rattle.mem_objects.specs.Loads.{number_held, number_if, number_checked, number_read}
+use Rattle.mem_objects.proofs.AccessLemmas.{raised_then, raised_first}
+use Rattle.mem_objects.proofs.WriteLemmas.{Makes}
 
 -- ---- a tag
 by_kind : (k : IntKind) (o : Option IntKind) (rest : Option CType) → Some k ≡ o → integer_or o rest ≡ Some (int k)

@@ -8,10 +8,10 @@ use Rattle.ub_base.specs.Names.{same_object}
 use Rattle.addr_map.specs.declared.map.Row.{Row}
 use Rattle.addr_map.specs.Rows.{row_of, free_of}
 use Rattle.mem_spec.specs.Acts.{in_bounds}
-use Rattle.prov_memory.specs.Held.{Held, is_near}
-use Rattle.prov_memory.specs.Memory.{IsRowOf}
-use Rattle.prov_memory.specs.Made.{IsAddress}
-use Rattle.prov_memory.proofs.StoreLemmas.{end_of_row}
+use Rattle.mem_objects.specs.Held.{Held, is_near}
+use Rattle.mem_objects.specs.Memory.{IsRowOf}
+use Rattle.mem_objects.specs.Made.{IsAddress}
+use Rattle.mem_objects.proofs.StoreLemmas.{end_of_row}
 
 both : (a b : Bool) → (a && b) ≡ true → (a ≡ true) × (b ≡ true)
 both true b h = (refl, h)

@@ -3,13 +3,13 @@ use Rattle.std.proofs.Common.{◌≡◌, ℕ, Bool, true, false, cond, refl, ap,
 use Rattle.std.specs.Bool.{then_some}
 use Rattle.exposure.specs.declared.prov.Prov.{Prov}
 use Rattle.mem_spec.specs.Acts.{are_pieces, same_prov, origin_in, pointer_if, pointer_in}
-use Rattle.prov_memory.specs.declared.cell.Cell.{Cell}
-use Rattle.prov_memory.specs.declared.cell.Origin.{Origin}
-use Rattle.prov_memory.specs.declared.cell.State.TheVariants as states
-use Rattle.prov_memory.specs.Access.{bytes_in}
-use Rattle.prov_memory.specs.Cells.{cell_at, byte_in, prov_numbered}
-use Rattle.prov_memory.specs.Held.{Held}
-use Rattle.prov_memory.specs.Memory.{Kept}
+use Rattle.mem_objects.specs.declared.cell.Cell.{Cell}
+use Rattle.mem_objects.specs.declared.cell.Origin.{Origin}
+use Rattle.mem_objects.specs.declared.cell.State.TheVariants as states
+use Rattle.mem_objects.specs.Access.{bytes_in}
+use Rattle.mem_objects.specs.Cells.{cell_at, byte_in, prov_numbered}
+use Rattle.mem_objects.specs.Held.{Held}
+use Rattle.mem_objects.specs.Memory.{Kept}
 use Rattle.prov_memory.specs.Named.{named_in}
 use Rattle.prov_memory.proofs.PointerLemmas.{same_numbered}
 

@@ -13,25 +13,25 @@ use Rattle.addr_map.specs.declared.map.Row.{Row}
 use Rattle.exposure.specs.declared.prov.Prov.{Prov}
 use Rattle.c_types.specs.declared.kind.IntKind.{IntKind}
 use Rattle.c_types.specs.Types.{CType, type_of}
-use Rattle.prov_memory.specs.declared.cell.Cell.{Cell}
+use Rattle.mem_objects.specs.declared.cell.Cell.{Cell}
 use Rattle.mem_spec.specs.Agreement.{number_of_kind}
 use Rattle.mem_spec.specs.Store.{Store, TaggedByte, range_from}
 use Rattle.mem_spec.specs.Script.{Script, Give, Done, Raised, run, require, ◌>>◌}
 use Rattle.mem_spec.specs.Acts.{candidates, all_written, number_of, are_pieces, origin_in, pointer_if, pointer_in, origins_in, show_pieces, value_of, from_int}
 use Rattle.mem_spec.specs.Streams.{Io}
-use Rattle.prov_memory.specs.Cells.{cell_at, byte_in, tagged_in}
-use Rattle.prov_memory.specs.Memory.{Kept, AreKnown, store_of}
-use Rattle.prov_memory.specs.Access.{range_in}
-use Rattle.prov_memory.specs.Made.{HasMore, IsMade, look_up_items}
-use Rattle.prov_memory.specs.Loads.{number_if, number_checked, origins_of}
+use Rattle.mem_objects.specs.Cells.{cell_at, byte_in, tagged_in}
+use Rattle.mem_objects.specs.Memory.{Kept, AreKnown, store_of}
+use Rattle.mem_objects.specs.Access.{range_in}
+use Rattle.mem_objects.specs.Made.{HasMore, IsMade, look_up_items}
+use Rattle.mem_objects.specs.Loads.{number_if, number_checked, origins_of}
 use Rattle.prov_memory.specs.Parts.{part_int, part_func, part_ptr, pointer_or_found, part_items}
-use Rattle.prov_memory.specs.Pieces.{seen}
-use Rattle.prov_memory.specs.Sound.{AreMade}
-use Rattle.prov_memory.proofs.AccessLemmas.{done_then}
+use Rattle.mem_objects.specs.Pieces.{seen}
+use Rattle.mem_objects.specs.Sound.{AreMade}
+use Rattle.mem_objects.proofs.AccessLemmas.{done_then}
 use Rattle.prov_memory.proofs.FindLemmas.{store_more}
 use Rattle.prov_memory.proofs.LoadLemmas.{err_of, ok_of}
 use Rattle.prov_memory.proofs.ShowLemmas.{showing, shows_then}
-use Rattle.prov_memory.proofs.SoundLemmas.{pointer_if_made, origin_made}
+use Rattle.mem_objects.proofs.SoundLemmas.{pointer_if_made, origin_made}
 
 -- ---- a slice as a range
 range_shift : (f : ℕ → TaggedByte) (a n : ℕ) → range_from f (suc a) n ≡ range_from (λ k. f (suc k)) a n

@@ -49,22 +49,22 @@ use Rattle.exposure.specs.declared.prov.Prov.TheVariants.{Empty, Whole, Either}
 use Rattle.exposure.specs.Choice.{chosen}
 use Rattle.exposure.specs.Cells.{is_other}
 use Rattle.c_types.specs.Types.{CType}
-use Rattle.prov_memory.specs.declared.answer.MemFault.{MemFault}
-use Rattle.prov_memory.specs.declared.answer.MemFault.TheVariants as faults
-use Rattle.prov_memory.specs.declared.memory.access.Accessed.{Accessed as Found}
+use Rattle.mem_objects.specs.declared.answer.MemFault.{MemFault}
+use Rattle.mem_objects.specs.declared.answer.MemFault.TheVariants as faults
+use Rattle.mem_objects.specs.declared.accessed.Accessed.{Accessed as Found}
 use Rattle.mem_spec.specs.Store.{Store, TaggedByte, range_from, is_live, findable}
 use Rattle.mem_spec.specs.Script.{Script, Give, Act, Done, Raised, run, ◌>>◌}
 use Rattle.mem_spec.specs.Acts.{access, candidates, number_of, is_piece, are_pieces, same_prov, pointer_in, from_int, target_lives, pointer_or_number, load_ptr}
 use Rattle.mem_spec.specs.Streams.{Io}
-use Rattle.prov_memory.specs.Cells.{prov_numbered}
-use Rattle.prov_memory.specs.Held.{Held}
-use Rattle.prov_memory.specs.Memory.{Kept, HasCell, AreKnown, store_of}
-use Rattle.prov_memory.specs.Access.{CanSettleOf, IsReached, reached, bytes_in}
-use Rattle.prov_memory.specs.Made.{HasMore, Settling, CanSettle, after_settling, settling_items, look_up_items}
-use Rattle.prov_memory.specs.Loads.{IfRaise, is_dead_in, pointer_items}
-use Rattle.prov_memory.proofs.AccessLemmas.{done_then, raised_then, raised_first}
+use Rattle.mem_objects.specs.Cells.{prov_numbered}
+use Rattle.mem_objects.specs.Held.{Held}
+use Rattle.mem_objects.specs.Memory.{Kept, HasCell, AreKnown, store_of}
+use Rattle.mem_objects.specs.Access.{CanSettleOf, IsReached, reached, bytes_in}
+use Rattle.mem_objects.specs.Made.{HasMore, Settling, CanSettle, after_settling, settling_items, look_up_items}
+use Rattle.mem_objects.specs.Loads.{IfRaise, is_dead_in, pointer_items}
+use Rattle.mem_objects.proofs.AccessLemmas.{done_then, raised_then, raised_first}
 use Rattle.prov_memory.proofs.FindLemmas.{store_more}
-use Rattle.prov_memory.proofs.WriteLemmas.{Makes}
+use Rattle.mem_objects.proofs.WriteLemmas.{Makes}
 use Rattle.prov_memory.proofs.LoadLemmas.{ReadFails, load_tail, tail_raises}
 use Rattle.prov_memory.proofs.ShowLemmas.{Reads, tail_then, two_at_most}
 

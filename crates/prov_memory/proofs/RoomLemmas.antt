@@ -15,11 +15,11 @@ use Rattle.addr_map.proofs.Tests.{eq_true, le_true, le_false}
 use Rattle.exposure.specs.declared.prov.Prov.TheVariants.{Whole}
 use Rattle.c_types.specs.declared.shape.Shape.{Shape}
 use Rattle.mem_spec.specs.declared.kind.ObjKind.{ObjKind}
-use Rattle.prov_memory.specs.Held.{Held, held_of}
-use Rattle.prov_memory.specs.Memory.{Kept, IsBorn, empty, cannot_create, no_place, has_room, base_by, rows_with}
-use Rattle.prov_memory.specs.Room.{IsPacked, AreRowsCreated, BeginsPacked, StaysPacked, HasRoomWithin, IsClose, CanPlace}
-use Rattle.prov_memory.proofs.StoreLemmas.{inserted_other}
-use Rattle.prov_memory.proofs.SoundLemmas.{born_made, born_whole}
+use Rattle.mem_objects.specs.Held.{Held, held_of}
+use Rattle.mem_objects.specs.Memory.{Kept, IsBorn, empty, cannot_create, no_place, has_room, base_by, rows_with}
+use Rattle.mem_objects.specs.Room.{IsPacked, AreRowsCreated, BeginsPacked, StaysPacked, HasRoomWithin, IsClose, CanPlace}
+use Rattle.mem_objects.proofs.StoreLemmas.{inserted_other}
+use Rattle.mem_objects.proofs.SoundLemmas.{born_made, born_whole}
 
 or_either : (b c : Bool) (P : Type 0) → (b ≡ true → P) → (c ≡ true → P) → (b || c) ≡ true → P
 or_either true c P f g e = f refl

@@ -49,8 +49,8 @@ use Rattle.exposure.specs.declared.prov.Prov.TheVariants.{Empty, Whole, Either}
 use Rattle.c_types.specs.declared.kind.IntKind.{IntKind}
 use Rattle.c_types.specs.Types.{CType, int, type_of}
 use Rattle.c_types.specs.Shapes.{form_of}
-use Rattle.prov_memory.specs.declared.cell.Cell.{Cell}
-use Rattle.prov_memory.specs.declared.memory.access.Accessed.{Accessed as Found}
+use Rattle.mem_objects.specs.declared.cell.Cell.{Cell}
+use Rattle.mem_objects.specs.declared.accessed.Accessed.{Accessed as Found}
 use Rattle.mem_spec.specs.Agreement.{number_of_kind, bytes_of_kind}
 use Rattle.mem_spec.specs.Store.{Store, Byte, unwritten, written, Life, TaggedByte, range_from}
 use Rattle.mem_spec.specs.Script.{Script, Give, Act, Done, touched, run, ◌>>=◌, ◌>>◌}
@@ -69,17 +69,17 @@ use Rattle.mem_spec.specs.Acts.{
   load_func,
 }
 use Rattle.mem_spec.specs.Streams.{Io}
-use Rattle.prov_memory.specs.declared.cell.State.{State}
-use Rattle.prov_memory.specs.declared.cell.State.TheVariants as states
-use Rattle.prov_memory.specs.Cells.{cell_at, byte_in, byte_in_state, prov_numbered, tagged_in}
-use Rattle.prov_memory.specs.Held.{Held, changed, uncovered}
-use Rattle.prov_memory.specs.Memory.{Kept, HasCell, store_of, life_in, uncovered_each}
-use Rattle.prov_memory.specs.Made.{Settling, CanSettle, after_settling, settling_items}
-use Rattle.prov_memory.specs.Access.{CanSettleOf, IsReached, reached, bytes_in, range_in}
-use Rattle.prov_memory.specs.Loads.{IsLoaded, number_checked, number_read, origins_of}
-use Rattle.prov_memory.proofs.StoreLemmas.{shows_each}
-use Rattle.prov_memory.proofs.AccessLemmas.{done_then}
-use Rattle.prov_memory.proofs.WriteLemmas.{Makes, cells_settle}
+use Rattle.mem_objects.specs.declared.cell.State.{State}
+use Rattle.mem_objects.specs.declared.cell.State.TheVariants as states
+use Rattle.mem_objects.specs.Cells.{cell_at, byte_in, byte_in_state, prov_numbered, tagged_in}
+use Rattle.mem_objects.specs.Held.{Held, changed, uncovered}
+use Rattle.mem_objects.specs.Memory.{Kept, HasCell, store_of, life_in, uncovered_each}
+use Rattle.mem_objects.specs.Made.{Settling, CanSettle, after_settling, settling_items}
+use Rattle.mem_objects.specs.Access.{CanSettleOf, IsReached, reached, bytes_in, range_in}
+use Rattle.mem_objects.specs.Loads.{IsLoaded, number_checked, number_read, origins_of}
+use Rattle.mem_objects.proofs.StoreLemmas.{shows_each}
+use Rattle.mem_objects.proofs.AccessLemmas.{done_then}
+use Rattle.mem_objects.proofs.WriteLemmas.{Makes, cells_settle}
 use Rattle.prov_memory.proofs.LoadLemmas.{load_tail, life_at, range_is}
 
 -- ---- what the pieces among the bytes were made from

@@ -7,21 +7,21 @@ use Rattle.exposure.specs.declared.prov.Prov.{Prov}
 use Rattle.c_types.specs.declared.kind.IntKind.{IntKind}
 use Rattle.c_types.specs.declared.kind.IntKind.TheVariants as kinds
 use Rattle.c_types.specs.Types.{type_of}
-use Rattle.prov_memory.specs.declared.cell.Cell.{Cell}
-use Rattle.prov_memory.specs.declared.cell.Origin.{Origin}
-use Rattle.prov_memory.specs.declared.cell.Via.{Via}
-use Rattle.prov_memory.specs.declared.cell.Via.TheVariants as vias
+use Rattle.mem_objects.specs.declared.cell.Cell.{Cell}
+use Rattle.mem_objects.specs.declared.cell.Origin.{Origin}
+use Rattle.mem_objects.specs.declared.cell.Via.{Via}
+use Rattle.mem_objects.specs.declared.cell.Via.TheVariants as vias
 use Rattle.mem_spec.specs.Agreement.{bytes_of_kind}
 use Rattle.mem_spec.specs.Store.{TaggedByte}
 use Rattle.mem_spec.specs.Script.{Done, Raised, run}
 use Rattle.mem_spec.specs.Acts.{Seen, store}
 use Rattle.mem_spec.specs.Streams.{Io}
-use Rattle.prov_memory.specs.Cells.{prov_numbered}
-use Rattle.prov_memory.specs.Memory.{Kept, HasCell, CellsKnown, store_of}
-use Rattle.prov_memory.specs.Stores.{Sees, IsShort, tagged_all}
+use Rattle.mem_objects.specs.Cells.{prov_numbered}
+use Rattle.mem_objects.specs.Memory.{Kept, HasCell, CellsKnown, store_of}
+use Rattle.mem_objects.specs.Stores.{Sees, IsShort, tagged_all}
 use Rattle.mem_spec.specs.Bytes.{number_bytes, pointer_bytes}
-use Rattle.prov_memory.specs.Pieces.{plain_cells, piece_cells}
-use Rattle.prov_memory.proofs.PieceLemmas.{seen_pieces, seen_plain, plain_take, plain_length, plain_known}
+use Rattle.mem_objects.specs.Pieces.{plain_cells, piece_cells}
+use Rattle.mem_objects.proofs.PieceLemmas.{seen_pieces, seen_plain, plain_take, plain_length, plain_known}
 
 short_of : (via : Via) (n : ℕ) → n ≤ 256 → IsShort via n
 short_of (vias.Scalar id) n e = e

@@ -7,7 +7,7 @@ use Rattle.exposure.specs.declared.prov.Prov.TheVariants.{Empty, Whole, Either}
 use Rattle.exposure.specs.Cells.{Cells}
 use Rattle.prov_memory.specs.declared.memory.arith.Common.{Common}
 use Rattle.prov_memory.specs.declared.memory.arith.Common.TheVariants as common
-use Rattle.prov_memory.specs.Made.{Settling, settling_to}
+use Rattle.mem_objects.specs.Made.{Settling, settling_to}
 
 -- how many objects two pointers have in common
 abbrev pub common_in : List ObjName → Common

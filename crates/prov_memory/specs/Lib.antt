@@ -1,15 +1,3 @@
-pub mod Access
-pub mod Cells
-pub mod Held
-pub mod Memory
-pub mod Made
 pub mod Comparing
-pub mod Pieces
-pub mod Stores
-pub mod Loads
 pub mod Parts
-pub mod Tags
-pub mod Sound
-pub mod Keeps
-pub mod Room
 pub mod Named

@@ -8,7 +8,7 @@ use Rattle.c_types.specs.declared.kind.IntKind.{IntKind}
 use Rattle.mem_spec.specs.Store.{TaggedByte}
 use Rattle.mem_spec.specs.Script.{Script, Give, require, ◌>>=◌, ◌>>◌}
 use Rattle.mem_spec.specs.Acts.{all_written, number_of, is_trap, value_of, show_pieces, pointer_in, from_int}
-use Rattle.prov_memory.specs.Made.{look_up_items}
+use Rattle.mem_objects.specs.Made.{look_up_items}
 
 -- an integer of these bytes
 abbrev pub part_int : IntKind → List TaggedByte → Script ℤ

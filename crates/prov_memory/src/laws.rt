@@ -1,6 +1,6 @@
 // Laws of the definitions.
-ghost use Rattle.prov_memory.specs.Room.{BeginsPacked, StaysPacked, HasRoomWithin};
-ghost use Rattle.prov_memory.specs.Sound.{ObjectsHaveRows, CandidatesHaveRows};
+ghost use Rattle.mem_objects.specs.Room.{BeginsPacked, StaysPacked, HasRoomWithin};
+ghost use Rattle.mem_objects.specs.Sound.{ObjectsHaveRows, CandidatesHaveRows};
 
 /// Objects that a mode places stand so close that each has a place as long as the sum of what was created is within 2^40:
 /// the free address is at most 2^24 and three times that sum (own).

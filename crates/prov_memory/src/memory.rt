@@ -5,14 +5,14 @@ ghost use Rattle.std.specs.Bool.{OnTrue, OnFalse};
 ghost use Rattle.exposure.specs.Cells.{kept_in, has_cell, is_other, Settles};
 ghost use Rattle.mem_spec.specs.Store.{settled};
 ghost use Rattle.mem_spec.specs.Streams.{Io};
-ghost use Rattle.prov_memory.specs.Cells.{prov_numbered};
-ghost use Rattle.prov_memory.specs.Held.{Fits, held_of, name_at};
-ghost use Rattle.prov_memory.specs.Memory.{Kept, empty, store_of, state_in, byte_in_object};
-ghost use Rattle.prov_memory.specs.Made.{AreNamed, IsMade};
-ghost use Rattle.prov_memory.specs.Keeps.{Keeps};
-ghost use Rattle.prov_memory.specs.Sound.{IsSound};
-ghost use Rattle.prov_memory.specs.Room.{IsClose};
-ghost use Rattle.prov_memory.specs.Tags.{AreTagged};
+ghost use Rattle.mem_objects.specs.Cells.{prov_numbered};
+ghost use Rattle.mem_objects.specs.Held.{Fits, held_of, name_at};
+ghost use Rattle.mem_objects.specs.Memory.{Kept, empty, store_of, state_in, byte_in_object};
+ghost use Rattle.mem_objects.specs.Made.{AreNamed, IsMade};
+ghost use Rattle.mem_objects.specs.Keeps.{Keeps};
+ghost use Rattle.mem_objects.specs.Sound.{IsSound};
+ghost use Rattle.mem_objects.specs.Room.{IsClose};
+ghost use Rattle.mem_objects.specs.Tags.{AreTagged};
 
 mod access;
 mod arith;
@@ -23,14 +23,11 @@ mod store;
 mod tags;
 mod whole;
 
-use crate::cell::Cell;
-use crate::object::Object;
-use crate::objects::Objects;
-use crate::origins::Origins;
-use crate::{CreateFault, MemByte, ObjKind, ObjState, Origin, Touched, TypeId, types};
+use crate::{CreateFault, MemByte, ObjKind, ObjState, Origin, Touched, TypeId};
 use addr_map::{AddrMap, Mode};
 use c_types::{Shape, Ty};
 use exposure::{Narrowed, Prov};
+use mem_objects::{Cell, Object, Objects, Origins, types};
 use std::alloc::Global;
 use std::marker::Model;
 use std::rc::Rc;
@@ -55,7 +52,7 @@ impl Model for Memory {
     ghost use Rattle.std.specs.Coded.{codes};
     ghost use Rattle.c_types.specs.contracts.ty.Ty as ty;
     ghost use Rattle.c_types.specs.contracts.shape.Shape as shape;
-    ghost use Rattle.prov_memory.specs.Memory.{Kept, HaveRows};
+    ghost use Rattle.mem_objects.specs.Memory.{Kept, HaveRows};
 
     ghost Value = { Kept };
 
@@ -162,7 +159,7 @@ impl Memory {
         ensures { result ≡ state_in (held_of self.now.objects name) }
     {
         let object = self.seek(name)?;
-        Some(object.state)
+        Some(object.state())
     }
 
     /// A byte of an object, unwritten past its end and where it wasn't created.
@@ -212,7 +209,7 @@ impl Memory {
             Prov::Empty => Origin::EMPTY,
             Prov::Whole(name) => match self.seek(name) {
                 None => Origin::EMPTY,
-                Some(object) => object.origin,
+                Some(object) => object.origin(),
             },
             Prov::Either { .. } => Origin {
                 number: self.origins.number(prov).unwrap_or(0),

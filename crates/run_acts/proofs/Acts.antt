@@ -9,14 +9,14 @@ use Rattle.exposure.specs.declared.prov.Prov.{Prov}
 use Rattle.mem_spec.specs.Store.{Store}
 use Rattle.mem_spec.specs.Script.{Script, Give, Act, Done, Raised, run, require, ◌>>=◌, ◌>>◌}
 use Rattle.mem_spec.specs.Streams.{Io}
-use Rattle.prov_memory.specs.Memory.{Kept}
-use Rattle.prov_memory.proofs.AccessLemmas.{done_then, raised_first}
+use Rattle.mem_objects.specs.Memory.{Kept}
+use Rattle.mem_objects.proofs.AccessLemmas.{done_then, raised_first}
 use Rattle.c_model.specs.Values.{Value, Ptr}
-use Rattle.prov_memory.specs.declared.answer.MemFault.{MemFault}
-use Rattle.prov_memory.specs.declared.answer.MemFault.TheVariants as faults
-use Rattle.prov_memory.specs.declared.value.Value.{Value as Held}
-use Rattle.prov_memory.specs.declared.value.Value.TheVariants as values
-use Rattle.prov_memory.specs.Loads.{IfPointer, IfRaise}
+use Rattle.mem_objects.specs.declared.answer.MemFault.{MemFault}
+use Rattle.mem_objects.specs.declared.answer.MemFault.TheVariants as faults
+use Rattle.mem_objects.specs.declared.value.Value.{Value as Held}
+use Rattle.mem_objects.specs.declared.value.Value.TheVariants as values
+use Rattle.mem_objects.specs.Loads.{IfPointer, IfRaise}
 use Rattle.run_values.specs.Views.{value_in}
 
 -- ---- an act whose value is made into another

@@ -10,7 +10,7 @@ use Rattle.c_types.specs.Same.{compatible_functions}
 use Rattle.c_typed.specs.declared.program.Function.{Function as Typed}
 use Rattle.mem_spec.specs.Store.{Store}
 use Rattle.mem_spec.specs.Script.{run, Give, require, ◌>>◌}
-use Rattle.prov_memory.specs.Memory.{act_of}
+use Rattle.mem_objects.specs.Memory.{act_of}
 use Rattle.c_model.specs.Program.{Function}
 use Rattle.c_model.specs.Steps.{function_of}
 use Rattle.c_model.specs.Values.{function_address}

@@ -23,7 +23,7 @@ use Rattle.mem_spec.specs.Script.{Script, Give, Act, Done, Raised, Ended, Outsid
 use Rattle.ub_base.specs.declared.clause.Clause.TheVariants.{OutOfBounds}
 use Rattle.addr_map.specs.Rows.{row_of}
 use Rattle.mem_spec.specs.Acts.{shift, settle_by, in_bounds}
-use Rattle.prov_memory.proofs.AccessLemmas.{before, after, run_bind}
+use Rattle.mem_objects.proofs.AccessLemmas.{before, after, run_bind}
 
 -- ---- what a script gives that ends with a value
 abbrev pub value_done : {V : Type 0} → V → Act V → V

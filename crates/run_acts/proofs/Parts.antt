@@ -15,16 +15,16 @@ use Rattle.mem_spec.specs.Store.{Store, TaggedByte}
 use Rattle.mem_spec.specs.Script.{Script, Give, Raise, Finish, Exceed, Misplace, Do, Done, Raised, run, require, ◌>>=◌, ◌>>◌}
 use Rattle.mem_spec.specs.Acts.{all_written, number_of, pointer_in, from_int, is_trap, value_of, show_pieces}
 use Rattle.mem_spec.specs.Streams.{Io}
-use Rattle.prov_memory.specs.declared.answer.MemFault.{MemFault}
-use Rattle.prov_memory.specs.declared.answer.MemFault.TheVariants as faults
-use Rattle.prov_memory.specs.declared.cell.Cell.{Cell}
-use Rattle.prov_memory.specs.declared.value.Value.{Value as Held}
-use Rattle.prov_memory.specs.declared.value.Value.TheVariants as values
-use Rattle.prov_memory.specs.Cells.{Loaded, tagged_in}
-use Rattle.prov_memory.specs.Loads.{IfPointer, IfRaise}
-use Rattle.prov_memory.specs.Memory.{Kept}
+use Rattle.mem_objects.specs.declared.answer.MemFault.{MemFault}
+use Rattle.mem_objects.specs.declared.answer.MemFault.TheVariants as faults
+use Rattle.mem_objects.specs.declared.cell.Cell.{Cell}
+use Rattle.mem_objects.specs.declared.value.Value.{Value as Held}
+use Rattle.mem_objects.specs.declared.value.Value.TheVariants as values
+use Rattle.mem_objects.specs.Cells.{Loaded, tagged_in}
+use Rattle.mem_objects.specs.Loads.{IfPointer, IfRaise}
+use Rattle.mem_objects.specs.Memory.{Kept}
 use Rattle.prov_memory.specs.Parts.{part_ptr, pointer_or_found}
-use Rattle.prov_memory.specs.Pieces.{seen}
+use Rattle.mem_objects.specs.Pieces.{seen}
 use Rattle.c_model.specs.Nodes.{part_of, read_part, part_pointer}
 use Rattle.c_model.specs.Values.{Int, Ptr, Fun, Nothing, part_bytes, moved_source}
 use Rattle.run_acts.specs.Parts.{integer_part, function_part}

@@ -11,16 +11,16 @@ use Rattle.c_types.specs.Types.{CType}
 use Rattle.c_typed.specs.declared.tree.Access.{Access}
 use Rattle.mem_spec.specs.Store.{Store}
 use Rattle.mem_spec.specs.Script.{Script, Act, Give, Done, Raised, run, require, ◌>>◌}
-use Rattle.prov_memory.specs.declared.answer.MemFault.{MemFault}
-use Rattle.prov_memory.specs.declared.answer.MemFault.TheVariants as faults
-use Rattle.prov_memory.specs.declared.value.Value.{Value as Held}
-use Rattle.prov_memory.specs.declared.value.Value.TheVariants as values
-use Rattle.prov_memory.specs.Loads.{IfRaise}
-use Rattle.prov_memory.specs.Cells.{Loaded}
-use Rattle.prov_memory.specs.Made.{IsMade}
-use Rattle.prov_memory.specs.Memory.{Kept}
-use Rattle.prov_memory.specs.Pieces.{IsMadeValue}
-use Rattle.prov_memory.proofs.AccessLemmas.{done_then, raised_then, raised_first}
+use Rattle.mem_objects.specs.declared.answer.MemFault.{MemFault}
+use Rattle.mem_objects.specs.declared.answer.MemFault.TheVariants as faults
+use Rattle.mem_objects.specs.declared.value.Value.{Value as Held}
+use Rattle.mem_objects.specs.declared.value.Value.TheVariants as values
+use Rattle.mem_objects.specs.Loads.{IfRaise}
+use Rattle.mem_objects.specs.Cells.{Loaded}
+use Rattle.mem_objects.specs.Made.{IsMade}
+use Rattle.mem_objects.specs.Memory.{Kept}
+use Rattle.mem_objects.specs.Pieces.{IsMadeValue}
+use Rattle.mem_objects.proofs.AccessLemmas.{done_then, raised_then, raised_first}
 use Rattle.c_model.specs.Values.{Value, Nothing, Pointer, pointer_of}
 use Rattle.c_model.specs.Nodes.{load, put_whole}
 use Rattle.run_values.specs.Views.{value_in}

@@ -17,12 +17,12 @@ use Rattle.mem_spec.specs.Store.{Store}
 use Rattle.mem_spec.specs.Script.{Script, Give, Done, Raised, run, ◌>>=◌, ◌>>◌}
 use Rattle.mem_spec.specs.Acts.{load_int, shift}
 use Rattle.mem_spec.specs.Streams.{Io}
-use Rattle.prov_memory.specs.declared.value.Value.{Value as Held}
-use Rattle.prov_memory.specs.declared.value.Value.TheVariants as values
-use Rattle.prov_memory.specs.Loads.{IfPointer}
-use Rattle.prov_memory.specs.Memory.{Kept}
-use Rattle.prov_memory.specs.Made.{IsMade}
-use Rattle.prov_memory.proofs.AccessLemmas.{done_then, raised_then, raised_first}
+use Rattle.mem_objects.specs.declared.value.Value.{Value as Held}
+use Rattle.mem_objects.specs.declared.value.Value.TheVariants as values
+use Rattle.mem_objects.specs.Loads.{IfPointer}
+use Rattle.mem_objects.specs.Memory.{Kept}
+use Rattle.mem_objects.specs.Made.{IsMade}
+use Rattle.mem_objects.proofs.AccessLemmas.{done_then, raised_then, raised_first}
 use Rattle.c_model.specs.Nodes.{load, operated, outcome, or_zero, changed, check_change, distance, given_back, update_value}
 use Rattle.c_model.specs.Values.{Value, Int, Ptr, Pointer, pointer_of, pointer_value}
 use Rattle.run_values.specs.Views.{value_in}

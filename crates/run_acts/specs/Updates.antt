@@ -2,8 +2,8 @@
 use Rattle.std.specs.Prelude.{ℕ, ◌^◌, ◌<◌, ◌*◌, ℤ, unsigned_abs}
 use Rattle.c_typed.specs.declared.tree.Change.{Change}
 use Rattle.c_typed.specs.declared.tree.Change.TheVariants as change
-use Rattle.prov_memory.specs.Memory.{Kept, HasCell}
-use Rattle.prov_memory.specs.Sound.{IsSound}
+use Rattle.mem_objects.specs.Memory.{Kept, HasCell}
+use Rattle.mem_objects.specs.Sound.{IsSound}
 use Rattle.run_values.specs.declared.values.Pointer.{Pointer}
 
 -- so many elements of this size are fewer than 2^127 bytes

@@ -13,7 +13,7 @@ ghost use Rattle.c_typed.specs.declared.program.Function.{Function as Typed};
 ghost use Rattle.c_types.specs.Types.{CType, signature_of};
 ghost use Rattle.mem_spec.specs.Script.{run};
 ghost use Rattle.mem_spec.specs.Store.{Store};
-ghost use Rattle.prov_memory.specs.Memory.{Kept, act_of};
+ghost use Rattle.mem_objects.specs.Memory.{Kept, act_of};
 ghost use Rattle.run_acts.specs.Calls.{AreFunctions, AgreesAsCompatible, call_checks, checked_call, left_of, type_by};
 ghost use Rattle.run_values.specs.Kept.{IsOf};
 ghost use Rattle.run_values.specs.Views.{value_in, value_result};
@@ -32,7 +32,6 @@ pub fn callee(p: &Program, addr: u64, ty: &FuncTy) -> Result<u32, Clause>
         AgreesAsCompatible agree → (rows : List Row) (s : Store) →
         run rows (checked_call agree (type_by (signature_of ty.now)) (function_of fs 0 addr)) s ≡ act_of result [] s }
     // It is a function of the program, which the program defines or the library has.
-    ensures there { IfOk result (λ n. n < length p.now.functions) }
     ensures callable { IfOk result (λ n. (f : Typed) × (slice_get p.now.functions n ≡ Some f) × ((is_some f.body || is_some f.library) ≡ true)) }
 {
     let Some(number) = number_at(addr) else {

@@ -37,8 +37,8 @@ use Rattle.ub_base.specs.declared.names.Event.{Event}
 use Rattle.addr_map.specs.declared.map.Row.{Row}
 use Rattle.c_typed.specs.declared.tree.Place.{Place}
 use Rattle.mem_spec.specs.Script.{Raised, Script, run}
-use Rattle.prov_memory.specs.Keeps.{RowsStay}
-use Rattle.prov_memory.specs.Memory.{store_of}
+use Rattle.mem_objects.specs.Keeps.{RowsStay}
+use Rattle.mem_objects.specs.Memory.{store_of}
 use Rattle.c_model.specs.Completions.{completed_by}
 use Rattle.c_model.specs.Program.{tree_of}
 use Rattle.c_model.specs.Runs.{Outcome, Raises, Running, State, acted, entry_of, step}

@@ -46,8 +46,8 @@ use Rattle.c_typed.specs.Tree.{Tree, size}
 use Rattle.c_typed.specs.Tree as typed
 use Rattle.mem_spec.specs.Script.{Done as Acts_done, Script, run}
 use Rattle.mem_spec.specs.Store.{Store}
-use Rattle.prov_memory.specs.Keeps.{RowsStay}
-use Rattle.prov_memory.specs.Memory.{store_of}
+use Rattle.mem_objects.specs.Keeps.{RowsStay}
+use Rattle.mem_objects.specs.Memory.{store_of}
 use Rattle.completion_laws.specs.Listing.{CompletesListed, completed_of}
 use Rattle.c_model.specs.Completions.{completed_by}
 use Rattle.c_model.specs.ChoiceLaws.{IsClosed, IsNext, StaysClosed}

@@ -17,7 +17,7 @@ use Rattle.c_model.specs.World.{World}
 use Rattle.c_model.proofs.Decided.{place_eq, val_kind}
 use Rattle.c_model.proofs.Listed.{same_place_eq, same_place_itself}
 use Rattle.c_model.proofs.Ranks.{events_in}
-use Rattle.prov_memory.specs.Keeps.{Keeps}
+use Rattle.mem_objects.specs.Keeps.{Keeps}
 use Rattle.run_layout.specs.declared.steps.Act.{Act}
 use Rattle.run_layout.specs.declared.steps.Act.TheVariants as act
 use Rattle.run_layout.specs.declared.steps.Due.{Due}

@@ -43,9 +43,9 @@ use Rattle.c_typed.specs.declared.tree.Change.{Change}
 use Rattle.c_typed.specs.declared.tree.Place.{Place}
 use Rattle.c_typed.specs.Order.{is_val, place}
 use Rattle.c_typed.specs.Tree.{Tree, size}
-use Rattle.prov_memory.specs.declared.value.Value.{Value as Kept_value}
-use Rattle.prov_memory.specs.Keeps.{Keeps, RowsStay}
-use Rattle.prov_memory.specs.Memory.{store_of}
+use Rattle.mem_objects.specs.declared.value.Value.{Value as Kept_value}
+use Rattle.mem_objects.specs.Keeps.{Keeps, RowsStay}
+use Rattle.mem_objects.specs.Memory.{store_of}
 use Rattle.libc_spec.specs.Library.{LibValue}
 use Rattle.c_model.specs.Completions.{completed_by}
 use Rattle.c_model.specs.ChoiceLaws.{IsNext, StaysClosed}

@@ -19,10 +19,10 @@ use Rattle.mem_laws.specs.MoreCalls.{ArgumentsIn}
 use Rattle.mem_spec.specs.Script.{Act, Done, Unplaced}
 use Rattle.mem_spec.specs.Store.{Store}
 use Rattle.mem_spec.specs.Streams.{Io, total}
-use Rattle.prov_memory.specs.declared.value.Value.{Value as Kept_value}
-use Rattle.prov_memory.specs.Keeps.{RowsStay}
-use Rattle.prov_memory.specs.Memory.{Kept, store_of}
-use Rattle.prov_memory.specs.Sound.{IsSound}
+use Rattle.mem_objects.specs.declared.value.Value.{Value as Kept_value}
+use Rattle.mem_objects.specs.Keeps.{RowsStay}
+use Rattle.mem_objects.specs.Memory.{Kept, store_of}
+use Rattle.mem_objects.specs.Sound.{IsSound}
 use Rattle.libc_spec.specs.Library.{LibValue, heap_name, prov_in}
 use Rattle.libc_arguments.specs.Answers.{ArgumentsMade}
 use Rattle.libc_arguments.specs.Seen.{values_seen}

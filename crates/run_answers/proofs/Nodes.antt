@@ -27,7 +27,7 @@ use Rattle.c_typed.specs.Sites as sites
 use Rattle.c_typed.specs.Tree.{is_quiet, is_quiet_class, size, sizes, trees_of}
 use Rattle.c_typed.specs.Tree as order
 use Rattle.mem_spec.specs.Script.{Script, Give}
-use Rattle.prov_memory.specs.declared.value.Value.TheVariants as kept
+use Rattle.mem_objects.specs.declared.value.Value.TheVariants as kept
 use Rattle.c_model.specs.Nodes as nodes
 use Rattle.c_model.specs.Nodes.{act_of, bool_value, last_value}
 use Rattle.c_model.specs.Program as model

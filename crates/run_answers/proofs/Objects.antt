@@ -1,7 +1,7 @@
 -- A machine stands as it stood where there are more places for objects: those that were there are still there.
 use Rattle.std.proofs.Common.{◌≡◌, ℕ, ◌+◌, Bool, true, false, List, [], ◌∷◌, length, Option, Some, None, slice_get}
 use Rattle.c_typed.specs.declared.tree.Place.{Place}
-use Rattle.prov_memory.specs.declared.value.Value.{Value as Kept_value}
+use Rattle.mem_objects.specs.declared.value.Value.{Value as Kept_value}
 use Rattle.c_model.specs.Steps.{Scene, Local, Begun}
 use Rattle.c_model.specs.World.{World}
 use Rattle.run_control.specs.declared.work.Work.{Work}

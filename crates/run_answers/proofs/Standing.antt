@@ -23,12 +23,12 @@ use Rattle.c_typed.specs.declared.tree.Place.{Place}
 use Rattle.c_typed.specs.Order.{place}
 use Rattle.exposure.specs.declared.prov.Prov.TheVariants.{Whole}
 use Rattle.mem_spec.specs.Acts.{scalar}
-use Rattle.prov_memory.specs.declared.cell.Via.{Via}
-use Rattle.prov_memory.specs.declared.cell.Via.TheVariants as vias
-use Rattle.prov_memory.specs.Cells.{type_numbered}
-use Rattle.prov_memory.specs.Keeps.{GoesOn, IsNumbered, Keeps, RowsStay}
-use Rattle.prov_memory.specs.Memory.{Kept}
-use Rattle.prov_memory.specs.Stores.{Sees}
+use Rattle.mem_objects.specs.declared.cell.Via.{Via}
+use Rattle.mem_objects.specs.declared.cell.Via.TheVariants as vias
+use Rattle.mem_objects.specs.Cells.{type_numbered}
+use Rattle.mem_objects.specs.Keeps.{GoesOn, IsNumbered, Keeps, RowsStay}
+use Rattle.mem_objects.specs.Memory.{Kept}
+use Rattle.mem_objects.specs.Stores.{Sees}
 use Rattle.c_model.specs.Nodes.{content_bytes}
 use Rattle.c_model.specs.Steps.{Begun, Local, Scene, auto_name}
 use Rattle.c_model.specs.Values.{Value}

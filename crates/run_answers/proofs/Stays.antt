@@ -7,17 +7,17 @@ use Rattle.exposure.specs.declared.prov.Prov.{Prov}
 use Rattle.c_types.specs.declared.ty.Ty.{Ty}
 use Rattle.c_types.specs.Types.{CType, type_of}
 use Rattle.mem_spec.specs.Store.{TaggedByte}
-use Rattle.prov_memory.specs.declared.cell.Cell.{Cell}
-use Rattle.prov_memory.specs.declared.cell.State.{State}
-use Rattle.prov_memory.specs.declared.cell.State.TheVariants as states
-use Rattle.prov_memory.specs.declared.value.Value.{Value as Kept_value}
-use Rattle.prov_memory.specs.declared.value.Value.TheVariants as kept
-use Rattle.prov_memory.specs.Cells.{byte_in_state, integer_or, kind_numbered, tagged_in, type_numbered}
-use Rattle.prov_memory.specs.Keeps.{Keeps}
-use Rattle.prov_memory.specs.Memory.{Kept, CellsKnown}
-use Rattle.prov_memory.specs.Pieces.{seen}
-use Rattle.prov_memory.specs.Tags.{CellsTagged}
-use Rattle.prov_memory.proofs.ProvLemmas.{prov_more}
+use Rattle.mem_objects.specs.declared.cell.Cell.{Cell}
+use Rattle.mem_objects.specs.declared.cell.State.{State}
+use Rattle.mem_objects.specs.declared.cell.State.TheVariants as states
+use Rattle.mem_objects.specs.declared.value.Value.{Value as Kept_value}
+use Rattle.mem_objects.specs.declared.value.Value.TheVariants as kept
+use Rattle.mem_objects.specs.Cells.{byte_in_state, integer_or, kind_numbered, tagged_in, type_numbered}
+use Rattle.mem_objects.specs.Keeps.{Keeps}
+use Rattle.mem_objects.specs.Memory.{Kept, CellsKnown}
+use Rattle.mem_objects.specs.Pieces.{seen}
+use Rattle.mem_objects.specs.Tags.{CellsTagged}
+use Rattle.mem_objects.proofs.ProvLemmas.{prov_more}
 use Rattle.c_model.specs.Values.{Value, Whole}
 use Rattle.run_values.specs.Kept.{IsOf}
 use Rattle.run_values.specs.Views.{value_in}

@@ -5,7 +5,7 @@ use Rattle.ub_base.specs.declared.names.Item.{Item}
 use Rattle.ub_base.specs.declared.clause.Kind.TheVariants.{Body}
 use Rattle.c_typed.specs.Order.{place}
 use Rattle.c_typed.specs.declared.tree.Place.{Place}
-use Rattle.prov_memory.specs.declared.value.Value.{Value as Kept_value}
+use Rattle.mem_objects.specs.declared.value.Value.{Value as Kept_value}
 use Rattle.c_model.specs.Control.{Todo}
 use Rattle.c_model.specs.Runs.{Entry, State, depth_of}
 use Rattle.c_model.specs.Steps.{Scene, Local, Begun}

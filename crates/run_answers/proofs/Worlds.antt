@@ -14,15 +14,15 @@ use Rattle.mem_spec.specs.Bytes.{pointer_bytes}
 use Rattle.mem_spec.specs.Script.{run}
 use Rattle.mem_spec.specs.Streams.{Io}
 use Rattle.mem_laws.specs.MoreRows.{Extends, AreIn}
-use Rattle.prov_memory.specs.declared.cell.Cell.{Cell}
-use Rattle.prov_memory.specs.declared.cell.State.{State}
-use Rattle.prov_memory.specs.declared.cell.State.TheVariants as states
-use Rattle.prov_memory.specs.Cells.{byte_in_state, cell_at}
-use Rattle.prov_memory.specs.Held.{Held, held_of}
-use Rattle.prov_memory.specs.Made.{IsMade}
-use Rattle.prov_memory.specs.Memory.{Kept, store_of, tagged_in_object}
-use Rattle.prov_memory.specs.Sound.{IsSound}
-use Rattle.prov_memory.proofs.SoundLemmas.{objects_have_rows}
+use Rattle.mem_objects.specs.declared.cell.Cell.{Cell}
+use Rattle.mem_objects.specs.declared.cell.State.{State}
+use Rattle.mem_objects.specs.declared.cell.State.TheVariants as states
+use Rattle.mem_objects.specs.Cells.{byte_in_state, cell_at}
+use Rattle.mem_objects.specs.Held.{Held, held_of}
+use Rattle.mem_objects.specs.Made.{IsMade}
+use Rattle.mem_objects.specs.Memory.{Kept, store_of, tagged_in_object}
+use Rattle.mem_objects.specs.Sound.{IsSound}
+use Rattle.mem_objects.proofs.SoundLemmas.{objects_have_rows}
 use Rattle.c_typed.specs.declared.program.Constant.{Constant}
 use Rattle.c_typed.specs.declared.program.Content.{Content}
 use Rattle.c_typed.specs.declared.program.Content.TheVariants as content

@@ -6,7 +6,7 @@ use Rattle.addr_map.specs.declared.map.Row.{Row}
 use Rattle.c_types.specs.Types.{type_of}
 use Rattle.c_typed.specs.declared.program.Constant.{Constant}
 use Rattle.mem_spec.specs.Script.{Script, Give}
-use Rattle.prov_memory.specs.declared.value.Value.{Value as Kept_value}
+use Rattle.mem_objects.specs.declared.value.Value.{Value as Kept_value}
 use Rattle.c_model.specs.Nodes.{
   bool_value,
   call_value,

@@ -9,7 +9,7 @@ use Rattle.c_types.specs.declared.ty.FuncTy.{FuncTy}
 use Rattle.c_types.specs.declared.ty.Qual.{Qual}
 use Rattle.c_types.specs.Types.{CType, signature_of}
 use Rattle.c_typed.specs.declared.program.Function.{Function as Typed}
-use Rattle.prov_memory.specs.declared.value.Value.{Value as Kept_value}
+use Rattle.mem_objects.specs.declared.value.Value.{Value as Kept_value}
 use Rattle.c_model.specs.Program.{Function}
 use Rattle.c_model.specs.Steps.{function_of}
 use Rattle.c_model.specs.Values.{function_in}

@@ -9,7 +9,7 @@ use Rattle.c_model.specs.Steps.{Begun, Ev, is_done, taken_by, with_given}
 use Rattle.c_model.specs.Values.{Value}
 use Rattle.c_model.specs.World.{World}
 use Rattle.completion_laws.specs.Listing.{completed_of}
-use Rattle.prov_memory.specs.Keeps.{RowsStay}
+use Rattle.mem_objects.specs.Keeps.{RowsStay}
 use Rattle.run_control.specs.View.{Meaning}
 use Rattle.run_layout.specs.declared.steps.Due.{Due}
 use Rattle.run_layout.specs.declared.steps.Expression.{Expression}

@@ -41,10 +41,10 @@ use Rattle.c_types.specs.Shapes.{Form, form_of}
 use Rattle.c_types.specs.Types.{type_of}
 use Rattle.mem_spec.specs.Store.{Store, born}
 use Rattle.mem_spec.specs.Streams.{Io}
-use Rattle.prov_memory.specs.Keeps.{Keeps}
-use Rattle.prov_memory.specs.Made.{IsMade}
-use Rattle.prov_memory.specs.Memory.{IsBorn, cannot_create, store_of}
-use Rattle.prov_memory.specs.Sound.{IsSound}
+use Rattle.mem_objects.specs.Keeps.{Keeps}
+use Rattle.mem_objects.specs.Made.{IsMade}
+use Rattle.mem_objects.specs.Memory.{IsBorn, cannot_create, store_of}
+use Rattle.mem_objects.specs.Sound.{IsSound}
 use Rattle.c_typed.specs.declared.tree.Place.{Place}
 use Rattle.c_model.specs.Control.{Todo, Enter}
 use Rattle.c_model.specs.Program.{Decl}

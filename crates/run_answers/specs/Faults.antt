@@ -1,8 +1,8 @@
 -- Why an act isn't done.
 use Rattle.std.specs.Prelude.{ℕ}
 use Rattle.ub_base.specs.declared.names.Event.{Event}
-use Rattle.prov_memory.specs.declared.answer.MemFault.{MemFault}
-use Rattle.prov_memory.specs.declared.answer.MemFault.TheVariants as faults
+use Rattle.mem_objects.specs.declared.answer.MemFault.{MemFault}
+use Rattle.mem_objects.specs.declared.answer.MemFault.TheVariants as faults
 use Rattle.run_state.specs.declared.halt.Halt.{Halt}
 use Rattle.run_state.specs.declared.halt.Halt.TheVariants as halt
 use Rattle.run_answers.specs.declared.fault.Fault.{Fault}

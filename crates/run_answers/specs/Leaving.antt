@@ -6,8 +6,8 @@ use Rattle.ub_base.specs.declared.names.ObjName.{ObjName}
 use Rattle.ub_base.specs.declared.names.ObjName.TheVariants.{Argv}
 use Rattle.mem_spec.specs.Store.{Store, buried}
 use Rattle.mem_spec.specs.Streams.{Io}
-use Rattle.prov_memory.specs.Keeps.{Keeps}
-use Rattle.prov_memory.specs.Memory.{store_of}
+use Rattle.mem_objects.specs.Keeps.{Keeps}
+use Rattle.mem_objects.specs.Memory.{store_of}
 use Rattle.run_layout.specs.declared.steps.BlockCode.{BlockCode}
 use Rattle.run_state.specs.declared.halt.Halt.{Halt}
 use Rattle.run_state.specs.declared.halt.Halt.TheVariants.{NoMemory}

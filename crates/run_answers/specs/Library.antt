@@ -9,7 +9,7 @@ use Rattle.c_types.specs.Types.{CType}
 use Rattle.c_typed.specs.declared.program.Program.{Program}
 use Rattle.c_typed.specs.declared.tree.Place.{Place}
 use Rattle.mem_laws.specs.MoreRows.{Extends}
-use Rattle.prov_memory.specs.declared.value.Value.{Value as Kept_value}
+use Rattle.mem_objects.specs.declared.value.Value.{Value as Kept_value}
 use Rattle.libc_spec.specs.Library.{LibValue, heap_name}
 use Rattle.libc_arguments.specs.Seen.{values_seen}
 use Rattle.c_model.specs.Libraries.{passed, result}

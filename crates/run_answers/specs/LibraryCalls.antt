@@ -8,12 +8,12 @@ use Rattle.c_types.specs.declared.ty.Qual.{Qual}
 use Rattle.c_types.specs.Types.{CType, qualified_of}
 use Rattle.mem_spec.specs.Script.{Act, Done, Raised, Ended, Outside, Unplaced}
 use Rattle.mem_spec.specs.Streams.{total}
-use Rattle.prov_memory.specs.declared.answer.LibAnswer.{LibAnswer}
-use Rattle.prov_memory.specs.declared.answer.LibAnswer.TheVariants as answers
-use Rattle.prov_memory.specs.declared.value.Value.{Value as Kept_value}
-use Rattle.prov_memory.specs.Keeps.{AreBare, Keeps}
-use Rattle.prov_memory.specs.Sound.{IsSound}
-use Rattle.prov_memory.specs.Tags.{AreTagged}
+use Rattle.mem_objects.specs.declared.answer.LibAnswer.{LibAnswer}
+use Rattle.mem_objects.specs.declared.answer.LibAnswer.TheVariants as answers
+use Rattle.mem_objects.specs.declared.value.Value.{Value as Kept_value}
+use Rattle.mem_objects.specs.Keeps.{AreBare, Keeps}
+use Rattle.mem_objects.specs.Sound.{IsSound}
+use Rattle.mem_objects.specs.Tags.{AreTagged}
 use Rattle.libc_spec.specs.Library.{LibValue, argument_at, integer_in}
 use Rattle.libc_arguments.specs.Answers.{Answers, ArgumentsMade, GivesMade, are_sizes, is_size, size_places}
 use Rattle.libc_arguments.specs.Seen.{values_seen}

@@ -14,10 +14,10 @@ use Rattle.c_typed.specs.Lawful.{ContentIsLawful}
 use Rattle.mem_spec.specs.Acts.{Seen, base_in, has_place, scalar, suits_store, whole}
 use Rattle.mem_spec.specs.Agreement.{bytes_of_kind}
 use Rattle.mem_spec.specs.Script.{Script, Give, Done, Raised, run, ◌>>◌}
-use Rattle.prov_memory.specs.declared.value.Value.{Value as Kept_value}
-use Rattle.prov_memory.specs.Keeps.{Keeps, RowsStay}
-use Rattle.prov_memory.specs.Made.{IsMade}
-use Rattle.prov_memory.specs.Sound.{IsSound}
+use Rattle.mem_objects.specs.declared.value.Value.{Value as Kept_value}
+use Rattle.mem_objects.specs.Keeps.{Keeps, RowsStay}
+use Rattle.mem_objects.specs.Made.{IsMade}
+use Rattle.mem_objects.specs.Sound.{IsSound}
 use Rattle.c_model.specs.Nodes.{overlap_inexactly}
 use Rattle.c_model.specs.Program.{Decl}
 use Rattle.c_model.specs.Values as model

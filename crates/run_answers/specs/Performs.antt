@@ -9,12 +9,12 @@ use Rattle.c_typed.specs.Lawful.{ContentIsLawful}
 use Rattle.mem_spec.specs.Script.{Script, Done, Raised, run}
 use Rattle.mem_spec.specs.Store.{Store}
 use Rattle.mem_laws.specs.MoreRows.{Extends}
-use Rattle.prov_memory.specs.declared.value.Value.{Value as Kept_value}
-use Rattle.prov_memory.specs.Keeps.{Keeps}
-use Rattle.prov_memory.specs.Made.{IsMade}
-use Rattle.prov_memory.specs.Memory.{store_of}
-use Rattle.prov_memory.specs.Sound.{IsSound}
-use Rattle.prov_memory.specs.Tags.{AreTagged}
+use Rattle.mem_objects.specs.declared.value.Value.{Value as Kept_value}
+use Rattle.mem_objects.specs.Keeps.{Keeps}
+use Rattle.mem_objects.specs.Made.{IsMade}
+use Rattle.mem_objects.specs.Memory.{store_of}
+use Rattle.mem_objects.specs.Sound.{IsSound}
+use Rattle.mem_objects.specs.Tags.{AreTagged}
 use Rattle.c_model.specs.Nodes.{changed}
 use Rattle.c_model.specs.Values.{Value, Nothing, integer_of}
 use Rattle.run_values.specs.declared.values.Pointer.{Pointer as Place}

@@ -1,7 +1,7 @@
 -- The rows of objects stay whatever a pick does, in any world that the machine stands in before it (own).
 use Rattle.std.specs.Prelude.{◌≡◌, ℕ, [], Option, Result, Ok, Err}
 use Rattle.c_typed.specs.declared.tree.Place.{Place}
-use Rattle.prov_memory.specs.Keeps.{RowsStay}
+use Rattle.mem_objects.specs.Keeps.{RowsStay}
 use Rattle.c_model.specs.Runs.{State, canonical_pick}
 use Rattle.c_model.specs.Steps.{Begun, Ev}
 use Rattle.c_model.specs.World.{World}

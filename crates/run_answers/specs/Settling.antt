@@ -1,8 +1,8 @@
 -- A full expression is settled: its value is used (6.8p4).
 use Rattle.std.specs.Prelude.{◌≡◌, ℕ, true, false, List, [], ◌∷◌, slice_get, Option, Some, None}
 use Rattle.std.specs.Borrow.{Bor}
-use Rattle.prov_memory.specs.Memory.{Kept}
-use Rattle.prov_memory.specs.declared.value.Value.{Value as Kept_value}
+use Rattle.mem_objects.specs.Memory.{Kept}
+use Rattle.mem_objects.specs.declared.value.Value.{Value as Kept_value}
 use Rattle.c_model.specs.Control.{Todo, Break_here, Unused, ready_work, selected}
 use Rattle.c_model.specs.Control as todo
 use Rattle.c_model.specs.Program.{tree_of}

@@ -38,8 +38,8 @@ use Rattle.c_typed.specs.Order.{is_body}
 use Rattle.c_typed.specs.Tree.{is_quiet, size}
 use Rattle.mem_spec.specs.Store.{Store}
 use Rattle.mem_laws.specs.MoreRows.{Extends}
-use Rattle.prov_memory.specs.Keeps.{RowsStay}
-use Rattle.prov_memory.specs.Memory.{store_of}
+use Rattle.mem_objects.specs.Keeps.{RowsStay}
+use Rattle.mem_objects.specs.Memory.{store_of}
 use Rattle.c_model.specs.ChoiceLaws.{IsClosed}
 use Rattle.c_model.specs.Program.{tree_of}
 use Rattle.c_model.specs.Runs.{Outcome, Running, State, canonical_pick, entry_of, step}

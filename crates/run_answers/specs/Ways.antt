@@ -1,6 +1,6 @@
 -- A node that chooses among its operands does so by the value of its test (6.5.13p4, 6.5.14p4, 6.5.15p4).
 use Rattle.std.specs.Prelude.{◌≡◌, ℕ, Bool, List, Some, slice_get}
-use Rattle.prov_memory.specs.declared.value.Value.{Value as Kept_value}
+use Rattle.mem_objects.specs.declared.value.Value.{Value as Kept_value}
 use Rattle.c_model.specs.Values.{truth}
 use Rattle.run_values.specs.Views.{value_in}
 use Rattle.run_layout.specs.declared.steps.Choice.{Choice}

@@ -41,8 +41,8 @@ use Rattle.c_types.specs.Types.{CType, signature_of}
 use Rattle.c_typed.specs.declared.program.Function.{Function as Typed}
 use Rattle.mem_spec.specs.Script.{Give, require, run, ◌>>◌}
 use Rattle.mem_spec.specs.Store.{Store}
-use Rattle.prov_memory.specs.Memory.{Kept, act_of}
-use Rattle.prov_memory.specs.declared.value.Value.{Value as Kept_value}
+use Rattle.mem_objects.specs.Memory.{Kept, act_of}
+use Rattle.mem_objects.specs.declared.value.Value.{Value as Kept_value}
 use Rattle.c_model.specs.Program.{Function}
 use Rattle.c_model.specs.Steps.{function_of}
 use Rattle.c_model.specs.Values.{function_address, function_in}

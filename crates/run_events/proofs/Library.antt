@@ -15,13 +15,13 @@ use Rattle.c_types.specs.Types.{CType, qualified_of}
 use Rattle.mem_spec.specs.Script.{Act, Done, Raised, Ended, Outside, Unplaced}
 use Rattle.mem_spec.specs.Store.{Store}
 use Rattle.mem_spec.specs.Streams.{Io}
-use Rattle.prov_memory.specs.declared.answer.LibAnswer.{LibAnswer}
-use Rattle.prov_memory.specs.declared.answer.LibAnswer.TheVariants as answers
-use Rattle.prov_memory.specs.declared.value.Value.{Value as Kept_value}
-use Rattle.prov_memory.specs.Keeps.{Keeps}
-use Rattle.prov_memory.specs.Memory.{AreKnown, Kept, store_of}
-use Rattle.prov_memory.specs.Pieces.{IsMadeValue}
-use Rattle.prov_memory.specs.Tags.{AreTagged}
+use Rattle.mem_objects.specs.declared.answer.LibAnswer.{LibAnswer}
+use Rattle.mem_objects.specs.declared.answer.LibAnswer.TheVariants as answers
+use Rattle.mem_objects.specs.declared.value.Value.{Value as Kept_value}
+use Rattle.mem_objects.specs.Keeps.{Keeps}
+use Rattle.mem_objects.specs.Memory.{AreKnown, Kept, store_of}
+use Rattle.mem_objects.specs.Pieces.{IsMadeValue}
+use Rattle.mem_objects.specs.Tags.{AreTagged}
 use Rattle.prov_memory.proofs.KeepLemmas.{keeps_none}
 use Rattle.libc_spec.specs.Formatted.{printed_to_by, stored_by}
 use Rattle.libc_spec.specs.Library.{LibValue, number, pointer, nothing, argument_at, called, integer_in, prov_in, size_of_value}

@@ -7,11 +7,11 @@ use Rattle.addr_map.specs.declared.map.Row.{Row}
 use Rattle.c_types.specs.Types.{CType, type_of}
 use Rattle.mem_spec.specs.Script.{Done, Raised, run}
 use Rattle.mem_spec.specs.Streams.{Io}
-use Rattle.prov_memory.specs.declared.cell.Via.{Via}
-use Rattle.prov_memory.specs.declared.value.Value.{Value as Kept_value}
-use Rattle.prov_memory.specs.Keeps.{Keeps, IsNumbered}
-use Rattle.prov_memory.specs.Memory.{Kept, store_of}
-use Rattle.prov_memory.specs.Sound.{IsSound}
+use Rattle.mem_objects.specs.declared.cell.Via.{Via}
+use Rattle.mem_objects.specs.declared.value.Value.{Value as Kept_value}
+use Rattle.mem_objects.specs.Keeps.{Keeps, IsNumbered}
+use Rattle.mem_objects.specs.Memory.{Kept, store_of}
+use Rattle.mem_objects.specs.Sound.{IsSound}
 use Rattle.c_model.specs.Nodes.{put}
 use Rattle.c_model.specs.Values.{Nothing}
 use Rattle.run_values.specs.declared.values.Pointer.{Pointer}

@@ -8,15 +8,15 @@ use Rattle.c_types.specs.Types.{CType, type_of}
 use Rattle.c_typed.specs.declared.program.Constant.{Constant}
 use Rattle.mem_spec.specs.Script.{Script, Done, Raised, run}
 use Rattle.mem_spec.specs.Streams.{Io}
-use Rattle.prov_memory.specs.declared.answer.MemFault.{MemFault}
-use Rattle.prov_memory.specs.declared.answer.MemFault.TheVariants as faults
-use Rattle.prov_memory.specs.declared.cell.Via.{Via}
-use Rattle.prov_memory.specs.declared.value.Value.{Value as Kept_value}
-use Rattle.prov_memory.specs.Keeps.{Keeps, IsNumbered, RowsStay}
-use Rattle.prov_memory.specs.Loads.{IfRaise}
-use Rattle.prov_memory.specs.Made.{IsMade}
-use Rattle.prov_memory.specs.Memory.{Kept, store_of}
-use Rattle.prov_memory.specs.Sound.{IsSound}
+use Rattle.mem_objects.specs.declared.answer.MemFault.{MemFault}
+use Rattle.mem_objects.specs.declared.answer.MemFault.TheVariants as faults
+use Rattle.mem_objects.specs.declared.cell.Via.{Via}
+use Rattle.mem_objects.specs.declared.value.Value.{Value as Kept_value}
+use Rattle.mem_objects.specs.Keeps.{Keeps, IsNumbered, RowsStay}
+use Rattle.mem_objects.specs.Loads.{IfRaise}
+use Rattle.mem_objects.specs.Made.{IsMade}
+use Rattle.mem_objects.specs.Memory.{Kept, store_of}
+use Rattle.mem_objects.specs.Sound.{IsSound}
 use Rattle.c_model.specs.Nodes.{fill, put}
 use Rattle.c_model.specs.Program.{Filling as Filled}
 use Rattle.c_model.specs.Values as model

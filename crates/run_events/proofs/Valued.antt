@@ -23,14 +23,14 @@ use Rattle.c_typed.specs.declared.tree.UnOp.TheVariants as unary
 use Rattle.mem_spec.specs.Script.{Script, Give, Done, Raised, run}
 use Rattle.mem_spec.specs.Store.{Store}
 use Rattle.mem_spec.specs.Streams.{Io}
-use Rattle.prov_memory.specs.declared.value.Value.{Value as Kept_value}
-use Rattle.prov_memory.specs.declared.value.Value.TheVariants as kept
-use Rattle.prov_memory.specs.declared.answer.MemFault.{MemFault}
-use Rattle.prov_memory.specs.declared.answer.MemFault.TheVariants as faults
-use Rattle.prov_memory.specs.Keeps.{Keeps}
-use Rattle.prov_memory.specs.Loads.{IfRaise}
-use Rattle.prov_memory.specs.Memory.{Kept, store_of}
-use Rattle.prov_memory.specs.Sound.{IsSound}
+use Rattle.mem_objects.specs.declared.value.Value.{Value as Kept_value}
+use Rattle.mem_objects.specs.declared.value.Value.TheVariants as kept
+use Rattle.mem_objects.specs.declared.answer.MemFault.{MemFault}
+use Rattle.mem_objects.specs.declared.answer.MemFault.TheVariants as faults
+use Rattle.mem_objects.specs.Keeps.{Keeps}
+use Rattle.mem_objects.specs.Loads.{IfRaise}
+use Rattle.mem_objects.specs.Memory.{Kept, store_of}
+use Rattle.mem_objects.specs.Sound.{IsSound}
 use Rattle.c_model.specs.Nodes.{bool_value, changed, given_back, int_outcome, unary_value, update_value}
 use Rattle.c_model.specs.Nodes as nodes
 use Rattle.c_model.specs.Values as model

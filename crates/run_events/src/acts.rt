@@ -3,8 +3,8 @@ ghost use Rattle.std.specs.Prelude.{◌≡◌, ◌<◌, ℕ, true, false, not, L
 ghost use Rattle.addr_map.specs.declared.map.Row.{Row};
 ghost use Rattle.c_model.specs.Nodes.{bool_value};
 ghost use Rattle.c_model.specs.Values as model;
-ghost use Rattle.prov_memory.specs.Keeps.{RowsStay};
-ghost use Rattle.prov_memory.specs.Memory.{Kept};
+ghost use Rattle.mem_objects.specs.Keeps.{RowsStay};
+ghost use Rattle.mem_objects.specs.Memory.{Kept};
 ghost use Rattle.run_values.specs.Kept.{IsOf};
 ghost use Rattle.run_values.specs.Views.{value_in};
 ghost use Rattle.run_layout.specs.Named.{IsNamed};

@@ -2,8 +2,8 @@
 ghost use Rattle.std.specs.Prelude.{◌≡◌, ◌<◌, false, length, OnErr, OnOk, IfOk, Some, slice_get};
 ghost use Rattle.c_model.specs.Values.{function_in};
 ghost use Rattle.libc_arguments.specs.Answers.{gives_value};
-ghost use Rattle.prov_memory.specs.Memory.{Kept};
-ghost use Rattle.prov_memory.specs.declared.value.Value.{Value as Kept_value};
+ghost use Rattle.mem_objects.specs.Memory.{Kept};
+ghost use Rattle.mem_objects.specs.declared.value.Value.{Value as Kept_value};
 ghost use Rattle.run_values.specs.Views.{value_in};
 ghost use Rattle.run_state.specs.Operands.{operand_in};
 ghost use Rattle.run_answers.specs.Calling.{library_in, Calls};

@@ -1,7 +1,7 @@
 // The acts that load: what an object holds goes to the room of the node (6.3.2.1p2).
 ghost use Rattle.std.specs.Prelude.{◌≡◌, ◌<◌, None, Some, OnErr};
-ghost use Rattle.prov_memory.specs.Keeps.{RowsStay};
-ghost use Rattle.prov_memory.specs.Memory.{HasCell};
+ghost use Rattle.mem_objects.specs.Keeps.{RowsStay};
+ghost use Rattle.mem_objects.specs.Memory.{HasCell};
 ghost use Rattle.run_values.specs.Views.{pointer_at};
 ghost use Rattle.c_typed.specs.declared.tree.Access.TheVariants as accesses;
 ghost use Rattle.run_acts.specs.Loads.{integer_act};

@@ -1,7 +1,7 @@
 // The acts of arithmetic, conversions and comparisons (6.3, 6.5.3 to 6.5.9).
 ghost use Rattle.std.specs.Prelude.{◌≡◌, ◌<◌, true, false, OnErr};
 ghost use Rattle.c_model.specs.Nodes.{in_order};
-ghost use Rattle.prov_memory.specs.Keeps.{RowsStay};
+ghost use Rattle.mem_objects.specs.Keeps.{RowsStay};
 ghost use Rattle.c_typed.specs.declared.tree.Conversion.TheVariants as conversions;
 ghost use Rattle.run_layout.specs.declared.steps.Act.TheVariants as acts;
 ghost use Rattle.run_answers.specs.Acts.{AreGiven};

@@ -1,6 +1,6 @@
 // The acts that make or measure pointers: moves, members, distances, parts of values (6.5.6, 6.5.2.3).
 ghost use Rattle.std.specs.Prelude.{◌<◌, OnErr};
-ghost use Rattle.prov_memory.specs.Keeps.{RowsStay};
+ghost use Rattle.mem_objects.specs.Keeps.{RowsStay};
 ghost use Rattle.run_layout.specs.declared.steps.Act.TheVariants as acts;
 ghost use Rattle.run_answers.specs.Acts.{AreGiven};
 ghost use Rattle.run_answers.specs.Performs.{CanAct, ChangesOnly, Does};

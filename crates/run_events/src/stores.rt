@@ -2,9 +2,9 @@
 ghost use Rattle.std.specs.Prelude.{◌≡◌, ◌+◌, ◌<◌, List, length, slice_get, None, Some, IfOk, OnErr};
 ghost use Rattle.addr_map.specs.declared.map.Row.{Row};
 ghost use Rattle.c_model.specs.Values as model;
-ghost use Rattle.prov_memory.specs.Made.{IsMade};
-ghost use Rattle.prov_memory.specs.Keeps.{Keeps, RowsStay};
-ghost use Rattle.prov_memory.specs.Sound.{IsSound};
+ghost use Rattle.mem_objects.specs.Made.{IsMade};
+ghost use Rattle.mem_objects.specs.Keeps.{Keeps, RowsStay};
+ghost use Rattle.mem_objects.specs.Sound.{IsSound};
 ghost use Rattle.run_values.specs.Kept.{IsOf};
 ghost use Rattle.run_values.specs.Views.{value_in, pointer_at};
 ghost use Rattle.run_layout.specs.declared.steps.Operand.TheVariants as operands;

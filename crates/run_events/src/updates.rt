@@ -1,6 +1,6 @@
 // Updates: their value, and what they will store.
 ghost use Rattle.std.specs.Prelude.{◌≡◌, OnErr};
-ghost use Rattle.prov_memory.specs.Keeps.{RowsStay};
+ghost use Rattle.mem_objects.specs.Keeps.{RowsStay};
 ghost use Rattle.run_layout.specs.declared.steps.Act.TheVariants as acts;
 ghost use Rattle.run_answers.specs.Acts.{AreGiven};
 ghost use Rattle.run_answers.specs.Performs.{CanAct, ChangesOnly, Does};

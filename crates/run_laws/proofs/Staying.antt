@@ -15,7 +15,7 @@ use Rattle.c_typed.specs.declared.tree.Typed.{Typed, out-Typed}
 use Rattle.c_typed.specs.Order.{place, same_place}
 use Rattle.c_typed.specs.Sites.{Head, sites}
 use Rattle.mem_spec.specs.Store.{Store}
-use Rattle.prov_memory.specs.Memory.{store_of}
+use Rattle.mem_objects.specs.Memory.{store_of}
 use Rattle.mem_spec.specs.Script.{Script, Done as Acts_done, run}
 use Rattle.c_model.specs.Nodes.{act_of}
 use Rattle.c_model.specs.Program as model

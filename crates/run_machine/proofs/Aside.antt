@@ -1,7 +1,7 @@
 -- What operands give is the same whatever is open in the top frame, whatever result it has, and whatever was touched.
 use Rattle.std.proofs.Common.{◌≡◌, refl, List, Option}
 use Rattle.ub_base.specs.declared.names.Item.{Item}
-use Rattle.prov_memory.specs.declared.value.Value.{Value}
+use Rattle.mem_objects.specs.declared.value.Value.{Value}
 use Rattle.run_layout.specs.declared.steps.Operand.{Operand}
 use Rattle.run_layout.specs.declared.steps.Operand.TheVariants as operand
 use Rattle.run_state.specs.declared.machine.Machine.{Machine}

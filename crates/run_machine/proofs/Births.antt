@@ -53,12 +53,12 @@ use Rattle.mem_spec.specs.Acts.{base_in, create, has_place}
 use Rattle.mem_spec.specs.Script.{Act, Bear, Done, Give, Misplace, Unplaced, Script, run, touch, touched, ◌>>◌}
 use Rattle.mem_spec.specs.Store.{Life, Store, born}
 use Rattle.mem_spec.specs.Streams.{Io}
-use Rattle.prov_memory.specs.Held.{Held, held_of}
-use Rattle.prov_memory.specs.Keeps.{Keeps}
-use Rattle.prov_memory.specs.Made.{IsMade}
-use Rattle.prov_memory.specs.Memory.{AreKnown, IsBorn, Kept, cannot_create, life_in, no_place, store_of}
-use Rattle.prov_memory.specs.Sound.{IsSound}
-use Rattle.prov_memory.proofs.AccessLemmas.{before}
+use Rattle.mem_objects.specs.Held.{Held, held_of}
+use Rattle.mem_objects.specs.Keeps.{Keeps}
+use Rattle.mem_objects.specs.Made.{IsMade}
+use Rattle.mem_objects.specs.Memory.{AreKnown, IsBorn, Kept, cannot_create, life_in, no_place, store_of}
+use Rattle.mem_objects.specs.Sound.{IsSound}
+use Rattle.mem_objects.proofs.AccessLemmas.{before}
 use Rattle.prov_memory.proofs.KeepLemmas.{keeps_none, keeps_then}
 use Rattle.c_model.specs.Program.{Decl}
 use Rattle.c_model.specs.Steps.{Scene, auto_name, bear_all, object_kind}

@@ -50,11 +50,11 @@ use Rattle.c_typed.specs.declared.tree.Place.{Place}
 use Rattle.mem_spec.specs.Acts.{base_in, has_place}
 use Rattle.mem_spec.specs.Store.{Store}
 use Rattle.mem_spec.specs.Streams.{Io}
-use Rattle.prov_memory.specs.declared.value.Value.{Value as Kept_value}
-use Rattle.prov_memory.specs.Keeps.{Keeps, RowsStay}
-use Rattle.prov_memory.specs.Made.{IsMade}
-use Rattle.prov_memory.specs.Memory.{store_of}
-use Rattle.prov_memory.proofs.AccessLemmas.{before}
+use Rattle.mem_objects.specs.declared.value.Value.{Value as Kept_value}
+use Rattle.mem_objects.specs.Keeps.{Keeps, RowsStay}
+use Rattle.mem_objects.specs.Made.{IsMade}
+use Rattle.mem_objects.specs.Memory.{store_of}
+use Rattle.mem_objects.proofs.AccessLemmas.{before}
 use Rattle.c_model.specs.Control as todo
 use Rattle.c_model.specs.Control.{Todo, ready_work}
 use Rattle.c_model.specs.Program.{Decl}

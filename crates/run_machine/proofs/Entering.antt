@@ -44,9 +44,9 @@ use Rattle.mem_spec.specs.Acts.{has_place}
 use Rattle.mem_spec.specs.Script.{Done, Give, Script, Unplaced, run, ◌>>◌}
 use Rattle.mem_spec.specs.Store.{Store}
 use Rattle.mem_spec.specs.Streams.{Io}
-use Rattle.prov_memory.specs.Keeps.{RowsStay}
-use Rattle.prov_memory.specs.Memory.{Kept, cannot_create, store_of}
-use Rattle.prov_memory.proofs.AccessLemmas.{before}
+use Rattle.mem_objects.specs.Keeps.{RowsStay}
+use Rattle.mem_objects.specs.Memory.{Kept, cannot_create, store_of}
+use Rattle.mem_objects.proofs.AccessLemmas.{before}
 use Rattle.c_model.specs.Control as todo
 use Rattle.c_model.specs.Control.{Todo, ready_work}
 use Rattle.c_model.specs.Nodes.{put}

@@ -48,19 +48,19 @@ use Rattle.c_typed.specs.declared.tree.Target.{Target}
 use Rattle.c_typed.specs.declared.tree.Target.TheVariants as targets
 use Rattle.mem_spec.specs.Acts.{scalar}
 use Rattle.mem_spec.specs.Store.{Byte, TaggedByte, written}
-use Rattle.prov_memory.specs.declared.cell.Cell.{Cell}
-use Rattle.prov_memory.specs.declared.cell.State.{State as Byte_state}
-use Rattle.prov_memory.specs.declared.cell.State.TheVariants as states
-use Rattle.prov_memory.specs.declared.cell.Via.{Via}
-use Rattle.prov_memory.specs.declared.cell.Via.TheVariants as vias
-use Rattle.prov_memory.specs.declared.value.Value.{Value as Kept_value}
-use Rattle.prov_memory.specs.declared.value.Value.TheVariants as values
-use Rattle.prov_memory.specs.Cells.{byte_in_state, tagged_in, type_numbered}
-use Rattle.prov_memory.specs.Keeps.{IsNumbered, Keeps, RowsStay}
-use Rattle.prov_memory.specs.Memory.{CellsKnown, Kept}
-use Rattle.prov_memory.specs.Pieces.{seen}
-use Rattle.prov_memory.specs.Stores.{Sees}
-use Rattle.prov_memory.proofs.ProvLemmas.{prov_more}
+use Rattle.mem_objects.specs.declared.cell.Cell.{Cell}
+use Rattle.mem_objects.specs.declared.cell.State.{State as Byte_state}
+use Rattle.mem_objects.specs.declared.cell.State.TheVariants as states
+use Rattle.mem_objects.specs.declared.cell.Via.{Via}
+use Rattle.mem_objects.specs.declared.cell.Via.TheVariants as vias
+use Rattle.mem_objects.specs.declared.value.Value.{Value as Kept_value}
+use Rattle.mem_objects.specs.declared.value.Value.TheVariants as values
+use Rattle.mem_objects.specs.Cells.{byte_in_state, tagged_in, type_numbered}
+use Rattle.mem_objects.specs.Keeps.{IsNumbered, Keeps, RowsStay}
+use Rattle.mem_objects.specs.Memory.{CellsKnown, Kept}
+use Rattle.mem_objects.specs.Pieces.{seen}
+use Rattle.mem_objects.specs.Stores.{Sees}
+use Rattle.mem_objects.proofs.ProvLemmas.{prov_more}
 use Rattle.c_model.specs.Nodes.{content_bytes}
 use Rattle.c_model.specs.Steps.{Begun, Local, Scene, auto_name}
 use Rattle.c_model.specs.Values.{Value, Whole as Block_value}

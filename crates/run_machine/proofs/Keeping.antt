@@ -9,8 +9,8 @@ use Rattle.ub_base.specs.declared.names.Event.{Event}
 use Rattle.ub_base.specs.declared.names.Item.{Item}
 use Rattle.c_typed.specs.declared.tree.Place.{Place}
 use Rattle.c_typed.specs.Order.{place}
-use Rattle.prov_memory.specs.declared.value.Value.{Value as Kept_value}
-use Rattle.prov_memory.specs.Memory.{Kept}
+use Rattle.mem_objects.specs.declared.value.Value.{Value as Kept_value}
+use Rattle.mem_objects.specs.Memory.{Kept}
 use Rattle.run_control.specs.declared.statement.Switch.{Switch}
 use Rattle.run_control.specs.declared.work.Use.{Use}
 use Rattle.run_control.specs.declared.work.Use.TheVariants as for_use

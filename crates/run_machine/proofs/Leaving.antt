@@ -7,8 +7,8 @@ use Rattle.mem_spec.specs.Acts.{kill}
 use Rattle.mem_spec.specs.Script.{Act, Done, run}
 use Rattle.mem_spec.specs.Store.{Store, buried}
 use Rattle.mem_spec.specs.Streams.{Io}
-use Rattle.prov_memory.specs.Keeps.{Keeps}
-use Rattle.prov_memory.specs.Memory.{Kept, store_of}
+use Rattle.mem_objects.specs.Keeps.{Keeps}
+use Rattle.mem_objects.specs.Memory.{Kept, store_of}
 use Rattle.prov_memory.proofs.KeepLemmas.{keeps_none, keeps_then}
 use Rattle.run_state.specs.declared.machine.Local.{Local}
 use Rattle.run_state.specs.declared.machine.Machine.{Machine}

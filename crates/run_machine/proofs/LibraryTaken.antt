@@ -44,12 +44,12 @@ use Rattle.mem_laws.specs.MoreRows.{Extends}
 use Rattle.mem_spec.specs.Script.{Act, Ended, Outside, Raised, Script, Unplaced, require, run, ◌>>◌}
 use Rattle.mem_spec.specs.Store.{Store}
 use Rattle.mem_spec.specs.Streams.{Io}
-use Rattle.prov_memory.specs.declared.value.Value.{Value as Kept_value}
-use Rattle.prov_memory.specs.declared.value.Value.TheVariants as values
-use Rattle.prov_memory.specs.Keeps.{Keeps}
-use Rattle.prov_memory.specs.Made.{IsMade}
-use Rattle.prov_memory.specs.Memory.{Kept}
-use Rattle.prov_memory.specs.Pieces.{IsMadeValue}
+use Rattle.mem_objects.specs.declared.value.Value.{Value as Kept_value}
+use Rattle.mem_objects.specs.declared.value.Value.TheVariants as values
+use Rattle.mem_objects.specs.Keeps.{Keeps}
+use Rattle.mem_objects.specs.Made.{IsMade}
+use Rattle.mem_objects.specs.Memory.{Kept}
+use Rattle.mem_objects.specs.Pieces.{IsMadeValue}
 use Rattle.libc_spec.specs.Library.{LibValue, heap_name, prov_in}
 use Rattle.libc_arguments.specs.Answers.{ArgumentsMade}
 use Rattle.libc_arguments.specs.Seen.{value_seen, values_seen}

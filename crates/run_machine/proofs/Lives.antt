@@ -8,14 +8,14 @@ use Rattle.c_typed.specs.declared.tree.Access.TheVariants as access
 use Rattle.c_typed.specs.declared.tree.Place.{Place}
 use Rattle.exposure.specs.declared.prov.Prov.TheVariants.{Whole}
 use Rattle.mem_spec.specs.Acts.{scalar}
-use Rattle.prov_memory.specs.declared.cell.Via.{Via}
-use Rattle.prov_memory.specs.declared.cell.Via.TheVariants as vias
-use Rattle.prov_memory.specs.declared.value.Value.{Value as Kept_value}
-use Rattle.prov_memory.specs.declared.value.Value.TheVariants as values
-use Rattle.prov_memory.specs.Held.{Held}
-use Rattle.prov_memory.specs.Keeps.{Keeps}
-use Rattle.prov_memory.specs.Memory.{Kept, store_of}
-use Rattle.prov_memory.specs.Stores.{Sees}
+use Rattle.mem_objects.specs.declared.cell.Via.{Via}
+use Rattle.mem_objects.specs.declared.cell.Via.TheVariants as vias
+use Rattle.mem_objects.specs.declared.value.Value.{Value as Kept_value}
+use Rattle.mem_objects.specs.declared.value.Value.TheVariants as values
+use Rattle.mem_objects.specs.Held.{Held}
+use Rattle.mem_objects.specs.Keeps.{Keeps}
+use Rattle.mem_objects.specs.Memory.{Kept, store_of}
+use Rattle.mem_objects.specs.Stores.{Sees}
 use Rattle.c_model.specs.Program.{Filling as Filled}
 use Rattle.c_model.specs.Runs.{State}
 use Rattle.c_model.specs.Steps.{Scene, Local, Begun, auto_name}

@@ -16,10 +16,10 @@ use Rattle.mem_spec.specs.Acts.{base_in}
 use Rattle.mem_spec.specs.Script.{Do, Done, Exceed, Finish, Give, Misplace, Raise, Raised, Script, run, touched, ◌>>◌}
 use Rattle.mem_spec.specs.Store.{Store}
 use Rattle.mem_laws.specs.MoreRows.{BearsIn}
-use Rattle.prov_memory.specs.declared.value.Value.{Value as Kept_value}
-use Rattle.prov_memory.specs.Keeps.{Keeps, RowsStay}
-use Rattle.prov_memory.specs.Memory.{Kept}
-use Rattle.prov_memory.proofs.AccessLemmas.{after, before, done_then, run_bind}
+use Rattle.mem_objects.specs.declared.value.Value.{Value as Kept_value}
+use Rattle.mem_objects.specs.Keeps.{Keeps, RowsStay}
+use Rattle.mem_objects.specs.Memory.{Kept}
+use Rattle.mem_objects.proofs.AccessLemmas.{after, before, done_then, run_bind}
 use Rattle.c_model.specs.Nodes.{put}
 use Rattle.c_model.specs.Program.{Decl}
 use Rattle.c_model.specs.Runs.{Entry, State}

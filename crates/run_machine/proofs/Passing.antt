@@ -21,12 +21,12 @@ use Rattle.mem_spec.specs.Acts as acts
 use Rattle.mem_spec.specs.Acts.{Accessed, Seen, check_writable, declared_of, is_aligned, is_constant, is_literal, scalar, stored_from, suits_store, whole}
 use Rattle.mem_laws.proofs.MoreActs.{write_all}
 use Rattle.mem_laws.specs.MoreRows.{Extends}
-use Rattle.prov_memory.specs.declared.value.Value.{Value as Kept_value}
-use Rattle.prov_memory.specs.Keeps.{Keeps, RowsStay}
-use Rattle.prov_memory.specs.Made.{IsMade}
-use Rattle.prov_memory.specs.Memory.{Kept}
-use Rattle.prov_memory.specs.Sound.{IsSound}
-use Rattle.prov_memory.proofs.AccessLemmas.{after, before, done_then, run_bind}
+use Rattle.mem_objects.specs.declared.value.Value.{Value as Kept_value}
+use Rattle.mem_objects.specs.Keeps.{Keeps, RowsStay}
+use Rattle.mem_objects.specs.Made.{IsMade}
+use Rattle.mem_objects.specs.Memory.{Kept}
+use Rattle.mem_objects.specs.Sound.{IsSound}
+use Rattle.mem_objects.proofs.AccessLemmas.{after, before, done_then, run_bind}
 use Rattle.prov_memory.proofs.KeepLemmas.{keeps_none, keeps_then}
 use Rattle.c_model.specs.Nodes.{overlap_inexactly, put, put_whole}
 use Rattle.c_model.specs.Values as model

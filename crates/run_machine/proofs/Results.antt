@@ -6,9 +6,9 @@ use Rattle.std.proofs.lemmas.Option.{slice_get-map}
 use Rattle.c_types.specs.Types.{CType, void, signature_of}
 use Rattle.c_typed.specs.declared.program.Function.{Function}
 use Rattle.c_typed.specs.declared.program.Program.{Program}
-use Rattle.prov_memory.specs.declared.value.Value.{Value as Kept_value}
-use Rattle.prov_memory.specs.declared.value.Value.TheVariants as kept
-use Rattle.prov_memory.specs.Memory.{Kept}
+use Rattle.mem_objects.specs.declared.value.Value.{Value as Kept_value}
+use Rattle.mem_objects.specs.declared.value.Value.TheVariants as kept
+use Rattle.mem_objects.specs.Memory.{Kept}
 use Rattle.c_model.specs.Program as model
 use Rattle.c_model.specs.Steps.{Local, left_by, result_of}
 use Rattle.c_model.specs.Values.{Value, Int, Missing, Nothing}

@@ -41,7 +41,7 @@ use Rattle.ub_base.specs.declared.clause.Cause.{Cause}
 use Rattle.c_typed.specs.declared.tree.Place.{Place}
 use Rattle.c_typed.specs.Order.{is_due, place, same_place}
 use Rattle.c_typed.specs.declared.program.Program.{Program}
-use Rattle.prov_memory.specs.declared.value.Value.{Value as Kept_value}
+use Rattle.mem_objects.specs.declared.value.Value.{Value as Kept_value}
 use Rattle.mem_spec.specs.Store.{Store}
 use Rattle.mem_spec.specs.Streams.{Outputs}
 use Rattle.c_model.specs.Nodes.{amount, new_value}

@@ -28,8 +28,8 @@ use Rattle.std.specs.Prelude.{is_some}
 use Rattle.ub_base.specs.declared.clause.Kind.TheVariants.{Val, Body}
 use Rattle.c_typed.specs.declared.tree.Place.{Place}
 use Rattle.c_typed.specs.Order.{place}
-use Rattle.prov_memory.specs.declared.value.Value.{Value as Kept_value}
-use Rattle.prov_memory.specs.Memory.{Kept}
+use Rattle.mem_objects.specs.declared.value.Value.{Value as Kept_value}
+use Rattle.mem_objects.specs.Memory.{Kept}
 use Rattle.c_model.specs.Steps.{Scene, Local, Begun}
 use Rattle.c_model.specs.Values.{Value}
 use Rattle.c_model.specs.World.{World}

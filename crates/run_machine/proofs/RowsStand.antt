@@ -2,8 +2,8 @@
 use Rattle.std.proofs.Common.{◌≡◌, ◌+◌, ◌-◌, ◌^◌, min, ℕ, refl, sym, ap, ◌∙◌, subst, List, length, slice_get, Option, Some, None, Result, Ok, Err}
 use Rattle.std.specs.Borrow.{Bor}
 use Rattle.c_typed.specs.declared.tree.Place.{Place}
-use Rattle.prov_memory.specs.Keeps.{RowsStay}
-use Rattle.prov_memory.specs.Memory.{Kept}
+use Rattle.mem_objects.specs.Keeps.{RowsStay}
+use Rattle.mem_objects.specs.Memory.{Kept}
 use Rattle.c_model.specs.Control.{ready_work}
 use Rattle.c_model.specs.Runs.{State}
 use Rattle.c_model.specs.World.{World}

@@ -2,7 +2,7 @@
 use Rattle.std.proofs.Common.{◌≡◌, ◌⊎◌, inl, inr, ℕ, false, refl, sym, ap, ◌∙◌, subst, List, Option, Result, Ok, Err, OnErr}
 use Rattle.ub_base.specs.declared.names.Event.{Event}
 use Rattle.addr_map.specs.declared.map.Row.{Row}
-use Rattle.prov_memory.specs.Keeps.{RowsStay}
+use Rattle.mem_objects.specs.Keeps.{RowsStay}
 use Rattle.c_model.specs.Runs.{State}
 use Rattle.c_model.specs.Steps.{Begun}
 use Rattle.c_model.specs.World.{World}

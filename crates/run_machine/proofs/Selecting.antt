@@ -3,8 +3,8 @@ use Rattle.std.proofs.Common.{◌≡◌, ℕ, Bool, true, false, refl, sym, ap, 
 use Rattle.std.proofs.lemmas.Option.{same_Some}
 use Rattle.std.specs.Borrow.{Bor}
 use Rattle.std.specs.Prelude.{OnOk, Result, Ok, Err}
-use Rattle.prov_memory.specs.Memory.{Kept}
-use Rattle.prov_memory.specs.declared.value.Value.{Value as Kept_value}
+use Rattle.mem_objects.specs.Memory.{Kept}
+use Rattle.mem_objects.specs.declared.value.Value.{Value as Kept_value}
 use Rattle.c_model.specs.Control as todo
 use Rattle.c_model.specs.Control.{Todo, Break_here, moved_in, selected, work_after}
 use Rattle.c_model.specs.Program.{Stmt}

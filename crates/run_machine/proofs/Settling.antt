@@ -26,8 +26,8 @@ use Rattle.std.proofs.Common.{
 use Rattle.std.specs.Borrow.{Bor}
 use Rattle.std.specs.Prelude.{is_none, is_some, if◌then◌else◌, OnOk, Result, Ok, Err}
 use Rattle.mem_spec.specs.Script.{run}
-use Rattle.prov_memory.specs.Memory.{Kept}
-use Rattle.prov_memory.specs.declared.value.Value.{Value as Kept_value}
+use Rattle.mem_objects.specs.Memory.{Kept}
+use Rattle.mem_objects.specs.declared.value.Value.{Value as Kept_value}
 use Rattle.c_model.specs.Control as todo
 use Rattle.c_model.specs.Control.{Todo, Unused, ready_work, work_after}
 use Rattle.c_model.specs.Moves.{End, Move, Stay}

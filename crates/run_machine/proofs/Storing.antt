@@ -52,7 +52,7 @@ use Rattle.mem_spec.specs.Agreement.{bytes_of_kind}
 use Rattle.mem_spec.specs.Bytes.{number_bytes, pointer_bytes}
 use Rattle.mem_spec.specs.Script.{Act, Done, Ended, Give, Outside, Raised, Script, Unplaced, require, run, touched, ◌>>◌}
 use Rattle.mem_spec.specs.Store.{Life, Store, TaggedByte, is_live, with_bytes}
-use Rattle.prov_memory.proofs.AccessLemmas.{after, before, run_bind}
+use Rattle.mem_objects.proofs.AccessLemmas.{after, before, run_bind}
 use Rattle.c_model.specs.Nodes.{overlap_inexactly, put}
 use Rattle.c_model.specs.Program.{Decl}
 use Rattle.c_model.specs.Steps.{Scene, auto_name, object_at, object_kind, pass_all}

@@ -36,10 +36,10 @@ use Rattle.addr_map.specs.Rows.{row_of}
 use Rattle.mem_spec.specs.Acts.{size_in, unwrite}
 use Rattle.mem_spec.specs.Script.{Act, Done, Raised, Ended, Outside, Unplaced, Put, Script, Give, run, touch, touched, ◌>>=◌, ◌>>◌}
 use Rattle.mem_spec.specs.Store.{Life, Store, fresh, with_bytes}
-use Rattle.prov_memory.specs.Held.{Held, held_of}
+use Rattle.mem_objects.specs.Held.{Held, held_of}
 use Rattle.mem_spec.specs.Streams.{Io}
-use Rattle.prov_memory.specs.Keeps.{Keeps, RowsStay}
-use Rattle.prov_memory.specs.Memory.{Kept, life_in, store_of}
+use Rattle.mem_objects.specs.Keeps.{Keeps, RowsStay}
+use Rattle.mem_objects.specs.Memory.{Kept, life_in, store_of}
 use Rattle.c_model.specs.Control as todo
 use Rattle.c_model.specs.Control.{Todo}
 use Rattle.c_model.specs.OpenBlocks.{Closes, NoEnters, NoEntersBehind}

@@ -22,7 +22,7 @@ ghost use Rattle.run_answers.specs.Rows.{GrowsByControl, GrowsByStep, KeepsMemor
 ghost use Rattle.run_answers.specs.Settling.{HasSelected, HasUsed, left_by};
 ghost use Rattle.run_machine.specs.Written.{KeepsStreams};
 ghost use Rattle.run_state.specs.Operands.{operand_in};
-ghost use Rattle.prov_memory.specs.declared.value.Value.{Value as Kept_value};
+ghost use Rattle.mem_objects.specs.declared.value.Value.{Value as Kept_value};
 
 use crate::frames::end_frame;
 use c_typed::Typed;

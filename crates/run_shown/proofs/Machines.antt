@@ -17,14 +17,14 @@ use Rattle.c_typed.specs.Tree.{size}
 use Rattle.elaborate.specs.Formed.{is_formed}
 use Rattle.mem_laws.specs.MoreRows.{StandIn}
 use Rattle.mem_spec.specs.Store.{Store}
-use Rattle.prov_memory.specs.Sound.{ObjectsHaveRows}
+use Rattle.mem_objects.specs.Sound.{ObjectsHaveRows}
 use Rattle.c_model.specs.Program.{Expr, tree_of}
 use Rattle.c_model.specs.Runs.{State}
 use Rattle.c_model.specs.Steps.{Begun, Local, Scene}
 use Rattle.c_model.specs.World.{World}
 use Rattle.program_view.specs.Trees.{expr_of}
 use Rattle.program_view.proofs.Seen.{same_tree}
-use Rattle.prov_memory.specs.declared.value.Value.{Value as Kept_value}
+use Rattle.mem_objects.specs.declared.value.Value.{Value as Kept_value}
 use Rattle.run_control.specs.declared.work.Work.{Work}
 use Rattle.run_control.specs.View.{Meaning}
 use Rattle.run_layout.specs.declared.steps.Expression.{Expression as Laid}

@@ -3,8 +3,8 @@ use Rattle.std.proofs.Common.{◌≡◌, ℕ, zero, suc, ◌+◌, ◌<◌, refl,
 use Rattle.ub_base.specs.declared.names.ObjName.{ObjName}
 use Rattle.ub_base.specs.declared.names.ObjName.TheVariants as names
 use Rattle.exposure.specs.declared.prov.Prov.TheVariants.{Whole}
-use Rattle.prov_memory.specs.Keeps.{Keeps}
-use Rattle.prov_memory.specs.Memory.{Kept}
+use Rattle.mem_objects.specs.Keeps.{Keeps}
+use Rattle.mem_objects.specs.Memory.{Kept}
 use Rattle.c_model.specs.Nodes.{plain_byte}
 use Rattle.c_model.specs.Program.{Standing}
 use Rattle.c_model.specs.Values.{address_after, Pointer as Place}

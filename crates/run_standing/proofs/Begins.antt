@@ -6,9 +6,9 @@ use Rattle.addr_map.specs.declared.map.Row.{Row}
 use Rattle.c_typed.specs.Lawful.{IsLawful}
 use Rattle.c_typed.specs.declared.program.Program.{Program}
 use Rattle.mem_spec.specs.Store.{Store}
-use Rattle.prov_memory.specs.Keeps.{Keeps}
-use Rattle.prov_memory.specs.Memory.{Kept, store_of}
-use Rattle.prov_memory.specs.Sound.{IsSound}
+use Rattle.mem_objects.specs.Keeps.{Keeps}
+use Rattle.mem_objects.specs.Memory.{Kept, store_of}
+use Rattle.mem_objects.specs.Sound.{IsSound}
 use Rattle.prov_memory.proofs.KeepLemmas.{keeps_none, keeps_then}
 use Rattle.c_model.specs.Program.{Standing}
 use Rattle.run_standing.specs.declared.initial.Argument.{Argument}

@@ -46,7 +46,7 @@ use Rattle.mem_spec.specs.Store.{Store, TaggedByte, written, fresh, is_live, wit
 use Rattle.mem_spec.specs.Script.{Act, Done, Raised, run}
 use Rattle.mem_spec.specs.Acts.{store, bytes, in_row, offset_in, stored_from, declared_of}
 use Rattle.mem_spec.specs.Bytes.{number_bytes}
-use Rattle.prov_memory.specs.Keeps.{RowsStay}
+use Rattle.mem_objects.specs.Keeps.{RowsStay}
 
 -- ---- the bytes of two ranges side by side
 index_first : (bs cs : List TaggedByte) (k : ℕ) → k < length bs → slice_index_or (bs ++ cs) k fresh ≡ slice_index_or bs k fresh

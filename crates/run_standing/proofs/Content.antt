@@ -8,14 +8,14 @@ use Rattle.exposure.specs.declared.prov.Prov.TheVariants.{Whole}
 use Rattle.mem_spec.specs.Acts.{base_in}
 use Rattle.mem_spec.specs.Bytes.{number_bytes, pointer_bytes}
 use Rattle.mem_spec.specs.Store.{TaggedByte}
-use Rattle.prov_memory.specs.declared.cell.Cell.{Cell}
-use Rattle.prov_memory.specs.declared.value.Value.{Value as Held}
-use Rattle.prov_memory.specs.declared.value.Value.TheVariants as values
-use Rattle.prov_memory.specs.Cells.{plain_cell}
-use Rattle.prov_memory.specs.Made.{IsMade, AreNamed}
-use Rattle.prov_memory.specs.Memory.{Kept, CellsKnown}
-use Rattle.prov_memory.specs.Pieces.{seen, value_bytes}
-use Rattle.prov_memory.specs.Tags.{CellsTagged}
+use Rattle.mem_objects.specs.declared.cell.Cell.{Cell}
+use Rattle.mem_objects.specs.declared.value.Value.{Value as Held}
+use Rattle.mem_objects.specs.declared.value.Value.TheVariants as values
+use Rattle.mem_objects.specs.Cells.{plain_cell}
+use Rattle.mem_objects.specs.Made.{IsMade, AreNamed}
+use Rattle.mem_objects.specs.Memory.{Kept, CellsKnown}
+use Rattle.mem_objects.specs.Pieces.{seen, value_bytes}
+use Rattle.mem_objects.specs.Tags.{CellsTagged}
 use Rattle.c_typed.specs.declared.program.Constant.{Constant}
 use Rattle.c_model.specs.Program.{Filling as Filled, Object_at}
 use Rattle.c_model.specs.Values.{Pointer, pointer_value, address_after}

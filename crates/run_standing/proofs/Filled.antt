@@ -10,9 +10,9 @@ use Rattle.mem_spec.specs.Acts.{store, bytes, base_in}
 use Rattle.mem_spec.specs.Script.{Done, run}
 use Rattle.mem_spec.specs.Store.{Store}
 use Rattle.mem_spec.specs.Streams.{Io}
-use Rattle.prov_memory.specs.Keeps.{Keeps, RowsStay}
-use Rattle.prov_memory.specs.Memory.{Kept, store_of}
-use Rattle.prov_memory.proofs.AccessLemmas.{after, run_bind}
+use Rattle.mem_objects.specs.Keeps.{Keeps, RowsStay}
+use Rattle.mem_objects.specs.Memory.{Kept, store_of}
+use Rattle.mem_objects.proofs.AccessLemmas.{after, run_bind}
 use Rattle.c_model.specs.Nodes.{fill, plain_byte}
 use Rattle.c_model.specs.Program.{Standing}
 use Rattle.c_model.specs.Values.{Nothing, address_after, Pointer as Place}

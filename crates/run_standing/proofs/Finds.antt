@@ -24,9 +24,9 @@ use Rattle.mem_spec.specs.declared.kind.ObjKind.{ObjKind}
 use Rattle.mem_spec.specs.Acts.{has_place}
 use Rattle.mem_spec.specs.Script.{Act, Done}
 use Rattle.mem_spec.specs.Store.{Store, born}
-use Rattle.prov_memory.specs.Held.{Held, held_of}
-use Rattle.prov_memory.specs.Keeps.{Keeps}
-use Rattle.prov_memory.specs.Memory.{Kept, life_in, store_of}
+use Rattle.mem_objects.specs.Held.{Held, held_of}
+use Rattle.mem_objects.specs.Keeps.{Keeps}
+use Rattle.mem_objects.specs.Memory.{Kept, life_in, store_of}
 use Rattle.prov_memory.proofs.RoomLemmas.{place_found}
 use Rattle.c_model.specs.Program.{Standing}
 use Rattle.run_standing.specs.Outcomes.{CannotStand, FindsRoom, HasNoPlace, IsNew, SomeArgument, SomeLiteral, SomeStatic, VectorRefused, lives_of}

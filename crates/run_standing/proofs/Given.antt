@@ -7,9 +7,9 @@ use Rattle.exposure.specs.declared.prov.Prov.TheVariants.{Whole}
 use Rattle.c_typed.specs.declared.program.Program.{Program}
 use Rattle.c_model.specs.Values.{pointer_value, address_after}
 use Rattle.mem_spec.specs.Acts.{base_in}
-use Rattle.prov_memory.specs.declared.value.Value.TheVariants.{Int}
-use Rattle.prov_memory.specs.Keeps.{Keeps, RowsStay}
-use Rattle.prov_memory.specs.Memory.{Kept}
+use Rattle.mem_objects.specs.declared.value.Value.TheVariants.{Int}
+use Rattle.mem_objects.specs.Keeps.{Keeps, RowsStay}
+use Rattle.mem_objects.specs.Memory.{Kept}
 use Rattle.run_standing.specs.declared.initial.Started.{Started}
 use Rattle.run_values.specs.declared.values.Pointer.{Pointer as Place}
 use Rattle.run_standing.specs.Standing.{StandsThere, place_of, takes_arguments}

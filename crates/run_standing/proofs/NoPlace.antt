@@ -7,10 +7,10 @@ use Rattle.c_types.specs.declared.tags.Tag.{Tag}
 use Rattle.c_types.specs.Types.{qualified_of}
 use Rattle.c_typed.specs.declared.program.Program.{Program}
 use Rattle.c_typed.specs.declared.program.Static.{Static}
-use Rattle.prov_memory.specs.declared.answer.CreateFault.{CreateFault}
-use Rattle.prov_memory.specs.declared.answer.CreateFault.TheVariants as faults
-use Rattle.prov_memory.specs.Keeps.{Keeps}
-use Rattle.prov_memory.specs.Memory.{Kept}
+use Rattle.mem_objects.specs.declared.answer.CreateFault.{CreateFault}
+use Rattle.mem_objects.specs.declared.answer.CreateFault.TheVariants as faults
+use Rattle.mem_objects.specs.Keeps.{Keeps}
+use Rattle.mem_objects.specs.Memory.{Kept}
 use Rattle.prov_memory.proofs.KeepLemmas.{keeps_then}
 use Rattle.run_standing.specs.Outcomes.{CannotHold, CannotStand, FirstArgument, FirstLiteral, NoVector, SomeArgument, SomeLiteral, SomeStatic, VectorRefused}
 use Rattle.run_standing.specs.Standing.{AllCreated, StaticsCreated, arguments, literals, program_name}

@@ -32,7 +32,7 @@ use Rattle.mem_spec.specs.Acts.{store, bytes, has_place, base_in, in_row, create
 use Rattle.mem_spec.specs.Bytes.{number_bytes, pointer_bytes}
 use Rattle.mem_spec.specs.Script.{Script, Act, Done, Raised, Ended, Outside, Unplaced, run, touched, ◌>>◌}
 use Rattle.mem_spec.specs.Store.{Store, Life, TaggedByte, is_live, born, with_bytes}
-use Rattle.prov_memory.proofs.AccessLemmas.{before, after, run_bind}
+use Rattle.mem_objects.proofs.AccessLemmas.{before, after, run_bind}
 use Rattle.c_model.specs.Nodes.{fill, content_bytes, plain_byte}
 use Rattle.c_model.specs.Program.{Standing, Filling, Content, Zeros, Bytes, Object_at, Function_at, No_object}
 use Rattle.c_model.specs.Runs.{stand_each, fill_each}

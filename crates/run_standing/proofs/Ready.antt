@@ -17,13 +17,13 @@ use Rattle.mem_spec.specs.Acts.{store, bytes, has_place}
 use Rattle.mem_spec.specs.Script.{Done, Raised, run}
 use Rattle.mem_spec.specs.Store.{Store, TaggedByte, is_live}
 use Rattle.mem_spec.specs.Streams.{Io, silent}
-use Rattle.prov_memory.specs.declared.answer.CreateFault.{CreateFault}
-use Rattle.prov_memory.specs.declared.answer.CreateFault.TheVariants as faults
-use Rattle.prov_memory.specs.declared.cell.Cell.{Cell}
-use Rattle.prov_memory.specs.Cells.{plain_cell}
-use Rattle.prov_memory.specs.Keeps.{Keeps}
-use Rattle.prov_memory.specs.Memory.{Kept, store_of}
-use Rattle.prov_memory.specs.Pieces.{seen}
+use Rattle.mem_objects.specs.declared.answer.CreateFault.{CreateFault}
+use Rattle.mem_objects.specs.declared.answer.CreateFault.TheVariants as faults
+use Rattle.mem_objects.specs.declared.cell.Cell.{Cell}
+use Rattle.mem_objects.specs.Cells.{plain_cell}
+use Rattle.mem_objects.specs.Keeps.{Keeps}
+use Rattle.mem_objects.specs.Memory.{Kept, store_of}
+use Rattle.mem_objects.specs.Pieces.{seen}
 use Rattle.c_model.specs.Program.{Standing, Filling as Filled}
 use Rattle.c_model.specs.Values.{address_after}
 use Rattle.run_values.specs.declared.filling.Filling.{Filling}

@@ -13,15 +13,15 @@ use Rattle.c_typed.specs.Lawful.{IsLawful, StaticIsLawful}
 use Rattle.c_typed.specs.declared.program.Constant.{Constant}
 use Rattle.c_typed.specs.declared.program.Program.{Program}
 use Rattle.c_typed.specs.declared.program.Static.{Static as Object}
-use Rattle.prov_memory.specs.declared.answer.CreateFault.{CreateFault}
-use Rattle.prov_memory.specs.declared.answer.CreateFault.TheVariants as faults
-use Rattle.prov_memory.specs.declared.cell.Cell.{Cell}
-use Rattle.prov_memory.specs.declared.value.Value.{Value as Held}
-use Rattle.prov_memory.specs.Keeps.{Keeps}
-use Rattle.prov_memory.specs.Made.{AreNamed, IsMade}
-use Rattle.prov_memory.specs.Memory.{Kept}
-use Rattle.prov_memory.specs.Pieces.{IsMadeValue, seen, value_bytes}
-use Rattle.prov_memory.specs.Sound.{IsSound}
+use Rattle.mem_objects.specs.declared.answer.CreateFault.{CreateFault}
+use Rattle.mem_objects.specs.declared.answer.CreateFault.TheVariants as faults
+use Rattle.mem_objects.specs.declared.cell.Cell.{Cell}
+use Rattle.mem_objects.specs.declared.value.Value.{Value as Held}
+use Rattle.mem_objects.specs.Keeps.{Keeps}
+use Rattle.mem_objects.specs.Made.{AreNamed, IsMade}
+use Rattle.mem_objects.specs.Memory.{Kept}
+use Rattle.mem_objects.specs.Pieces.{IsMadeValue, seen, value_bytes}
+use Rattle.mem_objects.specs.Sound.{IsSound}
 use Rattle.prov_memory.proofs.KeepLemmas.{keeps_then}
 use Rattle.c_model.specs.Program.{Standing}
 use Rattle.c_model.specs.Values.{address_after, null, pointer_value, Pointer as Place}

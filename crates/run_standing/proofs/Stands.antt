@@ -10,9 +10,9 @@ use Rattle.c_types.specs.Types.{int}
 use Rattle.mem_spec.specs.Acts.{create}
 use Rattle.mem_spec.specs.Script.{Script, Done, run, touched}
 use Rattle.mem_spec.specs.Store.{Store}
-use Rattle.prov_memory.specs.Keeps.{Keeps}
-use Rattle.prov_memory.specs.Memory.{Kept, store_of}
-use Rattle.prov_memory.proofs.AccessLemmas.{before, after, run_bind}
+use Rattle.mem_objects.specs.Keeps.{Keeps}
+use Rattle.mem_objects.specs.Memory.{Kept, store_of}
+use Rattle.mem_objects.proofs.AccessLemmas.{before, after, run_bind}
 use Rattle.c_model.specs.Nodes.{fill}
 use Rattle.c_model.specs.Program.{Standing}
 use Rattle.c_model.specs.Runs.{stand_each, fill_each}
@@ -25,7 +25,7 @@ use Rattle.c_types.specs.Shapes.{Form}
 use Rattle.c_types.specs.Types.{qualified_of}
 use Rattle.c_typed.specs.declared.program.Static.{Static as Object}
 use Rattle.c_model.specs.Program.{Zeros}
-use Rattle.prov_memory.specs.Memory.{AreKnown}
+use Rattle.mem_objects.specs.Memory.{AreKnown}
 use Rattle.ub_base.specs.declared.names.ObjName.TheVariants as names
 use Rattle.program_view.specs.Objects.{access_of}
 use Rattle.run_values.specs.Contents.{filled_by}

@@ -15,15 +15,15 @@ use Rattle.c_typed.specs.declared.program.Content.TheVariants as contents
 use Rattle.c_typed.specs.declared.program.Program.{Program}
 use Rattle.c_typed.specs.declared.program.Static.{Static as Object}
 use Rattle.mem_spec.specs.declared.kind.ObjKind.{ObjKind}
-use Rattle.prov_memory.specs.Keeps.{Keeps}
-use Rattle.prov_memory.specs.declared.cell.Cell.{Cell}
-use Rattle.prov_memory.specs.declared.value.Value.{Value as Held}
-use Rattle.prov_memory.specs.declared.value.Value.TheVariants as values
-use Rattle.prov_memory.specs.Made.{IsMade, AreNamed}
-use Rattle.prov_memory.specs.Memory.{Kept, IsBorn, CellsKnown}
-use Rattle.prov_memory.specs.Pieces.{IsMadeValue, IsKnownValue, IsTaggedValue}
-use Rattle.prov_memory.specs.Sound.{IsSound}
-use Rattle.prov_memory.specs.Tags.{CellsTagged}
+use Rattle.mem_objects.specs.Keeps.{Keeps}
+use Rattle.mem_objects.specs.declared.cell.Cell.{Cell}
+use Rattle.mem_objects.specs.declared.value.Value.{Value as Held}
+use Rattle.mem_objects.specs.declared.value.Value.TheVariants as values
+use Rattle.mem_objects.specs.Made.{IsMade, AreNamed}
+use Rattle.mem_objects.specs.Memory.{Kept, IsBorn, CellsKnown}
+use Rattle.mem_objects.specs.Pieces.{IsMadeValue, IsKnownValue, IsTaggedValue}
+use Rattle.mem_objects.specs.Sound.{IsSound}
+use Rattle.mem_objects.specs.Tags.{CellsTagged}
 use Rattle.prov_memory.proofs.KeepLemmas.{keeps_then}
 use Rattle.c_model.specs.Values.{null, pointer_value}
 use Rattle.run_standing.specs.declared.initial.Argument.{Argument}

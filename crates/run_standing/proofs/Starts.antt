@@ -19,11 +19,11 @@ use Rattle.mem_spec.specs.Script.{Script, Act, Done, Bear, Give, Misplace, run, 
 use Rattle.mem_spec.specs.Acts.{store, bytes, create, has_place, base_in, in_row}
 use Rattle.mem_spec.specs.Bytes.{number_bytes}
 use Rattle.mem_spec.specs.Streams.{Io, silent}
-use Rattle.prov_memory.specs.declared.cell.Cell.{Cell}
-use Rattle.prov_memory.specs.Cells.{plain_cell}
-use Rattle.prov_memory.specs.Keeps.{RowsStay}
-use Rattle.prov_memory.specs.Memory.{Kept, HasCell, AreKnown, IsBorn, store_of}
-use Rattle.prov_memory.specs.Pieces.{seen}
+use Rattle.mem_objects.specs.declared.cell.Cell.{Cell}
+use Rattle.mem_objects.specs.Cells.{plain_cell}
+use Rattle.mem_objects.specs.Keeps.{RowsStay}
+use Rattle.mem_objects.specs.Memory.{Kept, HasCell, AreKnown, IsBorn, store_of}
+use Rattle.mem_objects.specs.Pieces.{seen}
 use Rattle.run_standing.specs.Starting.{Puts, Creates, EndsLow}
 use Rattle.run_standing.proofs.Clears.{Stored, stored, does_store, stored_still, stored_both, zeros_length, zeros_both}
 use Rattle.c_model.specs.Nodes.{plain_byte}

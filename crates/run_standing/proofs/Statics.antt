@@ -24,12 +24,12 @@ use Rattle.mem_spec.specs.Bytes.{number_bytes}
 use Rattle.mem_spec.specs.Script.{Script, Done, run, ◌>>◌}
 use Rattle.mem_spec.specs.Store.{TaggedByte}
 use Rattle.mem_spec.specs.Streams.{Io}
-use Rattle.prov_memory.specs.Keeps.{Keeps, RowsStay}
-use Rattle.prov_memory.specs.Made.{AreNamed}
-use Rattle.prov_memory.specs.Memory.{Kept, store_of}
-use Rattle.prov_memory.specs.Pieces.{seen}
-use Rattle.prov_memory.specs.Sound.{IsSound}
-use Rattle.prov_memory.proofs.AccessLemmas.{before, after}
+use Rattle.mem_objects.specs.Keeps.{Keeps, RowsStay}
+use Rattle.mem_objects.specs.Made.{AreNamed}
+use Rattle.mem_objects.specs.Memory.{Kept, store_of}
+use Rattle.mem_objects.specs.Pieces.{seen}
+use Rattle.mem_objects.specs.Sound.{IsSound}
+use Rattle.mem_objects.proofs.AccessLemmas.{before, after}
 use Rattle.c_model.specs.Nodes.{fill, content_bytes}
 use Rattle.c_model.specs.Program.{Filling as Filled, Standing, Zeros}
 use Rattle.c_model.specs.Values.{Value, Nothing, Pointer as Place, address_after}

@@ -7,13 +7,13 @@ use Rattle.addr_map.specs.declared.map.Row.{Row}
 use Rattle.exposure.specs.declared.prov.Prov.TheVariants.{Whole, Empty}
 use Rattle.mem_spec.specs.Acts.{base_in}
 use Rattle.mem_spec.specs.Bytes.{pointer_bytes}
-use Rattle.prov_memory.specs.Keeps.{Keeps, RowsStay}
-use Rattle.prov_memory.specs.declared.cell.Cell.{Cell}
-use Rattle.prov_memory.specs.declared.value.Value.{Value as Held}
-use Rattle.prov_memory.specs.Made.{IsMade, AreNamed}
-use Rattle.prov_memory.specs.Memory.{Kept, store_of}
-use Rattle.prov_memory.specs.Pieces.{seen, value_bytes, IsMadeValue}
-use Rattle.prov_memory.specs.Sound.{IsSound}
+use Rattle.mem_objects.specs.Keeps.{Keeps, RowsStay}
+use Rattle.mem_objects.specs.declared.cell.Cell.{Cell}
+use Rattle.mem_objects.specs.declared.value.Value.{Value as Held}
+use Rattle.mem_objects.specs.Made.{IsMade, AreNamed}
+use Rattle.mem_objects.specs.Memory.{Kept, store_of}
+use Rattle.mem_objects.specs.Pieces.{seen, value_bytes, IsMadeValue}
+use Rattle.mem_objects.specs.Sound.{IsSound}
 use Rattle.c_model.specs.Program.{Filling as Filled, Object_at, No_object}
 use Rattle.c_model.specs.Values.{Pointer as Place, null, pointer_value, address_after}
 use Rattle.run_standing.specs.declared.initial.Argument.{Argument}

@@ -14,12 +14,12 @@ use Rattle.c_typed.specs.declared.program.Static.{Static}
 use Rattle.mem_spec.specs.Acts.{has_place}
 use Rattle.mem_spec.specs.Script.{Act, Done, Unplaced, run}
 use Rattle.mem_spec.specs.Store.{Life, Store, is_live}
-use Rattle.prov_memory.specs.declared.answer.CreateFault.{CreateFault}
-use Rattle.prov_memory.specs.declared.answer.CreateFault.TheVariants as faults
-use Rattle.prov_memory.specs.Held.{held_of}
-use Rattle.prov_memory.specs.Keeps.{Keeps}
-use Rattle.prov_memory.specs.Memory.{Kept, life_in, cannot_create}
-use Rattle.prov_memory.specs.Room.{IsClose}
+use Rattle.mem_objects.specs.declared.answer.CreateFault.{CreateFault}
+use Rattle.mem_objects.specs.declared.answer.CreateFault.TheVariants as faults
+use Rattle.mem_objects.specs.Held.{held_of}
+use Rattle.mem_objects.specs.Keeps.{Keeps}
+use Rattle.mem_objects.specs.Memory.{Kept, life_in, cannot_create}
+use Rattle.mem_objects.specs.Room.{IsClose}
 use Rattle.c_model.specs.Program.{Standing}
 use Rattle.c_model.specs.Runs.{created_after, stand}
 use Rattle.c_model.specs.World.{World}

@@ -11,8 +11,8 @@ use Rattle.mem_spec.specs.Acts.{create, base_in}
 use Rattle.mem_spec.specs.Script.{Done, run}
 use Rattle.mem_spec.specs.Store.{Store}
 use Rattle.mem_spec.specs.Streams.{Io}
-use Rattle.prov_memory.specs.Keeps.{RowsStay}
-use Rattle.prov_memory.specs.Memory.{Kept, store_of}
+use Rattle.mem_objects.specs.Keeps.{RowsStay}
+use Rattle.mem_objects.specs.Memory.{Kept, store_of}
 use Rattle.c_model.specs.Nodes.{fill}
 use Rattle.c_model.specs.Runs.{stand}
 use Rattle.c_model.specs.Values.{Nothing, Pointer, address_after}

@@ -11,9 +11,9 @@ use Rattle.mem_spec.specs.Acts.{store, bytes, create}
 use Rattle.mem_spec.specs.Script.{Done, run}
 use Rattle.mem_spec.specs.Store.{TaggedByte}
 use Rattle.mem_spec.specs.Streams.{Io}
-use Rattle.prov_memory.specs.Keeps.{RowsStay}
-use Rattle.prov_memory.specs.Made.{IsMade}
-use Rattle.prov_memory.specs.Memory.{Kept, store_of}
+use Rattle.mem_objects.specs.Keeps.{RowsStay}
+use Rattle.mem_objects.specs.Made.{IsMade}
+use Rattle.mem_objects.specs.Memory.{Kept, store_of}
 use Rattle.run_standing.specs.declared.initial.Argument.{Argument}
 use Rattle.run_values.specs.declared.values.Pointer.{Pointer}
 

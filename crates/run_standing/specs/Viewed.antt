@@ -7,9 +7,9 @@ use Rattle.c_model.specs.Program.{Standing}
 use Rattle.c_model.specs.Runs.{created_after}
 use Rattle.c_model.specs.Values.{pointer_value}
 use Rattle.mem_spec.specs.Store.{Store}
-use Rattle.prov_memory.specs.declared.value.Value.TheVariants.{Int}
-use Rattle.prov_memory.specs.Keeps.{RowsStay}
-use Rattle.prov_memory.specs.Memory.{Kept}
+use Rattle.mem_objects.specs.declared.value.Value.TheVariants.{Int}
+use Rattle.mem_objects.specs.Keeps.{RowsStay}
+use Rattle.mem_objects.specs.Memory.{Kept}
 use Rattle.program_view.specs.Objects as view
 use Rattle.program_view.specs.View.{standing_of}
 use Rattle.run_standing.specs.declared.initial.Started.{Started}

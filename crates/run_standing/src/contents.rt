@@ -1,11 +1,11 @@
 // The bytes of constants.
 ghost use Rattle.std.specs.Prelude.{◌≡◌, length, map, replicate, ◌∷◌, [], ◌++◌, IfOk, OnOk};
 ghost use Rattle.c_model.specs.Nodes.{content_bytes};
-ghost use Rattle.prov_memory.specs.Made.{AreNamed};
-ghost use Rattle.prov_memory.specs.Memory.{Kept, CellsKnown};
-ghost use Rattle.prov_memory.specs.Cells.{plain_cell};
-ghost use Rattle.prov_memory.specs.Pieces.{seen, value_bytes};
-ghost use Rattle.prov_memory.specs.Tags.{CellsTagged};
+ghost use Rattle.mem_objects.specs.Made.{AreNamed};
+ghost use Rattle.mem_objects.specs.Memory.{Kept, CellsKnown};
+ghost use Rattle.mem_objects.specs.Cells.{plain_cell};
+ghost use Rattle.mem_objects.specs.Pieces.{seen, value_bytes};
+ghost use Rattle.mem_objects.specs.Tags.{CellsTagged};
 ghost use Rattle.run_values.specs.Contents.{address_of, content_of, filled_by, AddsFilling, IsPlaced, CanHold, CanHoldAll};
 ghost use Rattle.run_values.specs.Fills.{AreFillings};
 ghost use Rattle.run_values.specs.Kept.{AreOf, IsOf};

@@ -10,18 +10,18 @@ use Rattle.c_typed.specs.declared.program.Program.{Program}
 use Rattle.mem_spec.specs.Script.{Act, Done, run}
 use Rattle.mem_spec.specs.Store.{Store}
 use Rattle.mem_spec.specs.Streams.{Io, silent}
-use Rattle.prov_memory.specs.Keeps.{Keeps, AreBare}
-use Rattle.prov_memory.specs.Memory.{Kept, store_of, empty}
-use Rattle.prov_memory.specs.Sound.{IsSound}
-use Rattle.prov_memory.specs.Tags.{AreTagged}
+use Rattle.mem_objects.specs.Keeps.{Keeps, AreBare}
+use Rattle.mem_objects.specs.Memory.{Kept, store_of, empty}
+use Rattle.mem_objects.specs.Sound.{IsSound}
+use Rattle.mem_objects.specs.Tags.{AreTagged}
 use Rattle.prov_memory.proofs.KeepLemmas.{keeps_then}
-use Rattle.prov_memory.proofs.SoundLemmas.{empty_sound}
+use Rattle.mem_objects.proofs.SoundLemmas.{empty_sound}
 use Rattle.c_model.specs.Values.{Value, Nothing}
 use Rattle.c_model.specs.World.{World}
 use Rattle.c_model.specs.Control.{To_do, ready_work}
 use Rattle.c_model.specs.Steps.{body_of}
 use Rattle.c_model.specs.Runs.{State, Running, limit_passed, main_frame, nothing_stands, stand, start, started_run, within, work_of}
-use Rattle.prov_memory.specs.declared.cell.Via.{Via}
+use Rattle.mem_objects.specs.declared.cell.Via.{Via}
 use Rattle.run_values.specs.declared.places.Places.{Places}
 use Rattle.run_values.specs.declared.filling.Filling.{Filling}
 use Rattle.run_standing.specs.Standing.{StartStands, program_name}

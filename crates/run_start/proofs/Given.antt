@@ -3,9 +3,9 @@ use Rattle.std.proofs.Common.{◌≡◌, ℕ, zero, suc, ◌+◌, Bool, true, fa
 use Rattle.std.proofs.Common.{Option, Some, None, slice_get}
 use Rattle.std.specs.Borrow.{Bor}
 use Rattle.c_typed.specs.declared.program.Program.{Program}
-use Rattle.prov_memory.specs.declared.value.Value.{Value as Kept_value}
-use Rattle.prov_memory.specs.Keeps.{Keeps, RowsStay}
-use Rattle.prov_memory.specs.Memory.{Kept}
+use Rattle.mem_objects.specs.declared.value.Value.{Value as Kept_value}
+use Rattle.mem_objects.specs.Keeps.{Keeps, RowsStay}
+use Rattle.mem_objects.specs.Memory.{Kept}
 use Rattle.c_model.specs.Values.{Int}
 use Rattle.c_model.specs.World.{World}
 use Rattle.program_view.specs.View.{main_values, passed_to, takes_arguments}

@@ -4,7 +4,7 @@ use Rattle.c_typed.specs.declared.program.Program.{Program}
 use Rattle.c_model.specs.Program.{Standing}
 use Rattle.c_model.specs.Runs.{created_after}
 use Rattle.mem_spec.specs.Store.{Store}
-use Rattle.prov_memory.specs.Memory.{Kept, empty, store_of}
+use Rattle.mem_objects.specs.Memory.{Kept, empty, store_of}
 use Rattle.run_standing.proofs.Counts.{start_counts}
 use Rattle.run_standing.proofs.Viewed.{as_viewed}
 use Rattle.run_layout.specs.declared.whole.Code.{Code}

@@ -10,12 +10,12 @@ use Rattle.c_types.specs.Types.{CType, void, int, enumeration, pointer, array, s
 use Rattle.c_typed.specs.declared.tree.Access.{Access}
 use Rattle.c_typed.specs.declared.tree.Access.TheVariants as access
 use Rattle.mem_spec.specs.Agreement.{number_of_kind, read_as_int}
-use Rattle.prov_memory.specs.declared.cell.Via.{Via}
-use Rattle.prov_memory.specs.declared.cell.Via.TheVariants as vias
-use Rattle.prov_memory.specs.Cells.{is_character_numbered, integer_or, kind_numbered, type_numbered}
-use Rattle.prov_memory.specs.Keeps.{Keeps, IsNumbered}
-use Rattle.prov_memory.specs.Memory.{Kept}
-use Rattle.prov_memory.specs.Stores.{IsTypeOf}
+use Rattle.mem_objects.specs.declared.cell.Via.{Via}
+use Rattle.mem_objects.specs.declared.cell.Via.TheVariants as vias
+use Rattle.mem_objects.specs.Cells.{is_character_numbered, integer_or, kind_numbered, type_numbered}
+use Rattle.mem_objects.specs.Keeps.{Keeps, IsNumbered}
+use Rattle.mem_objects.specs.Memory.{Kept}
+use Rattle.mem_objects.specs.Stores.{IsTypeOf}
 use Rattle.program_view.specs.Trees.{is_pointer}
 use Rattle.run_values.specs.Stores.{SeesAs}
 use Rattle.run_start.specs.Begins.{HasTypeNumber, IsNamed}

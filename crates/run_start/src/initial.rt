@@ -3,11 +3,11 @@ ghost use Rattle.std.specs.Prelude.{◌≡◌, [], ◌∷◌, ◌+◌, ◌<◌, 
 ghost use Rattle.addr_map.specs.Sound.{Above};
 ghost use Rattle.c_typed.specs.Lawful.{IsLawful};
 ghost use Rattle.mem_spec.specs.Streams.{Io, silent};
-ghost use Rattle.prov_memory.specs.Keeps.{Keeps};
-ghost use Rattle.prov_memory.specs.Made.{AreNamed};
-ghost use Rattle.prov_memory.specs.Memory.{empty, store_of};
-ghost use Rattle.prov_memory.specs.Sound.{IsSound};
-ghost use Rattle.prov_memory.specs.Tags.{AreTagged};
+ghost use Rattle.mem_objects.specs.Keeps.{Keeps};
+ghost use Rattle.mem_objects.specs.Made.{AreNamed};
+ghost use Rattle.mem_objects.specs.Memory.{empty, store_of};
+ghost use Rattle.mem_objects.specs.Sound.{IsSound};
+ghost use Rattle.mem_objects.specs.Tags.{AreTagged};
 ghost use Rattle.run_standing.specs.Standing.{StartStands, program_name};
 ghost use Rattle.run_values.specs.Placed.{ArePlaced};
 ghost use Rattle.run_start.specs.Begins.{AreBytesWhere, BeginsAsDefined, HoldsGiven, IsBodyOf, IsFirst, IsGivenIn, IsNamed, IsNamedVia, KeepsLabels};

@@ -23,9 +23,9 @@ use Rattle.c_typed.specs.declared.tree.Typed.{Typed, out-Typed, fold_out-Typed}
 use Rattle.c_typed.specs.Tree.{is_quiet, is_quiet_class, size, sizes, trees_of}
 use Rattle.c_typed.specs.Tree as order
 use Rattle.mem_spec.specs.Acts.{base_in}
-use Rattle.prov_memory.specs.declared.value.Value.{Value as Kept_value}
-use Rattle.prov_memory.specs.declared.value.Value.TheVariants as kept
-use Rattle.prov_memory.specs.Made.{IsMade}
+use Rattle.mem_objects.specs.declared.value.Value.{Value as Kept_value}
+use Rattle.mem_objects.specs.declared.value.Value.TheVariants as kept
+use Rattle.mem_objects.specs.Made.{IsMade}
 use Rattle.c_model.specs.Program as model
 use Rattle.c_model.specs.Program.{Expr, expr, Exprs, tree_of, head_class}
 use Rattle.c_model.specs.Steps.{Scene, quiet_value, moved_place, turn_of, auto_name, name_of, pointer_to, null_of}

@@ -1,6 +1,6 @@
 -- Why a pick isn't taken whose object isn't created (own).
-use Rattle.prov_memory.specs.declared.answer.CreateFault.{CreateFault}
-use Rattle.prov_memory.specs.declared.answer.CreateFault.TheVariants as fault
+use Rattle.mem_objects.specs.declared.answer.CreateFault.{CreateFault}
+use Rattle.mem_objects.specs.declared.answer.CreateFault.TheVariants as fault
 use Rattle.run_state.specs.declared.halt.Halt.{Halt}
 use Rattle.run_state.specs.declared.halt.Halt.TheVariants as halt
 

@@ -10,9 +10,9 @@ use Rattle.c_typed.specs.declared.tree.Slot.{Slot}
 use Rattle.c_typed.specs.declared.tree.Slot.TheVariants as slot
 use Rattle.c_typed.specs.declared.tree.Typed.{Typed}
 use Rattle.c_typed.specs.Tree.{is_quiet}
-use Rattle.prov_memory.specs.declared.value.Value.{Value as Kept_value}
-use Rattle.prov_memory.specs.declared.value.Value.TheVariants as kept
-use Rattle.prov_memory.specs.Keeps.{RowsStay}
+use Rattle.mem_objects.specs.declared.value.Value.{Value as Kept_value}
+use Rattle.mem_objects.specs.declared.value.Value.TheVariants as kept
+use Rattle.mem_objects.specs.Keeps.{RowsStay}
 use Rattle.c_model.specs.Program.{Expr, expr, Exprs, none, more, Number, Obj, Str, Member, Conv, tree_of}
 use Rattle.c_model.specs.Steps.{Scene, quiet_value}
 use Rattle.c_model.specs.Values.{Value, address_after}

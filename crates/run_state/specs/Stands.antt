@@ -33,13 +33,13 @@ use Rattle.c_typed.specs.Order.{place, is_due}
 use Rattle.mem_spec.specs.Acts.{base_in}
 use Rattle.mem_spec.specs.Store.{Store}
 use Rattle.mem_spec.specs.Streams.{Io}
-use Rattle.prov_memory.specs.declared.cell.Via.{Via}
-use Rattle.prov_memory.specs.declared.value.Value.{Value as Kept_value}
-use Rattle.prov_memory.specs.Keeps.{RowsStay, AreBare, IsNumbered}
-use Rattle.prov_memory.specs.Made.{IsMade}
-use Rattle.prov_memory.specs.Memory.{Kept, store_of}
-use Rattle.prov_memory.specs.Sound.{IsSound}
-use Rattle.prov_memory.specs.Tags.{AreTagged}
+use Rattle.mem_objects.specs.declared.cell.Via.{Via}
+use Rattle.mem_objects.specs.declared.value.Value.{Value as Kept_value}
+use Rattle.mem_objects.specs.Keeps.{RowsStay, AreBare, IsNumbered}
+use Rattle.mem_objects.specs.Made.{IsMade}
+use Rattle.mem_objects.specs.Memory.{Kept, store_of}
+use Rattle.mem_objects.specs.Sound.{IsSound}
+use Rattle.mem_objects.specs.Tags.{AreTagged}
 use Rattle.c_model.specs.Program.{Expr, expr, Exprs, Update, tree_of}
 use Rattle.c_model.specs.Values.{Value, Nothing}
 use Rattle.c_model.specs.World.{World}

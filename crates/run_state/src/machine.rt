@@ -2,8 +2,8 @@
 ghost use Rattle.std.specs.Prelude.{◌≡◌, ◌≢◌, ◌+◌, ◌-◌, ◌^◌, ◌<◌, ◌≤◌, min, ℕ, Some, IfOk, OnOk, length, option_copied, slice_get};
 ghost use Rattle.c_model.specs.Values as model;
 ghost use Rattle.c_model.specs.Values.{integer_of, pointer_of};
-ghost use Rattle.prov_memory.specs.Memory.{Kept};
-ghost use Rattle.prov_memory.specs.declared.value.Value.{Value as Kept_value};
+ghost use Rattle.mem_objects.specs.Memory.{Kept};
+ghost use Rattle.mem_objects.specs.declared.value.Value.{Value as Kept_value};
 ghost use Rattle.run_values.specs.Views.{value_in, pointer_at};
 ghost use Rattle.run_layout.specs.declared.steps.Operand.TheVariants as operands;
 ghost use Rattle.run_state.specs.Operands.{operand_in};

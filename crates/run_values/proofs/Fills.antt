@@ -9,10 +9,10 @@ use Rattle.mem_spec.specs.Store.{Store, TaggedByte}
 use Rattle.mem_spec.specs.Script.{Act, Done, Raised, run, touched}
 use Rattle.mem_spec.specs.Acts.{store, bytes}
 use Rattle.mem_spec.specs.Streams.{Io}
-use Rattle.prov_memory.specs.Made.{IsMade}
-use Rattle.prov_memory.specs.Memory.{Kept, HasCell, store_of}
-use Rattle.prov_memory.specs.Pieces.{seen}
-use Rattle.prov_memory.proofs.AccessLemmas.{before, after, run_bind}
+use Rattle.mem_objects.specs.Made.{IsMade}
+use Rattle.mem_objects.specs.Memory.{Kept, HasCell, store_of}
+use Rattle.mem_objects.specs.Pieces.{seen}
+use Rattle.mem_objects.proofs.AccessLemmas.{before, after, run_bind}
 use Rattle.c_model.specs.Program.{Filling as Filled}
 use Rattle.c_model.specs.Values.{Nothing, Pointer, address_after}
 use Rattle.c_model.specs.Nodes.{fill, content_bytes}

@@ -14,8 +14,8 @@ use Rattle.c_typed.specs.declared.program.Constant.{Constant}
 use Rattle.c_typed.specs.declared.program.Content.{Content}
 use Rattle.c_typed.specs.declared.program.Content.TheVariants as contents
 use Rattle.c_typed.specs.declared.program.Program.{Program}
-use Rattle.prov_memory.specs.Keeps.{Keeps, RowsStay}
-use Rattle.prov_memory.specs.Memory.{Kept}
+use Rattle.mem_objects.specs.Keeps.{Keeps, RowsStay}
+use Rattle.mem_objects.specs.Memory.{Kept}
 use Rattle.run_values.specs.declared.places.Places.{Places}
 use Rattle.run_values.specs.Contents.{Stands, StandsAt, IsPlaced, CanHold}
 use Rattle.run_values.specs.Placed.{AllStand, AreAll, ArePlaced, LawfulCanHold}

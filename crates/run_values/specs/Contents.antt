@@ -5,8 +5,8 @@ use Rattle.ub_base.specs.declared.names.ObjName.TheVariants.{Static, Lit}
 use Rattle.addr_map.specs.declared.map.Row.{Row}
 use Rattle.addr_map.specs.Rows.{row_of}
 use Rattle.exposure.specs.declared.prov.Prov.TheVariants.{Whole}
-use Rattle.prov_memory.specs.Made.{IsMade, AreNamed}
-use Rattle.prov_memory.specs.Memory.{Kept}
+use Rattle.mem_objects.specs.Made.{IsMade, AreNamed}
+use Rattle.mem_objects.specs.Memory.{Kept}
 use Rattle.c_typed.specs.declared.tree.Target.{Target}
 use Rattle.c_typed.specs.declared.tree.Target.TheVariants as targets
 use Rattle.c_typed.specs.declared.program.Constant.{Constant}

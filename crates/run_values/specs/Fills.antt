@@ -2,8 +2,8 @@
 use Rattle.std.specs.Prelude.{◌≡◌, List, [], ◌∷◌, true}
 use Rattle.mem_spec.specs.Script.{Script}
 use Rattle.mem_spec.specs.Acts.{store, bytes}
-use Rattle.prov_memory.specs.Memory.{Kept}
-use Rattle.prov_memory.specs.Pieces.{seen}
+use Rattle.mem_objects.specs.Memory.{Kept}
+use Rattle.mem_objects.specs.Pieces.{seen}
 use Rattle.c_model.specs.Program.{Filling as Filled}
 use Rattle.c_model.specs.Values.{Pointer, address_after}
 use Rattle.c_model.specs.Nodes.{content_bytes}

@@ -1,10 +1,10 @@
 -- Values and fillings that are of a memory (own).
 use Rattle.std.specs.Prelude.{List, [], ◌∷◌, length}
-use Rattle.prov_memory.specs.declared.value.Value.{Value}
-use Rattle.prov_memory.specs.Keeps.{Keeps}
-use Rattle.prov_memory.specs.Memory.{Kept, CellsKnown}
-use Rattle.prov_memory.specs.Pieces.{IsMadeValue, IsKnownValue, IsTaggedValue}
-use Rattle.prov_memory.specs.Tags.{CellsTagged}
+use Rattle.mem_objects.specs.declared.value.Value.{Value}
+use Rattle.mem_objects.specs.Keeps.{Keeps}
+use Rattle.mem_objects.specs.Memory.{Kept, CellsKnown}
+use Rattle.mem_objects.specs.Pieces.{IsMadeValue, IsKnownValue, IsTaggedValue}
+use Rattle.mem_objects.specs.Tags.{CellsTagged}
 use Rattle.run_values.specs.declared.filling.Filling.{Filling}
 
 -- a pointer was made in the memory; the pieces among the bytes of a structure or union name its provenances, their tags its types

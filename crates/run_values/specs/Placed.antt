@@ -6,7 +6,7 @@ use Rattle.c_typed.specs.Lawful.{ContentIsLawful}
 use Rattle.c_typed.specs.declared.program.Constant.{Constant}
 use Rattle.c_typed.specs.declared.program.Program.{Program}
 use Rattle.std.specs.List.{All}
-use Rattle.prov_memory.specs.Memory.{Kept}
+use Rattle.mem_objects.specs.Memory.{Kept}
 use Rattle.run_values.specs.declared.places.Places.{Places}
 use Rattle.run_values.specs.Contents.{Stands, CanHoldAll}
 

@@ -3,12 +3,12 @@ use Rattle.c_types.specs.Types.{CType, int}
 use Rattle.c_typed.specs.declared.tree.Access.{Access}
 use Rattle.c_typed.specs.declared.tree.Access.TheVariants as access
 use Rattle.mem_spec.specs.Acts.{scalar}
-use Rattle.prov_memory.specs.declared.cell.Via.{Via}
-use Rattle.prov_memory.specs.declared.value.Value.{Value}
-use Rattle.prov_memory.specs.Made.{AreNamed}
-use Rattle.prov_memory.specs.Memory.{Kept, HasCell}
-use Rattle.prov_memory.specs.Pieces.{IsMadeValue}
-use Rattle.prov_memory.specs.Stores.{Sees}
+use Rattle.mem_objects.specs.declared.cell.Via.{Via}
+use Rattle.mem_objects.specs.declared.value.Value.{Value}
+use Rattle.mem_objects.specs.Made.{AreNamed}
+use Rattle.mem_objects.specs.Memory.{Kept, HasCell}
+use Rattle.mem_objects.specs.Pieces.{IsMadeValue}
+use Rattle.mem_objects.specs.Stores.{Sees}
 use Rattle.run_values.specs.declared.values.Pointer.{Pointer}
 
 -- a scalar is stored by the number of its type: of an integer that of its kind

@@ -1,9 +1,9 @@
 -- What values and places are to the definitions of runs (own).
 use Rattle.std.specs.Prelude.{Result, Ok, Err}
-use Rattle.prov_memory.specs.declared.value.Value.{Value as Held}
-use Rattle.prov_memory.specs.declared.value.Value.TheVariants as values
-use Rattle.prov_memory.specs.Memory.{Kept}
-use Rattle.prov_memory.specs.Pieces.{seen}
+use Rattle.mem_objects.specs.declared.value.Value.{Value as Held}
+use Rattle.mem_objects.specs.declared.value.Value.TheVariants as values
+use Rattle.mem_objects.specs.Memory.{Kept}
+use Rattle.mem_objects.specs.Pieces.{seen}
 use Rattle.c_model.specs.Values.{Value, Int, Ptr, Fun, Whole, Missing, Nothing, Pointer, pointer_value}
 use Rattle.run_values.specs.declared.values.Pointer.{Pointer as Place}
 

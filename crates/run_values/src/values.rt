@@ -2,7 +2,7 @@
 ghost use Rattle.std.specs.Prelude.{◌≡◌};
 ghost use Rattle.c_model.specs.Values as model;
 ghost use Rattle.c_model.specs.Values.{null, pointer_value, integer_of, pointer_of, function_in, address_after};
-ghost use Rattle.prov_memory.specs.Memory.{Kept};
+ghost use Rattle.mem_objects.specs.Memory.{Kept};
 ghost use Rattle.run_values.specs.Views.{value_in, pointer_at};
 ghost use Rattle.exposure.specs.declared.prov.Prov.{Prov};
 ghost use Rattle.exposure.specs.declared.prov.Prov.TheVariants.{Whole};

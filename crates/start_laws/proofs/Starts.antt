@@ -11,8 +11,8 @@ use Rattle.c_typed.specs.declared.program.Program.{Program}
 use Rattle.mem_spec.specs.Script.{run}
 use Rattle.mem_spec.specs.Store.{Store}
 use Rattle.mem_spec.specs.Streams.{Io, total}
-use Rattle.prov_memory.specs.Keeps.{RowsStay}
-use Rattle.prov_memory.specs.Memory.{store_of}
+use Rattle.mem_objects.specs.Keeps.{RowsStay}
+use Rattle.mem_objects.specs.Memory.{store_of}
 use Rattle.c_model.specs.Program.{Standing}
 use Rattle.c_model.specs.Runs.{State, Over, created_after, limit_passed, nothing_stands, stand, started_run, too_many, within}
 use Rattle.c_model.specs.Steps.{Local}

@@ -4,7 +4,7 @@ use Rattle.ub_base.specs.declared.clause.Cause.TheVariants as cause
 use Rattle.ub_base.specs.Frames.{Path}
 use Rattle.addr_map.specs.declared.map.Row.{Row}
 use Rattle.c_typed.specs.declared.program.Program.{Program}
-use Rattle.prov_memory.specs.Keeps.{RowsStay}
+use Rattle.mem_objects.specs.Keeps.{RowsStay}
 use Rattle.c_model.specs.Program.{Standing}
 use Rattle.c_model.specs.Runs.{State, Over, Running, created_after, start}
 use Rattle.c_model.specs.Values.{Value}

@@ -8,25 +8,16 @@ ghost use Rattle.mem_spec.specs.Acts.{in_row};
 ghost use Rattle.mem_spec.specs.Store.{Store};
 ghost use Rattle.mem_spec.specs.Script.{run, Done, Raised};
 ghost use Rattle.mem_spec.specs.Streams.{Io};
-ghost use Rattle.prov_memory.specs.Held.{held_of};
-ghost use Rattle.prov_memory.specs.Keeps.{Keeps};
-ghost use Rattle.prov_memory.specs.Memory.{Kept, store_of, life_in};
-ghost use Rattle.prov_memory.specs.Made.{CanSettle, after_settling, settling_items};
-ghost use Rattle.prov_memory.specs.Access.{IsReached, IsReachedBy, CanSettleOf, reached, access_in, chosen_of, checked_offset};
+ghost use Rattle.mem_objects.specs.Held.{held_of};
+ghost use Rattle.mem_objects.specs.Keeps.{Keeps};
+ghost use Rattle.mem_objects.specs.Memory.{Kept, store_of, life_in};
+ghost use Rattle.mem_objects.specs.Made.{CanSettle, after_settling, settling_items};
+ghost use Rattle.mem_objects.specs.Access.{IsReached, IsReachedBy, CanSettleOf, reached, access_in, chosen_of, checked_offset};
 
 use super::*;
 use addr_map::Row;
+use mem_objects::Accessed;
 use ub_base::Clause;
-
-/// Where an access falls, and what it settles.
-#[derive(Clone, Copy)]
-pub(super) struct Accessed {
-    /// The place of the object.
-    pub object: usize,
-    pub name: ObjName,
-    pub from: u64,
-    pub settles: Option<(Event, ObjName)>,
-}
 
 impl Memory {
     // Whether the range lies in the object.
@@ -205,7 +196,7 @@ fn note_settles(settles: Option<(Event, ObjName)>, t: &mut Touched)
 fn offset_of(object: &Object, len: u64, align: u64, addr: u64) -> Result<u64, Clause>
     ensures { result ≡ checked_offset object.now len align addr }
 {
-    if !object.state.live {
+    if !object.state().live {
         return Err(Clause::DeadObject);
     }
     if !object.has_range(addr, len) {
@@ -214,7 +205,7 @@ fn offset_of(object: &Object, len: u64, align: u64, addr: u64) -> Result<u64, Cl
     if !is_aligned(align, addr) {
         return Err(Clause::InvalidPointer);
     }
-    Ok(addr - object.base)
+    Ok(addr - object.base())
 }
 
 /// Aligned, where there is an alignment.

@@ -4,22 +4,22 @@ ghost use Rattle.ub_base.specs.Names.{same_object};
 ghost use Rattle.std.specs.Prelude.{◌≡◌, ◌++◌, ◌∷◌, ◌<◌, ◌/◌, ◌+ℤ◌, ◌-ℤ◌, [], pos, true, if◌then◌else◌, IfOk, OnOk, OnErr, length};
 ghost use Rattle.addr_map.specs.Rows.{row_of};
 ghost use Rattle.exposure.specs.declared.prov.Prov.TheVariants.{Either};
-ghost use Rattle.prov_memory.specs.Keeps.{Keeps};
-ghost use Rattle.prov_memory.specs.Sound.{AllMade, IsSound};
+ghost use Rattle.mem_objects.specs.Keeps.{Keeps};
+ghost use Rattle.mem_objects.specs.Sound.{AllMade, IsSound};
 ghost use Rattle.exposure.specs.Cells.{has_cell};
 ghost use Rattle.mem_spec.specs.Acts as acts;
 ghost use Rattle.mem_spec.specs.Acts.{in_bounds, candidates, in_common, is_among};
 ghost use Rattle.mem_spec.specs.Script.{run, Done};
 ghost use Rattle.mem_spec.specs.Store.{findable, can_find};
 ghost use Rattle.mem_spec.specs.Streams.{Io};
-ghost use Rattle.prov_memory.specs.Memory.{Kept, store_of, act_of, AreKnown};
-ghost use Rattle.prov_memory.specs.Made.{IsAddress, IsMade, AreCreated, HasMore, look_up_items, CanSettle, settling_by, settling_to, shift_settling};
-ghost use Rattle.prov_memory.specs.Made.{settling_items, after_settling, address_result};
+ghost use Rattle.mem_objects.specs.Memory.{Kept, store_of, act_of, AreKnown};
+ghost use Rattle.mem_objects.specs.Made.{IsAddress, IsMade, AreCreated, HasMore, look_up_items, CanSettle, settling_by, settling_to, shift_settling};
+ghost use Rattle.mem_objects.specs.Made.{settling_items, after_settling, address_result};
 ghost use Rattle.prov_memory.specs.Comparing.{settling_of, both_settlings, common_settling, common_in, done_result};
 
 use super::*;
-use crate::object::is_within;
 use addr_map::Row;
+use mem_objects::is_within;
 use std::cmp::Ordering;
 use ub_base::Clause;
 
@@ -315,7 +315,7 @@ impl Memory {
     {
         match self.seek(name) {
             None => false,
-            Some(object) => object.state.exposed && object.state.live,
+            Some(object) => object.state().exposed && object.state().live,
         }
     }
 

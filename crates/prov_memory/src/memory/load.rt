@@ -13,22 +13,22 @@ ghost use Rattle.mem_spec.specs.Acts.{candidates, origins_in, tag_agrees, tags_a
 ghost use Rattle.mem_spec.specs.Script.{run, Done, Raised};
 ghost use Rattle.mem_spec.specs.Store.{is_live};
 ghost use Rattle.mem_spec.specs.Streams.{Io};
-ghost use Rattle.prov_memory.specs.Cells.{byte_in, cell_at, prov_numbered, tag_in};
-ghost use Rattle.prov_memory.specs.Held.{Held, held_of};
-ghost use Rattle.prov_memory.specs.Memory.{Kept, HasCell, AreKnown, life_in, store_of, uncovered_each};
-ghost use Rattle.prov_memory.specs.Made.{Extends, HasMore, IsMade};
-ghost use Rattle.prov_memory.specs.Keeps.{Keeps};
-ghost use Rattle.prov_memory.specs.Sound.{IsSound};
-ghost use Rattle.prov_memory.specs.Access.{IsReached, bytes_in, range_in};
+ghost use Rattle.mem_objects.specs.Cells.{byte_in, cell_at, prov_numbered, tag_in};
+ghost use Rattle.mem_objects.specs.Held.{Held, held_of};
+ghost use Rattle.mem_objects.specs.Memory.{Kept, HasCell, AreKnown, life_in, store_of, uncovered_each};
+ghost use Rattle.mem_objects.specs.Made.{Extends, HasMore, IsMade};
+ghost use Rattle.mem_objects.specs.Keeps.{Keeps};
+ghost use Rattle.mem_objects.specs.Sound.{IsSound};
+ghost use Rattle.mem_objects.specs.Access.{IsReached, bytes_in, range_in};
 ghost use Rattle.prov_memory.specs.Named.{named_in};
-ghost use Rattle.prov_memory.specs.Loads as loads;
-ghost use Rattle.prov_memory.specs.Loads.{IfPointer, IfRaise, IsLoaded, is_dead_in, number_if, number_read, origins_of, pointer_items};
+ghost use Rattle.mem_objects.specs.Loads as loads;
+ghost use Rattle.mem_objects.specs.Loads.{IfPointer, IfRaise, IsLoaded, is_dead_in, number_if, number_read, origins_of, pointer_items};
 
-use super::access::Accessed;
 use super::*;
-use crate::cell::{State, cell_at, value_of};
 use crate::{MemFault, Value};
 use c_types::{IntKind, Qual, agrees};
+use mem_objects::cell::{cell_at, value_of};
+use mem_objects::{Accessed, State};
 use ub_base::Clause;
 
 impl Memory {
@@ -152,7 +152,7 @@ impl Memory {
         requires { from + len ≤ 2 ^ 47 }
         ensures { result ≡ acts.suits_load (type_of ty.now) (option_map form_of object.now.declared) from (bytes_in self.now object.now from len) }
     {
-        match &object.declared {
+        match object.declared() {
             Some(shape) => fits_shape(shape, ty, from),
             None => ty.is_character() || self.suits_tags(object, ty, from, len),
         }
@@ -339,8 +339,9 @@ impl Memory {
         (number, self.pointer_in(object, from))
     }
 
-    // The number of eight bytes that are the pieces, from 0 on, of one pointer value with the provenance of this number; none where they aren't.
-    #[inline(always)]
+    // The number of eight bytes that are the pieces, from 0 on, of one pointer value with the provenance of this number; none where they aren't. Not
+    // inlined, so that its loop has the registers to itself.
+    #[inline(never)]
     fn pieces_number(&self, cells: &[Cell], origin: Origin, from: u64) -> Option<u64>
         requires { from + 8 ≤ 2 ^ 47 }
         ensures number { IfSome result (λ number. Some number ≡ number_if (range_in self.now cells.now from 8)) }
@@ -473,7 +474,7 @@ impl Memory {
     {
         match self.seek(name) {
             None => false,
-            Some(object) => object.state.live,
+            Some(object) => object.state().live,
         }
     }
 

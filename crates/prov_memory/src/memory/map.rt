@@ -3,7 +3,7 @@ ghost use Rattle.std.specs.Prelude.{◌≡◌, ◌+◌, ◌<◌, ◌≤◌, ◌^
 ghost use Rattle.std.specs.Prelude.{OnErr};
 ghost use Rattle.addr_map.specs.Rows.{row_of, row_at};
 ghost use Rattle.ub_base.specs.declared.names.Item.TheVariants.{Expose, Born};
-ghost use Rattle.prov_memory.specs.declared.answer.CreateFault.TheVariants.{Unplaced};
+ghost use Rattle.mem_objects.specs.declared.answer.CreateFault.TheVariants.{Unplaced};
 ghost use Rattle.c_types.specs.Shapes.{form_of};
 ghost use Rattle.exposure.specs.declared.prov.Prov.{Prov};
 ghost use Rattle.exposure.specs.declared.prov.Prov.TheVariants.{Whole};
@@ -12,12 +12,12 @@ ghost use Rattle.mem_spec.specs.Acts.{candidates};
 ghost use Rattle.mem_spec.specs.Script.{run, Done};
 ghost use Rattle.mem_spec.specs.Streams.{Io};
 ghost use Rattle.ub_base.specs.declared.names.ObjName.{ObjName};
-ghost use Rattle.prov_memory.specs.Held.{changed, uncovered, held_of};
-ghost use Rattle.prov_memory.specs.Made.{AreNamed, IsMade};
-ghost use Rattle.prov_memory.specs.Keeps.{Keeps, MayHaveRow};
-ghost use Rattle.prov_memory.specs.Sound.{IsSound};
-ghost use Rattle.prov_memory.specs.Room.{IsClose, CanPlace};
-ghost use Rattle.prov_memory.specs.Memory.{store_of, uncovered_each, AreKnown, IsBorn, cannot_create, no_place, base_by, rows_with};
+ghost use Rattle.mem_objects.specs.Held.{changed, uncovered, held_of};
+ghost use Rattle.mem_objects.specs.Made.{AreNamed, IsMade};
+ghost use Rattle.mem_objects.specs.Keeps.{Keeps, MayHaveRow};
+ghost use Rattle.mem_objects.specs.Sound.{IsSound};
+ghost use Rattle.mem_objects.specs.Room.{IsClose, CanPlace};
+ghost use Rattle.mem_objects.specs.Memory.{store_of, uncovered_each, AreKnown, IsBorn, cannot_create, no_place, base_by, rows_with};
 
 use super::*;
 
@@ -93,19 +93,7 @@ impl Memory {
         let created = self.created;
         self.created = MOST;
         let origin = self.origins.add_object(name)?;
-        let object = Object {
-            name,
-            base,
-            size,
-            state: ObjState {
-                live: true,
-                exposed: false,
-                kind,
-            },
-            declared,
-            origin,
-            cells,
-        };
+        let object = Object::new(name, base, size, kind, declared, origin, cells);
         add_last(&mut self.objects, &mut self.origins, object)?;
         self.created = counted(created, size);
         t.note(Item::Born(name));
@@ -170,7 +158,7 @@ impl Memory {
         let Some(object) = self.objects.seek(name) else {
             return;
         };
-        let len = object.size;
+        let len = object.size();
         self.objects.unwrite(name);
         t.note(Item::Write {
             object: name,

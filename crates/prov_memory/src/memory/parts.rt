@@ -6,24 +6,24 @@ ghost use Rattle.mem_spec.specs.Agreement.{bytes_of_kind};
 ghost use Rattle.mem_spec.specs.Acts as acts;
 ghost use Rattle.mem_spec.specs.Script.{run, Done, Raised};
 ghost use Rattle.mem_spec.specs.Streams.{Io};
-ghost use Rattle.prov_memory.specs.Cells.{part_of, tagged_in};
-ghost use Rattle.prov_memory.specs.Memory.{Kept, AreKnown, CellsKnown, store_of, uncovered_each};
-ghost use Rattle.prov_memory.specs.Made.{AreNamed, HasMore, IsMade};
-ghost use Rattle.prov_memory.specs.Loads as loads;
-ghost use Rattle.prov_memory.specs.Loads.{IfPointer, IfRaise, number_if, origins_of};
+ghost use Rattle.mem_objects.specs.Cells.{part_of, tagged_in};
+ghost use Rattle.mem_objects.specs.Memory.{Kept, AreKnown, CellsKnown, store_of, uncovered_each};
+ghost use Rattle.mem_objects.specs.Made.{AreNamed, HasMore, IsMade};
+ghost use Rattle.mem_objects.specs.Loads as loads;
+ghost use Rattle.mem_objects.specs.Loads.{IfPointer, IfRaise, number_if, origins_of};
 ghost use Rattle.prov_memory.specs.Parts as parts;
 ghost use Rattle.prov_memory.specs.Parts.{part_items};
-ghost use Rattle.prov_memory.specs.Tags.{CellsTagged};
-ghost use Rattle.prov_memory.specs.Keeps.{Keeps};
-ghost use Rattle.prov_memory.specs.Sound.{IsSound};
+ghost use Rattle.mem_objects.specs.Tags.{CellsTagged};
+ghost use Rattle.mem_objects.specs.Keeps.{Keeps};
+ghost use Rattle.mem_objects.specs.Sound.{IsSound};
 ghost use Rattle.mem_spec.specs.Bytes.{number_bytes, pointer_bytes};
-ghost use Rattle.prov_memory.specs.Pieces.{IsKnownValue, IsMadeValue, IsTaggedValue, seen, source_of, value_bytes, piece_cells, plain_cells};
+ghost use Rattle.mem_objects.specs.Pieces.{IsKnownValue, IsMadeValue, IsTaggedValue, seen, source_of, value_bytes, piece_cells, plain_cells};
 
 use super::load::{is_bool, number_at, number_checked};
 use super::*;
-use crate::cell::{cell_at, low_bits, value_of};
 use crate::{Block, MemFault, Value};
 use c_types::IntKind;
+use mem_objects::cell::{cell_at, low_bits, value_of};
 use ub_base::Clause;
 
 impl Memory {

@@ -9,22 +9,22 @@ ghost use Rattle.mem_spec.specs.Acts as acts;
 ghost use Rattle.mem_spec.specs.Acts.{Seen};
 ghost use Rattle.mem_spec.specs.Script.{run, Done, Raised};
 ghost use Rattle.mem_spec.specs.Streams.{Io};
-ghost use Rattle.prov_memory.specs.Held.{Held, IsWritten, FallsIn, held_of, changed, holding};
-ghost use Rattle.prov_memory.specs.Memory.{AreKnown, CellsKnown, HasCell, store_of, life_in};
-ghost use Rattle.prov_memory.specs.Access.{IsReached};
-ghost use Rattle.prov_memory.specs.Made.{AreNamed, IsMade};
-ghost use Rattle.prov_memory.specs.Keeps.{Keeps, IsNumbered};
-ghost use Rattle.prov_memory.specs.Sound.{IsSound};
-ghost use Rattle.prov_memory.specs.Tags.{CellsTagged};
+ghost use Rattle.mem_objects.specs.Held.{Held, IsWritten, FallsIn, held_of, changed, holding};
+ghost use Rattle.mem_objects.specs.Memory.{AreKnown, CellsKnown, HasCell, store_of, life_in};
+ghost use Rattle.mem_objects.specs.Access.{IsReached};
+ghost use Rattle.mem_objects.specs.Made.{AreNamed, IsMade};
+ghost use Rattle.mem_objects.specs.Keeps.{Keeps, IsNumbered};
+ghost use Rattle.mem_objects.specs.Sound.{IsSound};
+ghost use Rattle.mem_objects.specs.Tags.{CellsTagged};
 ghost use Rattle.mem_spec.specs.Bytes.{low_bits, number_bytes, pointer_bytes};
-ghost use Rattle.prov_memory.specs.Stores.{Sees, IsShort, IsTypeOf, tagged_all, checked_store, writable};
+ghost use Rattle.mem_objects.specs.Stores.{Sees, IsShort, IsTypeOf, tagged_all, checked_store, writable};
 
-use super::access::Accessed;
 use super::load::fits_shape;
 use super::*;
-use crate::cell::{low_bits, number_cells, pointer_cells};
 use crate::{Block, MemFault, Via};
 use c_types::IntKind;
+use mem_objects::Accessed;
+use mem_objects::cell::{low_bits, number_cells, pointer_cells};
 use ub_base::Clause;
 
 impl Memory {
@@ -168,7 +168,7 @@ impl Memory {
         let Via::Scalar(id) = via else {
             return true;
         };
-        let Some(shape) = &object.declared else {
+        let Some(shape) = object.declared() else {
             return true;
         };
         self.suits_shape(shape, id, from)
@@ -216,10 +216,10 @@ fn check_writable(object: &Object, first: bool) -> Result<(), Clause>
     if first {
         return Ok(());
     }
-    if object.state.kind.literal {
+    if object.state().kind.literal {
         return Err(Clause::StoreToLiteral);
     }
-    if object.state.kind.constant {
+    if object.state().kind.constant {
         return Err(Clause::StoreToConst);
     }
     Ok(())

@@ -3,17 +3,17 @@ ghost use Rattle.std.specs.Prelude.{◌≡◌, ℕ, ◌≤◌, ◌+◌, [], Some
 ghost use Rattle.c_types.specs.Types.{type_of};
 ghost use Rattle.c_types.specs.Shapes.{form_of};
 ghost use Rattle.mem_spec.specs.Agreement.{read_as_int};
-ghost use Rattle.prov_memory.specs.Cells.{tagged_in, type_numbered};
+ghost use Rattle.mem_objects.specs.Cells.{tagged_in, type_numbered};
 ghost use Rattle.exposure.specs.declared.prov.Prov.{Prov};
-ghost use Rattle.prov_memory.specs.Made.{IsMade};
-ghost use Rattle.prov_memory.specs.Keeps.{Keeps};
-ghost use Rattle.prov_memory.specs.Sound.{IsSound};
-ghost use Rattle.prov_memory.specs.Tags.{AddsTypes, IsTagged, retagged_byte};
+ghost use Rattle.mem_objects.specs.Made.{IsMade};
+ghost use Rattle.mem_objects.specs.Keeps.{Keeps};
+ghost use Rattle.mem_objects.specs.Sound.{IsSound};
+ghost use Rattle.mem_objects.specs.Tags.{AddsTypes, IsTagged, retagged_byte};
 
 use super::*;
 use crate::TypeId;
-use crate::types::{Spanned, kind_id};
 use c_types::copied;
+use mem_objects::types::{Spanned, kind_id};
 
 impl Memory {
     /// The number of a scalar type, so that tags can name it.

@@ -4,14 +4,14 @@ ghost use Rattle.c_types.specs.Shapes.{form_of};
 ghost use Rattle.mem_spec.specs.Acts as acts;
 ghost use Rattle.mem_spec.specs.Script.{run, Done, Raised};
 ghost use Rattle.mem_spec.specs.Streams.{Io};
-ghost use Rattle.prov_memory.specs.Held.{Held};
-ghost use Rattle.prov_memory.specs.Memory.{HasCell, AreKnown, CellsKnown, store_of};
-ghost use Rattle.prov_memory.specs.Made.{IsMade};
-ghost use Rattle.prov_memory.specs.Keeps.{Keeps};
-ghost use Rattle.prov_memory.specs.Sound.{IsSound};
-ghost use Rattle.prov_memory.specs.Loads.{IfRaise};
-ghost use Rattle.prov_memory.specs.Stores.{tagged_all};
-ghost use Rattle.prov_memory.specs.Tags.{AddsTypes, AreTagged, CellsTagged, IsTaken};
+ghost use Rattle.mem_objects.specs.Held.{Held};
+ghost use Rattle.mem_objects.specs.Memory.{HasCell, AreKnown, CellsKnown, store_of};
+ghost use Rattle.mem_objects.specs.Made.{IsMade};
+ghost use Rattle.mem_objects.specs.Keeps.{Keeps};
+ghost use Rattle.mem_objects.specs.Sound.{IsSound};
+ghost use Rattle.mem_objects.specs.Loads.{IfRaise};
+ghost use Rattle.mem_objects.specs.Stores.{tagged_all};
+ghost use Rattle.mem_objects.specs.Tags.{AddsTypes, AreTagged, CellsTagged, IsTaken};
 
 use super::load::note_read;
 use super::*;
@@ -108,7 +108,7 @@ impl Memory {
 fn shared_shape(object: &Object) -> Result<Option<Rc<Shape>>, NoMemory>
     ensures { IfOk result (λ declared. option_map (λ shape. form_of shape.value) declared ≡ option_map form_of object.now.declared) }
 {
-    match &object.declared {
+    match object.declared() {
         None => Ok(None),
         Some(shape) => Ok(Some(shape.clone()?)),
     }

@@ -1,5 +1,5 @@
 use Rattle.std.proofs.Common.{◌∙◌, sym, ap₂}
-use Rattle.prov_memory.specs.Memory.{store_of}
+use Rattle.mem_objects.specs.Memory.{store_of}
 use Rattle.libc_arguments.specs.Parts.{kept_after}
 use Rattle.libc_arguments.proofs.Checking.{after_kept}
 use Rattle.libc_arguments.proofs.arguments.kept.Goals as goal

@@ -1,6 +1,6 @@
 -- The numbers so far.
 use Rattle.std.proofs.Common.{◌≡◌, map, take}
-use Rattle.prov_memory.specs.Cells.{plain_cell}
+use Rattle.mem_objects.specs.Cells.{plain_cell}
 use Rattle.libc_arguments.proofs.bytes.block_of.Given as goal
 
 abbrev pub invariant-loop-number : goal.invariant-loop-number

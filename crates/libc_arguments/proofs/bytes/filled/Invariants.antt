@@ -1,6 +1,6 @@
 -- So many so far.
 use Rattle.std.proofs.Common.{◌≡◌, map, replicate}
-use Rattle.prov_memory.specs.Cells.{plain_cell}
+use Rattle.mem_objects.specs.Cells.{plain_cell}
 use Rattle.libc_arguments.proofs.bytes.filled.Given as goal
 
 abbrev pub invariant-loop-turn : goal.invariant-loop-turn

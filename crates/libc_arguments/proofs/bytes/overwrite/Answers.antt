@@ -1,7 +1,7 @@
 use Rattle.std.proofs.Common.{List, length, sym, subst}
-use Rattle.prov_memory.specs.declared.cell.Cell.{Cell}
+use Rattle.mem_objects.specs.declared.cell.Cell.{Cell}
 use Rattle.mem_spec.specs.Acts.{bytes}
-use Rattle.prov_memory.specs.Memory.{CellsKnown}
+use Rattle.mem_objects.specs.Memory.{CellsKnown}
 use Rattle.libc_arguments.proofs.Writing.{overwrite_done, plain_known}
 use Rattle.prov_memory.proofs.KeepLemmas.{keeps_then}
 use Rattle.libc_arguments.proofs.Keeping.{plain_kept}

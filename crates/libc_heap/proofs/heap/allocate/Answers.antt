@@ -1,8 +1,8 @@
 use Rattle.std.proofs.Common.{◌≡◌, ◌∙◌, ℕ, ◌+◌, ◌^◌, min, max, true, subst, rules}
 use Rattle.std.specs.Prelude.{nat_lt}
 use Rattle.ub_base.specs.declared.clause.Cause.TheVariants.{Created}
-use Rattle.prov_memory.specs.declared.answer.LibAnswer.TheVariants as answers
-use Rattle.prov_memory.specs.Memory.{store_of}
+use Rattle.mem_objects.specs.declared.answer.LibAnswer.TheVariants as answers
+use Rattle.mem_objects.specs.Memory.{store_of}
 use Rattle.libc_spec.specs.Library.{is_given}
 use Rattle.libc_heap.proofs.Allocating.{given_some, within_split, malloc_done, malloc_failed}
 use Rattle.libc_arguments.proofs.Keeping.{pointer_made}

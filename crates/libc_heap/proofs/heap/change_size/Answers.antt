@@ -1,4 +1,4 @@
-use Rattle.prov_memory.specs.Memory.{store_of}
+use Rattle.mem_objects.specs.Memory.{store_of}
 use Rattle.libc_heap.proofs.Resizing.{null_changes, none_changes, some_changes}
 use Rattle.libc_heap.proofs.heap.change_size.Goals as goal
 

@@ -1,6 +1,6 @@
 use Rattle.std.proofs.Common.{None}
 use Rattle.mem_spec.specs.Acts.{create}
-use Rattle.prov_memory.specs.Memory.{store_of}
+use Rattle.mem_objects.specs.Memory.{store_of}
 use Rattle.mem_spec.specs.Script.{run}
 use Rattle.libc_spec.specs.Library.{heap_kind}
 use Rattle.libc_heap.proofs.Allocating.{created_done}

@@ -1,7 +1,7 @@
 use Rattle.std.proofs.Common.{◌≡◌, ◌∙◌, sym}
 use Rattle.ub_base.specs.declared.names.Item.TheVariants.{Dies, Narrow}
 use Rattle.exposure.specs.Cells.{kept_in, is_other}
-use Rattle.prov_memory.specs.Memory.{store_of}
+use Rattle.mem_objects.specs.Memory.{store_of}
 use Rattle.mem_spec.specs.Store.{settled}
 use Rattle.libc_heap.proofs.Freeing.{freed_start, settled_here, two_items, rows_of_rest}
 use Rattle.prov_memory.proofs.KeepLemmas.{keeps_then}

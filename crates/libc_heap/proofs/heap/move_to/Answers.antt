@@ -3,14 +3,14 @@ use Rattle.std.proofs.lemmas.Result.{err_from_is_err_and}
 use Rattle.addr_map.specs.declared.map.Row.{Row}
 use Rattle.addr_map.specs.Rows.{row_of}
 use Rattle.mem_spec.specs.Acts.{size_in}
-use Rattle.prov_memory.specs.Memory.{Kept, store_of}
+use Rattle.mem_objects.specs.Memory.{Kept, store_of}
 use Rattle.libc_arguments.proofs.Moving.{kept_known}
 use Rattle.libc_heap.proofs.Making.{made_value}
 use Rattle.libc_heap.proofs.Resizing.{made_as, unmade_as}
 use Rattle.libc_heap.proofs.Carrying.{old_place, carried, but_known}
 use Rattle.prov_memory.proofs.KeepLemmas.{keeps_then}
 use Rattle.libc_arguments.proofs.Living.{failed_after}
-use Rattle.prov_memory.specs.Keeps.{Keeps}
+use Rattle.mem_objects.specs.Keeps.{Keeps}
 use Rattle.libc_arguments.proofs.Keeping.{keeps_three, keeps_four}
 use Rattle.libc_heap.proofs.heap.move_to.Goals as goal
 

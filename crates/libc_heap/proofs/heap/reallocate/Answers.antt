@@ -1,6 +1,6 @@
 use Rattle.std.proofs.Common.{sym, subst}
 use Rattle.exposure.specs.declared.prov.Prov.{Prov}
-use Rattle.prov_memory.specs.Memory.{HasCell, store_of}
+use Rattle.mem_objects.specs.Memory.{HasCell, store_of}
 use Rattle.libc_spec.specs.Library.{argument_at, address_in, prov_in, size_of_value}
 use Rattle.libc_arguments.specs.Seen.{values_seen}
 use Rattle.libc_arguments.proofs.Answering.{address_is, one_size, first_has}

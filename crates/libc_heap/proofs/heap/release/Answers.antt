@@ -1,4 +1,4 @@
-use Rattle.prov_memory.specs.Memory.{store_of}
+use Rattle.mem_objects.specs.Memory.{store_of}
 use Rattle.libc_heap.proofs.Resizing.{released_null, released_fault}
 use Rattle.libc_heap.proofs.heap.release.Goals as goal
 

@@ -2,8 +2,8 @@ use Rattle.std.proofs.Common.{ℕ, ◌+◌, ◌^◌, min, max}
 use Rattle.std.specs.Prelude.{nat_lt}
 use Rattle.std.proofs.lemmas.Result.{err_from_is_err_and}
 use Rattle.ub_base.specs.declared.clause.Cause.TheVariants.{Created}
-use Rattle.prov_memory.specs.declared.answer.LibAnswer.TheVariants as answers
-use Rattle.prov_memory.specs.Memory.{store_of}
+use Rattle.mem_objects.specs.declared.answer.LibAnswer.TheVariants as answers
+use Rattle.mem_objects.specs.Memory.{store_of}
 use Rattle.libc_heap.proofs.Allocating.{within_split}
 use Rattle.libc_heap.proofs.Making.{made_value}
 use Rattle.libc_heap.proofs.Resizing.{refused_does, null_does, limit_does, failing_does, done_does, begins_at, can_settle_start, rows_rest}

@@ -2,13 +2,13 @@ use Rattle.std.proofs.Common.{ℕ, ◌+◌, ◌^◌, min, max, length}
 use Rattle.std.specs.Prelude.{nat_lt}
 use Rattle.std.proofs.lemmas.Result.{err_from_is_err_and}
 use Rattle.ub_base.specs.declared.clause.Cause.TheVariants.{Created}
-use Rattle.prov_memory.specs.declared.answer.LibAnswer.TheVariants as answers
-use Rattle.prov_memory.specs.Memory.{store_of}
+use Rattle.mem_objects.specs.declared.answer.LibAnswer.TheVariants as answers
+use Rattle.mem_objects.specs.Memory.{store_of}
 use Rattle.libc_spec.specs.Library.{is_given}
 use Rattle.libc_heap.proofs.Allocating.{given_some, within_split}
 use Rattle.libc_heap.proofs.Making.{calloc_done, calloc_failed, made_value, zeros_in}
 use Rattle.std.proofs.Common.{replicate}
-use Rattle.prov_memory.specs.Keeps.{Keeps}
+use Rattle.mem_objects.specs.Keeps.{Keeps}
 use Rattle.prov_memory.proofs.KeepLemmas.{keeps_then}
 use Rattle.libc_arguments.proofs.Keeping.{plain_kept, pointer_made}
 use Rattle.libc_heap.proofs.heap.zeroed.Goals as goal

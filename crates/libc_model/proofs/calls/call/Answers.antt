@@ -1,8 +1,8 @@
 use Rattle.std.proofs.Common.{List, refl, subst}
-use Rattle.prov_memory.specs.declared.answer.LibAnswer.TheVariants as answers
-use Rattle.prov_memory.specs.declared.value.Value.{Value}
-use Rattle.prov_memory.specs.Memory.{store_of}
-use Rattle.prov_memory.specs.Tags.{AreTagged}
+use Rattle.mem_objects.specs.declared.answer.LibAnswer.TheVariants as answers
+use Rattle.mem_objects.specs.declared.value.Value.{Value}
+use Rattle.mem_objects.specs.Memory.{store_of}
+use Rattle.mem_objects.specs.Tags.{AreTagged}
 use Rattle.libc_arguments.specs.Answers.{ArgumentsMade, GivesMade, IsCall, allocates}
 use Rattle.libc_arguments.specs.Seen.{values_seen}
 use Rattle.libc_arguments.proofs.Keeping.{value_made}

@@ -1,4 +1,4 @@
-use Rattle.prov_memory.specs.Memory.{store_of}
+use Rattle.mem_objects.specs.Memory.{store_of}
 use Rattle.libc_arguments.specs.Seen.{values_seen}
 use Rattle.libc_arguments.proofs.Answering.{free_called, free_refused, first_cell}
 use Rattle.libc_model.proofs.calls.free.Goals as goal

@@ -19,7 +19,7 @@ use Rattle.c_types.specs.declared.library.LibFunc.TheVariants.{
   Exit,
   Abort,
 }
-use Rattle.prov_memory.specs.Memory.{store_of}
+use Rattle.mem_objects.specs.Memory.{store_of}
 use Rattle.libc_arguments.specs.Seen.{values_seen}
 use Rattle.libc_arguments.specs.Answers.{answer_in}
 use Rattle.libc_arguments.proofs.Answering.{arm, malloc_called, calloc_called, realloc_called, first_size}

@@ -2,7 +2,7 @@ use Rattle.std.specs.Prelude.{Err}
 use Rattle.std.proofs.Common.{false, ℕ, List, [], Vec, Global, drop, sym, subst}
 use Rattle.std.proofs.lemmas.Result.{err_from_is_err_and}
 use Rattle.ub_base.specs.declared.names.Item.{Item}
-use Rattle.prov_memory.specs.Memory.{store_of}
+use Rattle.mem_objects.specs.Memory.{store_of}
 use Rattle.libc_arguments.specs.Seen.{values_seen}
 use Rattle.libc_arguments.specs.Answers.{answer_in}
 use Rattle.libc_arguments.specs.Parts.{Gives}

@@ -1,6 +1,6 @@
 use Rattle.std.proofs.Common.{◌≡◌, ◌≤◌, ◌-◌, ◌∷◌, ◌∙◌, suc, length, drop, [], List, Vec, Global, ℕ, ap, arith, refl, sym, subst}
 use Rattle.std.proofs.lemmas.Result.{err_from_is_err_and}
-use Rattle.prov_memory.specs.declared.value.Value.{Value}
+use Rattle.mem_objects.specs.declared.value.Value.{Value}
 use Rattle.libc_spec.specs.Print.{text_of}
 use Rattle.libc_arguments.specs.Seen.{values_seen}
 use Rattle.libc_arguments.specs.Answers.{HaveCells}

@@ -1,9 +1,9 @@
-use Rattle.prov_memory.specs.declared.answer.LibAnswer.TheVariants as answers
-use Rattle.prov_memory.specs.Memory.{store_of}
+use Rattle.mem_objects.specs.declared.answer.LibAnswer.TheVariants as answers
+use Rattle.mem_objects.specs.Memory.{store_of}
 use Rattle.libc_arguments.proofs.Living.{no_streams}
 use Rattle.libc_print.proofs.Keeping.{silent_within, stored_gives}
 use Rattle.std.proofs.Common.{List, None, drop, subst}
-use Rattle.prov_memory.specs.declared.value.Value.{Value}
+use Rattle.mem_objects.specs.declared.value.Value.{Value}
 use Rattle.libc_spec.specs.Library.{argument_at}
 use Rattle.libc_arguments.specs.Answers.{HaveCells, GivesMade}
 use Rattle.libc_arguments.specs.Seen.{values_seen}

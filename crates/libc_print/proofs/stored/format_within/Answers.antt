@@ -1,15 +1,15 @@
 use Rattle.std.proofs.Common.{ℕ, Some, drop, subst}
-use Rattle.prov_memory.specs.Memory.{store_of}
+use Rattle.mem_objects.specs.Memory.{store_of}
 use Rattle.libc_spec.specs.Library.{argument_at}
 use Rattle.libc_spec.specs.Formatted.{stored_by}
 use Rattle.libc_arguments.specs.Answers.{Answers}
 use Rattle.libc_arguments.specs.Seen.{values_seen}
 use Rattle.libc_print.specs.Seen.{typed}
-use Rattle.prov_memory.specs.declared.answer.LibAnswer.TheVariants as answers
+use Rattle.mem_objects.specs.declared.answer.LibAnswer.TheVariants as answers
 use Rattle.libc_arguments.proofs.Living.{no_streams}
 use Rattle.libc_print.proofs.Keeping.{silent_within, stored_gives}
 use Rattle.std.proofs.Common.{List}
-use Rattle.prov_memory.specs.declared.value.Value.{Value}
+use Rattle.mem_objects.specs.declared.value.Value.{Value}
 use Rattle.libc_arguments.specs.Answers.{HaveCells, GivesMade}
 use Rattle.libc_print.proofs.stored.format_within.Goals as goal
 

@@ -2,7 +2,7 @@ use Rattle.std.proofs.Common.{false, List, drop, subst}
 use Rattle.std.specs.Prelude.{Err}
 use Rattle.std.proofs.lemmas.Result.{err_from_is_err_and}
 use Rattle.ub_base.specs.declared.names.Item.{Item}
-use Rattle.prov_memory.specs.Memory.{store_of}
+use Rattle.mem_objects.specs.Memory.{store_of}
 use Rattle.libc_spec.specs.Library.{pointer}
 use Rattle.libc_spec.specs.Formatted as formatted
 use Rattle.libc_spec.specs.Formatted.{placed}

@@ -1,14 +1,14 @@
 use Rattle.std.proofs.Common.{◌∙◌, ℤ, List, ap, drop, rules, subst}
 use Rattle.std.specs.Int.{w128}
 use Rattle.std.proofs.lemmas.Int.{to_z-of_z}
-use Rattle.prov_memory.specs.declared.value.Value.{Value}
-use Rattle.prov_memory.specs.Memory.{store_of}
+use Rattle.mem_objects.specs.declared.value.Value.{Value}
+use Rattle.mem_objects.specs.Memory.{store_of}
 use Rattle.libc_spec.specs.Library.{argument_at, integer_in}
 use Rattle.libc_spec.specs.Formatted.{printed_to_by}
 use Rattle.libc_arguments.specs.Answers.{Answers}
 use Rattle.libc_arguments.specs.Seen.{values_seen}
 use Rattle.libc_print.specs.Seen.{typed}
-use Rattle.prov_memory.specs.declared.answer.LibAnswer.TheVariants as answers
+use Rattle.mem_objects.specs.declared.answer.LibAnswer.TheVariants as answers
 use Rattle.libc_print.proofs.Keeping.{written_by}
 use Rattle.libc_arguments.specs.Answers.{AreWithin, HaveCells, GivesMade}
 use Rattle.libc_print.proofs.stream.format_to.Goals as goal

@@ -5,7 +5,7 @@ use Rattle.libc_print.specs.Seen.{typed}
 use Rattle.libc_print.specs.Runs.{printed_text}
 use Rattle.libc_spec.specs.Formatted.{short}
 use Rattle.ub_base.specs.declared.clause.Cause.TheVariants.{Output}
-use Rattle.prov_memory.specs.declared.answer.LibAnswer.TheVariants as answers
+use Rattle.mem_objects.specs.declared.answer.LibAnswer.TheVariants as answers
 use Rattle.libc_print.proofs.Storing.{prints_fails, too_long, short_enough}
 use Rattle.libc_print.proofs.stream.short_text.Goals as goal
 

@@ -1,7 +1,7 @@
 use Rattle.std.proofs.Common.{◌∙◌, ap, subst, Option}
 use Rattle.std.specs.Prelude.{IfSome, length}
 use Rattle.mem_spec.specs.Acts.{whole}
-use Rattle.prov_memory.specs.Memory.{Kept}
+use Rattle.mem_objects.specs.Memory.{Kept}
 use Rattle.libc_arguments.specs.declared.arguments.Range.{Range}
 use Rattle.libc_arguments.specs.Writes.{IsPlace}
 use Rattle.libc_arguments.proofs.Writing.{place_stays}

@@ -2,7 +2,7 @@ use Rattle.std.proofs.Common.{◌∙◌, ℕ, Vec, Global, to_z, of_z, ap, ap₂
 use Rattle.std.specs.Int.{w128}
 use Rattle.std.proofs.lemmas.Int.{to_z-of_z}
 use Rattle.std.proofs.lemmas.Result.{err_from_is_err_and}
-use Rattle.prov_memory.specs.declared.value.Value.TheVariants.{Int}
+use Rattle.mem_objects.specs.declared.value.Value.TheVariants.{Int}
 use Rattle.libc_spec.specs.Library.{number, order_of}
 use Rattle.libc_arguments.proofs.Listing.{short_range, no_first_range, no_second_range, no_first_bytes, no_second_bytes, both_compared}
 use Rattle.libc_strings.proofs.ranges.order_of_ranges.Goals as goal

@@ -1,6 +1,6 @@
 use Rattle.std.proofs.Common.{false, List, subst}
 use Rattle.ub_base.specs.declared.names.Item.{Item}
-use Rattle.prov_memory.specs.Memory.{store_of}
+use Rattle.mem_objects.specs.Memory.{store_of}
 use Rattle.libc_spec.specs.Library.{strcmp}
 use Rattle.libc_arguments.specs.Seen.{value_seen, values_seen}
 use Rattle.libc_arguments.specs.Answers.{answer_in}

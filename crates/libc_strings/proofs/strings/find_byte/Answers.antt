@@ -2,7 +2,7 @@ use Rattle.std.proofs.Common.{◌∙◌, false, List, subst, to_z, of_z, rules}
 use Rattle.std.specs.Int.{w128}
 use Rattle.std.proofs.lemmas.Int.{to_z-of_z}
 use Rattle.ub_base.specs.declared.names.Item.{Item}
-use Rattle.prov_memory.specs.Memory.{store_of}
+use Rattle.mem_objects.specs.Memory.{store_of}
 use Rattle.libc_spec.specs.Library.{strchr}
 use Rattle.libc_arguments.specs.Seen.{value_seen, values_seen}
 use Rattle.libc_arguments.specs.Answers.{answer_in}

@@ -1,4 +1,4 @@
-use Rattle.prov_memory.proofs.SoundLemmas.{objects_have_rows, candidates_have_rows}
+use Rattle.mem_objects.proofs.SoundLemmas.{objects_have_rows, candidates_have_rows}
 use Rattle.prov_memory.proofs.laws.law_rows.Goals as goal
 
 pub returns-clause-objects : goal.returns-clause-objects

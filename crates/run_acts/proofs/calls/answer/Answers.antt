@@ -1,5 +1,5 @@
 use Rattle.std.proofs.Common.{subst}
-use Rattle.prov_memory.specs.declared.value.Value.{Value as Held}
+use Rattle.mem_objects.specs.declared.value.Value.{Value as Held}
 use Rattle.run_values.specs.Kept.{IsOf}
 use Rattle.run_values.proofs.Keeping.{unplaced_kept}
 use Rattle.run_acts.proofs.calls.answer.Goals as goal

@@ -5,7 +5,7 @@ use Rattle.std.proofs.lemmas.Result.{err_from_is_err_and}
 use Rattle.ub_base.specs.declared.clause.Clause.{Clause}
 use Rattle.c_types.specs.Types.{signature_of}
 use Rattle.mem_spec.specs.Script.{run}
-use Rattle.prov_memory.specs.Memory.{act_of}
+use Rattle.mem_objects.specs.Memory.{act_of}
 use Rattle.c_model.specs.Program.{Function as Called}
 use Rattle.run_acts.specs.Calls.{checked_call, type_by}
 use Rattle.run_acts.proofs.CallLemmas.{none_found, none_behind, same_length, call_of, numbered, checks_pass}

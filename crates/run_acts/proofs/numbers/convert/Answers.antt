@@ -5,7 +5,7 @@ use Rattle.std.proofs.lemmas.Result.{err_from_is_err_and}
 use Rattle.c_arith.specs.Operators.{bits, conv}
 use Rattle.c_types.specs.declared.kind.IntKind.TheVariants.{ULong}
 use Rattle.mem_spec.specs.Script.{Done}
-use Rattle.prov_memory.specs.Memory.{store_of}
+use Rattle.mem_objects.specs.Memory.{store_of}
 use Rattle.c_model.specs.Nodes.{bool_value}
 use Rattle.c_model.specs.Values.{Value, Int, Fun, integer_of}
 use Rattle.run_values.specs.Views.{value_in}

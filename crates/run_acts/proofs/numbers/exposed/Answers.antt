@@ -5,7 +5,7 @@ use Rattle.addr_map.specs.declared.map.Row.{Row}
 use Rattle.c_arith.specs.Operators.{conv}
 use Rattle.mem_spec.specs.Acts.{expose}
 use Rattle.mem_spec.specs.Script.{Done}
-use Rattle.prov_memory.specs.Memory.{Kept, store_of}
+use Rattle.mem_objects.specs.Memory.{Kept, store_of}
 use Rattle.c_model.specs.Values.{Int}
 use Rattle.run_acts.proofs.Acts.{done_give, under}
 use Rattle.run_values.proofs.Keeping.{int_of}

@@ -3,7 +3,7 @@ use Rattle.addr_map.specs.declared.map.Row.{Row}
 use Rattle.exposure.specs.declared.prov.Prov.{Prov}
 use Rattle.mem_spec.specs.Acts.{from_int}
 use Rattle.mem_spec.specs.Script.{Done}
-use Rattle.prov_memory.specs.Memory.{Kept, store_of}
+use Rattle.mem_objects.specs.Memory.{Kept, store_of}
 use Rattle.c_model.specs.Values.{Ptr}
 use Rattle.run_acts.proofs.Acts.{done_give, under}
 use Rattle.run_values.proofs.Keeping.{pointer_of}

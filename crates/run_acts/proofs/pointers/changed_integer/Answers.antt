@@ -6,7 +6,7 @@ use Rattle.std.proofs.lemmas.Result.{err_from_is_err_and}
 use Rattle.ub_base.specs.declared.clause.Clause.{Clause}
 use Rattle.c_arith.specs.Operators.{conv}
 use Rattle.mem_spec.specs.Script.{Done}
-use Rattle.prov_memory.specs.Memory.{store_of}
+use Rattle.mem_objects.specs.Memory.{store_of}
 use Rattle.c_model.specs.Nodes.{given_back, operated, or_zero}
 use Rattle.c_model.specs.Values.{Int}
 use Rattle.run_values.specs.Views.{pointer_at}

@@ -7,7 +7,7 @@ use Rattle.addr_map.specs.declared.map.Row.{Row}
 use Rattle.c_types.specs.Types.{type_of}
 use Rattle.mem_spec.specs.Acts.{shift}
 use Rattle.mem_spec.specs.Script.{Done, Raised, run}
-use Rattle.prov_memory.specs.Memory.{store_of}
+use Rattle.mem_objects.specs.Memory.{store_of}
 use Rattle.c_model.specs.Nodes.{distance}
 use Rattle.run_values.specs.Views.{pointer_at}
 use Rattle.run_acts.proofs.Acts.{under, rows_rest}

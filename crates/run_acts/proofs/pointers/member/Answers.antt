@@ -3,7 +3,7 @@ use Rattle.std.specs.Int.{w128}
 use Rattle.std.proofs.lemmas.Int.{to_z-of_z}
 use Rattle.mem_spec.specs.Script.{run}
 use Rattle.ub_base.specs.declared.clause.Clause.TheVariants.{InvalidPointer}
-use Rattle.prov_memory.specs.Memory.{store_of}
+use Rattle.mem_objects.specs.Memory.{store_of}
 use Rattle.c_model.specs.Nodes as nodes
 use Rattle.run_values.specs.Views.{pointer_at}
 use Rattle.run_acts.proofs.Acts.{required, not_required}

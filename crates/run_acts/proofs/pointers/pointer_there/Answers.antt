@@ -2,8 +2,8 @@ use Rattle.std.proofs.Common.{ap}
 use Rattle.std.proofs.lemmas.Result.{err_from_is_err_and}
 use Rattle.c_types.specs.Types.{type_of}
 use Rattle.mem_spec.specs.Acts.{load_ptr}
-use Rattle.prov_memory.specs.Memory.{Kept, HasCell, AreKnown, store_of}
-use Rattle.prov_memory.specs.Sound.{IsSound}
+use Rattle.mem_objects.specs.Memory.{Kept, HasCell, AreKnown, store_of}
+use Rattle.mem_objects.specs.Sound.{IsSound}
 use Rattle.run_values.specs.Views.{pointer_at}
 use Rattle.run_acts.proofs.Acts.{as_pointer, raise_given}
 use Rattle.run_acts.proofs.Updates.{there, made_there}

@@ -4,7 +4,7 @@ use Rattle.std.specs.Ordering.{int_cmp}
 use Rattle.addr_map.specs.declared.map.Row.{Row}
 use Rattle.mem_spec.specs.Acts.{less}
 use Rattle.mem_spec.specs.Script.{Done, Raised}
-use Rattle.prov_memory.specs.Memory.{store_of}
+use Rattle.mem_objects.specs.Memory.{store_of}
 use Rattle.c_model.specs.Values.{Value}
 use Rattle.c_model.specs.Nodes.{bool_value, in_order}
 use Rattle.run_acts.specs.Scripts.{holds_in}

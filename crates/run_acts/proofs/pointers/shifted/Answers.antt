@@ -6,7 +6,7 @@ use Rattle.std.proofs.lemmas.Result.{err_from_is_err_and}
 use Rattle.addr_map.specs.declared.map.Row.{Row}
 use Rattle.mem_spec.specs.Acts.{shift}
 use Rattle.mem_spec.specs.Script.{Done, Raised, run}
-use Rattle.prov_memory.specs.Memory.{store_of}
+use Rattle.mem_objects.specs.Memory.{store_of}
 use Rattle.c_model.specs.Values.{Ptr}
 use Rattle.run_acts.proofs.Acts.{done_give, raised_give, under, rows_rest}
 use Rattle.run_acts.proofs.pointers.shifted.Goals as goal

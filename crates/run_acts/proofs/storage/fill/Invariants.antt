@@ -1,8 +1,8 @@
 use Rattle.std.proofs.Common.{List}
 use Rattle.exposure.specs.declared.prov.Prov.{Prov}
 use Rattle.mem_spec.specs.Streams.{Io}
-use Rattle.prov_memory.specs.Keeps.{Keeps}
-use Rattle.prov_memory.specs.Made.{IsMade}
+use Rattle.mem_objects.specs.Keeps.{Keeps}
+use Rattle.mem_objects.specs.Made.{IsMade}
 use Rattle.c_model.specs.Program.{Filling as Filled}
 use Rattle.run_values.specs.Fills.{AreFillings}
 use Rattle.run_values.specs.Kept.{AreOf}

@@ -1,7 +1,7 @@
 use Rattle.std.proofs.lemmas.Result.{err_from_is_err_and}
 use Rattle.c_types.specs.Types.{type_of}
 use Rattle.mem_spec.specs.Acts.{load_func}
-use Rattle.prov_memory.specs.Memory.{store_of}
+use Rattle.mem_objects.specs.Memory.{store_of}
 use Rattle.c_model.specs.Values.{Fun}
 use Rattle.run_acts.proofs.Acts.{done_give, raised_give}
 use Rattle.run_values.proofs.Keeping.{function_of}

@@ -1,6 +1,6 @@
 use Rattle.c_types.specs.Types.{type_of}
 use Rattle.mem_spec.specs.Acts.{load_ptr}
-use Rattle.prov_memory.specs.Memory.{HasCell, AreKnown, store_of}
+use Rattle.mem_objects.specs.Memory.{HasCell, AreKnown, store_of}
 use Rattle.run_acts.proofs.Acts.{as_pointer, pointer_given, fault_given}
 use Rattle.run_values.proofs.Keeping.{pointer_loaded}
 use Rattle.run_acts.proofs.storage.load_pointer.Goals as goal

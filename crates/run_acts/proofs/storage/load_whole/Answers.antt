@@ -3,8 +3,8 @@ use Rattle.std.proofs.lemmas.Result.{err_from_is_err_and}
 use Rattle.mem_spec.specs.Acts.{load_block}
 use Rattle.mem_spec.specs.Script.{Done}
 use Rattle.mem_spec.specs.Store.{TaggedByte}
-use Rattle.prov_memory.specs.Memory.{store_of}
-use Rattle.prov_memory.specs.Pieces.{seen}
+use Rattle.mem_objects.specs.Memory.{store_of}
+use Rattle.mem_objects.specs.Pieces.{seen}
 use Rattle.c_model.specs.Values.{Whole}
 use Rattle.run_acts.proofs.Acts.{done_give, raise_given}
 use Rattle.run_values.proofs.Keeping.{block_of}

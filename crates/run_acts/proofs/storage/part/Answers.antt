@@ -2,9 +2,9 @@ use Rattle.std.proofs.Common.{◌∙◌, sym, ap, ap₂, ℕ, List, Option, []}
 use Rattle.ub_base.specs.declared.names.Item.{Item}
 use Rattle.mem_spec.specs.Script.{Done}
 use Rattle.mem_spec.specs.Store.{TaggedByte}
-use Rattle.prov_memory.specs.Cells.{Loaded, part_of}
-use Rattle.prov_memory.specs.Memory.{AreKnown, store_of}
-use Rattle.prov_memory.specs.Pieces.{seen}
+use Rattle.mem_objects.specs.Cells.{Loaded, part_of}
+use Rattle.mem_objects.specs.Memory.{AreKnown, store_of}
+use Rattle.mem_objects.specs.Pieces.{seen}
 use Rattle.mem_spec.specs.Agreement.{bytes_of_kind}
 use Rattle.mem_spec.specs.Script.{Script, run}
 use Rattle.c_model.specs.Values.{Value, Whole, Nothing, part_bytes, moved_source}
@@ -12,7 +12,7 @@ use Rattle.run_acts.proofs.Parts.{seen_part, moved_same, pointer_read, pointer_u
 use Rattle.run_values.proofs.Results.{given_then}
 use Rattle.run_acts.proofs.Stores.{faults_then}
 use Rattle.std.proofs.Common.{subst}
-use Rattle.prov_memory.specs.declared.value.Value.{Value as Held}
+use Rattle.mem_objects.specs.declared.value.Value.{Value as Held}
 use Rattle.run_values.specs.Kept.{IsOf}
 use Rattle.run_values.proofs.Keeping.{nothing_of, pointer_loaded, part_kept}
 use Rattle.prov_memory.proofs.KeepLemmas.{keeps_none}

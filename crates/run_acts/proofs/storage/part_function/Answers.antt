@@ -2,9 +2,9 @@ use Rattle.std.proofs.Common.{◌∙◌, sym, ap, List}
 use Rattle.std.proofs.lemmas.Result.{err_from_is_err_and}
 use Rattle.mem_spec.specs.Script.{run}
 use Rattle.mem_spec.specs.Store.{TaggedByte}
-use Rattle.prov_memory.specs.Memory.{store_of}
+use Rattle.mem_objects.specs.Memory.{store_of}
 use Rattle.prov_memory.specs.Parts.{part_func}
-use Rattle.prov_memory.specs.Pieces.{seen}
+use Rattle.mem_objects.specs.Pieces.{seen}
 use Rattle.c_model.specs.Values.{Fun, part_bytes}
 use Rattle.run_acts.proofs.Acts.{done_give, raised_give}
 use Rattle.run_acts.proofs.Parts.{seen_part}

@@ -5,9 +5,9 @@ use Rattle.std.proofs.lemmas.Result.{err_from_is_err_and}
 use Rattle.mem_spec.specs.Agreement.{bytes_of_kind}
 use Rattle.mem_spec.specs.Script.{Done, run}
 use Rattle.mem_spec.specs.Store.{TaggedByte}
-use Rattle.prov_memory.specs.Memory.{store_of}
+use Rattle.mem_objects.specs.Memory.{store_of}
 use Rattle.prov_memory.specs.Parts.{part_int}
-use Rattle.prov_memory.specs.Pieces.{seen}
+use Rattle.mem_objects.specs.Pieces.{seen}
 use Rattle.c_model.specs.Values.{Int, part_bytes}
 use Rattle.run_acts.proofs.Acts.{done_give, raised_give}
 use Rattle.run_acts.proofs.Parts.{seen_part}

@@ -5,7 +5,7 @@ use Rattle.c_types.specs.Types.{int}
 use Rattle.mem_spec.specs.Acts.{store, scalar}
 use Rattle.mem_spec.specs.Agreement.{bytes_of_kind}
 use Rattle.mem_spec.specs.Bytes.{number_bytes, pointer_bytes}
-use Rattle.prov_memory.specs.Memory.{store_of}
+use Rattle.mem_objects.specs.Memory.{store_of}
 use Rattle.c_model.specs.Values.{int_bytes, integer_of, function_in}
 use Rattle.run_values.specs.Stores.{CanStore}
 use Rattle.run_values.specs.Views.{value_in, pointer_at}

@@ -3,14 +3,14 @@ use Rattle.std.proofs.lemmas.Result.{err_from_is_err_and}
 use Rattle.ub_base.specs.declared.names.Item.{Item}
 use Rattle.mem_spec.specs.Acts.{store, whole}
 use Rattle.mem_spec.specs.Script.{Done}
-use Rattle.prov_memory.specs.Memory.{store_of}
-use Rattle.prov_memory.specs.Pieces.{seen}
+use Rattle.mem_objects.specs.Memory.{store_of}
+use Rattle.mem_objects.specs.Pieces.{seen}
 use Rattle.c_model.specs.Nodes.{overlap_inexactly}
 use Rattle.c_model.specs.Values.{Nothing}
 use Rattle.run_values.specs.Views.{pointer_at}
 use Rattle.run_acts.proofs.Stores.{apart_done, overlap_raised, unstored_raised, put_none}
 use Rattle.std.proofs.Common.{subst}
-use Rattle.prov_memory.specs.declared.value.Value.{Value as Held}
+use Rattle.mem_objects.specs.declared.value.Value.{Value as Held}
 use Rattle.run_values.specs.Kept.{IsOf}
 use Rattle.prov_memory.proofs.KeepLemmas.{keeps_none}
 use Rattle.run_acts.proofs.storage.store_value.Goals as goal

@@ -1,6 +1,6 @@
 use Rattle.std.proofs.Common.{refl, sym, subst}
 use Rattle.run_layout.specs.declared.steps.Act.TheVariants as act
-use Rattle.prov_memory.specs.declared.value.Value.TheVariants as kept
+use Rattle.mem_objects.specs.declared.value.Value.TheVariants as kept
 use Rattle.std.specs.Prelude.{Ok}
 use Rattle.c_model.specs.Values.{Nothing}
 use Rattle.mem_spec.specs.Script.{Give}

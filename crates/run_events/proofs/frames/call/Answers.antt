@@ -1,4 +1,5 @@
 use Rattle.std.proofs.Common.{◌∙◌, Some, None, Err}
+use Rattle.std.proofs.lemmas.Option.{slice_get_within}
 use Rattle.std.proofs.lemmas.Result.{err_from_is_err_and}
 use Rattle.c_types.specs.Types.{signature_of}
 use Rattle.c_model.specs.Steps.{function_of}
@@ -25,6 +26,11 @@ returns-in_err-number-clause-calls c =
     (refused m c.args.call.now.arguments.items c.args.call.now.types c.args.event agree (type_by (signature_of ty.now))
     (function_of fs 0 c.designated-address.result)
     c.in_err-number.field-0.0 m.memory.rows (store_in m) (c.in_err-number.ensures.exact few fs are agree agrees m.memory.rows (store_in m))))
+
+pub library_of-requires : goal.library_of-requires
+library_of-requires c =
+    let found = c.in_ok-number.ensures.callable in
+    record { there = slice_get_within c.args.machine.now.program.now.functions c.in_ok-number.number found.0 found.1 }
 
 pub returns-in-Some-library_of-clause-calls : goal.returns-in-Some-library_of-clause-calls
 returns-in-Some-library_of-clause-calls c = λ fs agree h few are agrees given.

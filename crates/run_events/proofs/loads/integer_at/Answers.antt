@@ -4,8 +4,8 @@ use Rattle.std.proofs.lemmas.Int.{to_z-of_z}
 use Rattle.std.proofs.lemmas.Result.{err_from_is_err_and}
 use Rattle.mem_spec.specs.Acts.{load_int}
 use Rattle.mem_spec.specs.Script.{Done, Raised}
-use Rattle.prov_memory.specs.Memory.{store_of}
-use Rattle.prov_memory.specs.declared.value.Value.TheVariants as kept
+use Rattle.mem_objects.specs.Memory.{store_of}
+use Rattle.mem_objects.specs.declared.value.Value.TheVariants as kept
 use Rattle.c_model.specs.Values as model
 use Rattle.run_acts.specs.Loads.{integer_act}
 use Rattle.run_values.specs.Views.{pointer_at}

@@ -4,7 +4,7 @@ use Rattle.std.proofs.lemmas.Result.{err_from_is_err_and}
 use Rattle.c_typed.specs.declared.tree.Access.TheVariants as access
 use Rattle.c_types.specs.Types.{type_of}
 use Rattle.mem_spec.specs.Acts.{load_ptr}
-use Rattle.prov_memory.specs.Memory.{AreKnown, HasCell, store_of}
+use Rattle.mem_objects.specs.Memory.{AreKnown, HasCell, store_of}
 use Rattle.run_acts.specs.Loads.{pointer_act}
 use Rattle.run_values.specs.Views.{pointer_at}
 use Rattle.run_acts.proofs.Acts.{as_pointer, pointer_given, raise_given}

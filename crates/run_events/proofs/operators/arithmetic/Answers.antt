@@ -3,7 +3,7 @@ use Rattle.std.proofs.lemmas.Result.{err_from_is_err_and}
 use Rattle.c_model.specs.Nodes as nodes
 use Rattle.c_model.specs.Values as model
 use Rattle.run_layout.specs.declared.steps.Act.TheVariants as act
-use Rattle.prov_memory.specs.declared.value.Value.TheVariants as kept
+use Rattle.mem_objects.specs.declared.value.Value.TheVariants as kept
 use Rattle.std.specs.Int.{w128}
 use Rattle.std.proofs.lemmas.Int.{to_z-of_z}
 use Rattle.c_model.specs.Values.{integer_of}

@@ -6,7 +6,7 @@ use Rattle.c_typed.specs.declared.tree.Conversion.TheVariants as conversion
 use Rattle.c_model.specs.Values as model
 use Rattle.c_model.specs.Values.{integer_of}
 use Rattle.mem_spec.specs.Script.{Give}
-use Rattle.prov_memory.specs.declared.value.Value.TheVariants as kept
+use Rattle.mem_objects.specs.declared.value.Value.TheVariants as kept
 use Rattle.prov_memory.proofs.KeepLemmas.{keeps_none}
 use Rattle.run_layout.specs.declared.steps.Act.TheVariants as act
 use Rattle.run_answers.specs.Acts.{given_by}

@@ -4,7 +4,7 @@ use Rattle.c_model.specs.Nodes as nodes
 use Rattle.run_layout.specs.declared.steps.Act.TheVariants as act
 use Rattle.run_values.specs.Views.{pointer_at}
 use Rattle.mem_spec.specs.Script.{Done}
-use Rattle.prov_memory.specs.Memory.{store_of}
+use Rattle.mem_objects.specs.Memory.{store_of}
 use Rattle.c_model.specs.Values.{Value}
 use Rattle.run_answers.proofs.Doing.{by_script, place_same, pointer_is, pointer_made, rows_kept}
 use Rattle.run_events.proofs.Rooms.{room_changes, room_done, touches_all}

@@ -5,7 +5,7 @@ use Rattle.c_model.specs.Values as model
 use Rattle.run_layout.specs.declared.steps.Act.TheVariants as act
 use Rattle.run_values.specs.Views.{pointer_at}
 use Rattle.mem_spec.specs.Script.{Done}
-use Rattle.prov_memory.specs.Memory.{store_of}
+use Rattle.mem_objects.specs.Memory.{store_of}
 use Rattle.c_model.specs.Values.{Value}
 use Rattle.std.specs.Int.{w128}
 use Rattle.std.proofs.lemmas.Int.{to_z-of_z}

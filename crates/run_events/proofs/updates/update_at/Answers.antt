@@ -4,7 +4,7 @@ use Rattle.run_layout.specs.declared.steps.Act.TheVariants as act
 use Rattle.std.specs.Int.{w128}
 use Rattle.std.proofs.lemmas.Int.{to_z-of_z}
 use Rattle.std.specs.Prelude.{Ok}
-use Rattle.prov_memory.specs.declared.value.Value.TheVariants as kept
+use Rattle.mem_objects.specs.declared.value.Value.TheVariants as kept
 use Rattle.run_answers.specs.declared.outcome.Outcome.TheVariants as outcome
 use Rattle.run_answers.specs.Performs.{ChangesOnly, Does}
 use Rattle.run_events.proofs.Valued.{both_change, both_done, update_did, update_fails}

@@ -1,6 +1,6 @@
 use Rattle.std.proofs.Common.{◌∙◌, ap, sym, subst, Option}
 use Rattle.std.specs.Option.{unwrap_or}
-use Rattle.prov_memory.specs.declared.value.Value.{Value as Kept_value}
+use Rattle.mem_objects.specs.declared.value.Value.{Value as Kept_value}
 use Rattle.run_answers.specs.Ending.{HasGiven}
 use Rattle.run_machine.proofs.Returning.{has_given, or_this_is}
 use Rattle.run_machine.proofs.frames.result_of.Goals as goal

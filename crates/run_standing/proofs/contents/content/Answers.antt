@@ -1,5 +1,5 @@
 use Rattle.std.proofs.Common.{◌∙◌, ap, length, replicate}
-use Rattle.prov_memory.specs.Pieces.{seen}
+use Rattle.mem_objects.specs.Pieces.{seen}
 use Rattle.run_standing.proofs.Content.{zeros_seen, plain_seen, cells_known, cells_tagged}
 use Rattle.run_values.proofs.Results.{given_then}
 use Rattle.run_standing.proofs.contents.content.Goals as goal

@@ -1,6 +1,6 @@
 -- The bytes so far.
 use Rattle.std.proofs.Common.{◌≡◌, map, take}
-use Rattle.prov_memory.specs.Cells.{plain_cell}
+use Rattle.mem_objects.specs.Cells.{plain_cell}
 use Rattle.run_standing.proofs.contents.written.Given as goal
 
 abbrev pub invariant-loop-byte : goal.invariant-loop-byte

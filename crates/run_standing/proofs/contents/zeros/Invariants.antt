@@ -1,6 +1,6 @@
 -- So many so far.
 use Rattle.std.proofs.Common.{◌≡◌, map, replicate}
-use Rattle.prov_memory.specs.Cells.{plain_cell}
+use Rattle.mem_objects.specs.Cells.{plain_cell}
 use Rattle.run_standing.proofs.contents.zeros.Given as goal
 
 abbrev pub invariant-loop-turn : goal.invariant-loop-turn

@@ -1,5 +1,5 @@
 use Rattle.std.proofs.Common.{◌∙◌, ap, ◌+◌, ◌*◌, ◌%◌, length, replicate, arith}
-use Rattle.prov_memory.specs.Memory.{Kept}
+use Rattle.mem_objects.specs.Memory.{Kept}
 use Rattle.prov_memory.proofs.KeepLemmas.{keeps_then}
 use Rattle.c_model.specs.Values.{address_after}
 use Rattle.run_standing.proofs.Content.{cells_known, cells_tagged}

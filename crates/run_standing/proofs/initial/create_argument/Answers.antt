@@ -4,7 +4,7 @@ use Rattle.ub_base.specs.declared.names.ObjName.TheVariants.{Arg}
 use Rattle.run_standing.proofs.Starts.{argument_created}
 use Rattle.exposure.specs.declared.prov.Prov.{Prov}
 use Rattle.exposure.specs.declared.prov.Prov.TheVariants.{Whole}
-use Rattle.prov_memory.specs.Made.{IsMade}
+use Rattle.mem_objects.specs.Made.{IsMade}
 use Rattle.prov_memory.proofs.KeepLemmas.{keeps_none}
 use Rattle.c_model.specs.Values.{Pointer}
 use Rattle.run_standing.proofs.Starting.{one_more_made}

@@ -1,7 +1,7 @@
 -- Those created so far.
 use Rattle.std.proofs.Common.{◌≡◌, ◌+◌, ◌<◌, ◌^◌, ◌∷◌, length, map, take, string_bytes}
-use Rattle.prov_memory.specs.Keeps.{Keeps}
-use Rattle.prov_memory.specs.Sound.{IsSound}
+use Rattle.mem_objects.specs.Keeps.{Keeps}
+use Rattle.mem_objects.specs.Sound.{IsSound}
 use Rattle.run_standing.specs.Standing.{AllCreated, AreArguments, arguments, program_name}
 use Rattle.run_standing.specs.Starting.{AreMadeAll}
 use Rattle.run_standing.proofs.initial.create_arguments.Given as goal

@@ -1,8 +1,8 @@
 -- Those created so far.
 use Rattle.std.proofs.Common.{◌≡◌, ◌<◌, ◌^◌, [], length, take}
 use Rattle.ub_base.specs.declared.names.ObjName.TheVariants.{Lit}
-use Rattle.prov_memory.specs.Keeps.{Keeps}
-use Rattle.prov_memory.specs.Sound.{IsSound}
+use Rattle.mem_objects.specs.Keeps.{Keeps}
+use Rattle.mem_objects.specs.Sound.{IsSound}
 use Rattle.run_standing.specs.Standing.{AllCreated, literals}
 use Rattle.run_values.specs.Placed.{AreAll}
 use Rattle.run_standing.proofs.initial.create_literals.Given as goal

@@ -7,7 +7,7 @@ use Rattle.run_standing.proofs.Starts.{creates_ok}
 use Rattle.ub_base.specs.declared.names.ObjName.TheVariants.{Argv}
 use Rattle.exposure.specs.declared.prov.Prov.{Prov}
 use Rattle.exposure.specs.declared.prov.Prov.TheVariants.{Whole}
-use Rattle.prov_memory.specs.Made.{IsMade}
+use Rattle.mem_objects.specs.Made.{IsMade}
 use Rattle.prov_memory.proofs.KeepLemmas.{keeps_none}
 use Rattle.c_model.specs.Values.{Pointer}
 use Rattle.run_standing.proofs.initial.create_vector.Goals as goal

@@ -1,7 +1,7 @@
 -- Those filled so far.
 use Rattle.std.proofs.Common.{ℕ, List, take}
 use Rattle.addr_map.specs.Sound.{Above}
-use Rattle.prov_memory.specs.Keeps.{Keeps}
+use Rattle.mem_objects.specs.Keeps.{Keeps}
 use Rattle.run_standing.specs.Outcomes.{LivesStay, WaitAll}
 use Rattle.run_standing.specs.Standing.{AllFilled, AreArguments, arguments}
 use Rattle.run_standing.proofs.initial.fill_arguments.Given as goal

@@ -2,7 +2,7 @@
 use Rattle.std.proofs.Common.{◌<◌, ◌^◌, length, take}
 use Rattle.addr_map.specs.Sound.{Above}
 use Rattle.ub_base.specs.declared.names.ObjName.TheVariants.{Lit}
-use Rattle.prov_memory.specs.Keeps.{Keeps}
+use Rattle.mem_objects.specs.Keeps.{Keeps}
 use Rattle.run_standing.specs.Outcomes.{LivesStay, WaitAll}
 use Rattle.run_standing.specs.Standing.{AllFilled, literals}
 use Rattle.run_values.specs.Placed.{AreAll}

@@ -5,7 +5,7 @@ use Rattle.run_standing.proofs.Starting.{static_held}
 use Rattle.run_standing.proofs.Statics.{at_object, filled_next, reached_none, static_filled}
 use Rattle.std.proofs.lemmas.Result.{err_from_is_err_and}
 use Rattle.ub_base.specs.declared.names.ObjName.TheVariants as names
-use Rattle.prov_memory.specs.Memory.{Kept}
+use Rattle.mem_objects.specs.Memory.{Kept}
 use Rattle.run_standing.proofs.Ready.{lives_same, lives_then, ready_still, refused_then, within_at}
 use Rattle.run_standing.proofs.Rooms.{static_ready, static_within}
 use Rattle.run_standing.proofs.initial.fill_static.Goals as goal

@@ -2,7 +2,7 @@
 use Rattle.std.proofs.Common.{◌≡◌, ℕ, List, drop}
 use Rattle.ub_base.specs.declared.names.ObjName.{ObjName}
 use Rattle.exposure.specs.declared.prov.Prov.TheVariants.{Whole}
-use Rattle.prov_memory.specs.Keeps.{Keeps}
+use Rattle.mem_objects.specs.Keeps.{Keeps}
 use Rattle.c_model.specs.Program.{Filling as Filled}
 use Rattle.run_values.specs.Fills.{AreFillings}
 use Rattle.run_values.specs.Kept.{AreOf}

@@ -3,8 +3,8 @@ use Rattle.std.proofs.Common.{List, take}
 use Rattle.addr_map.specs.Sound.{Above}
 use Rattle.c_typed.specs.Lawful.{IsLawful}
 use Rattle.c_model.specs.Program.{Standing}
-use Rattle.prov_memory.specs.Keeps.{Keeps}
-use Rattle.prov_memory.specs.Sound.{IsSound}
+use Rattle.mem_objects.specs.Keeps.{Keeps}
+use Rattle.mem_objects.specs.Sound.{IsSound}
 use Rattle.run_standing.specs.Outcomes.{LivesStay, WaitAll}
 use Rattle.run_standing.specs.Standing.{AllFilled, AreStatics}
 use Rattle.run_values.specs.Placed.{ArePlaced}

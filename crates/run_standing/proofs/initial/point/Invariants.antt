@@ -4,8 +4,8 @@ use Rattle.addr_map.specs.Sound.{Above}
 use Rattle.ub_base.specs.declared.names.ObjName.{ObjName}
 use Rattle.ub_base.specs.declared.names.ObjName.TheVariants.{Argv}
 use Rattle.exposure.specs.declared.prov.Prov.TheVariants.{Whole}
-use Rattle.prov_memory.specs.Keeps.{Keeps}
-use Rattle.prov_memory.specs.Sound.{IsSound}
+use Rattle.mem_objects.specs.Keeps.{Keeps}
+use Rattle.mem_objects.specs.Sound.{IsSound}
 use Rattle.run_standing.specs.Outcomes.{LivesStay, Waits}
 use Rattle.run_standing.specs.Standing.{AreArguments, StandsThere, vector}
 use Rattle.run_standing.specs.Starting.{AreMadeAll}

@@ -1,6 +1,6 @@
 use Rattle.std.proofs.Common.{refl}
 use Rattle.mem_spec.specs.Acts.{bytes}
-use Rattle.prov_memory.specs.Pieces.{seen}
+use Rattle.mem_objects.specs.Pieces.{seen}
 use Rattle.c_model.specs.Values.{address_after}
 use Rattle.run_standing.proofs.Starts.{put_is, put_at}
 use Rattle.run_standing.proofs.Ready.{put_fits, puts_live}

@@ -1,6 +1,6 @@
 -- Those that were made so far.
 use Rattle.std.proofs.Common.{◌≡◌, length, take}
-use Rattle.prov_memory.specs.Made.{AreNamed}
+use Rattle.mem_objects.specs.Made.{AreNamed}
 use Rattle.run_start.specs.Begins.{AreBytesWhere}
 use Rattle.run_state.specs.Stands.{AreEach}
 use Rattle.run_start.proofs.initial.fillings_of.Given as goal

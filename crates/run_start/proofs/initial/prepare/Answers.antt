@@ -2,11 +2,11 @@ use Rattle.std.proofs.Common.{ap, ◌∙◌, map, subst, sym, string_bytes, leng
 use Rattle.std.specs.Borrow.{Bor}
 use Rattle.std.proofs.lemmas.List.{length-map}
 use Rattle.c_typed.specs.declared.program.Program.{Program}
-use Rattle.prov_memory.specs.Keeps.{Keeps}
-use Rattle.prov_memory.specs.Memory.{Kept}
-use Rattle.prov_memory.specs.Sound.{IsSound}
-use Rattle.prov_memory.specs.Tags.{AreTagged}
-use Rattle.prov_memory.proofs.SoundLemmas.{empty_sound}
+use Rattle.mem_objects.specs.Keeps.{Keeps}
+use Rattle.mem_objects.specs.Memory.{Kept}
+use Rattle.mem_objects.specs.Sound.{IsSound}
+use Rattle.mem_objects.specs.Tags.{AreTagged}
+use Rattle.mem_objects.proofs.SoundLemmas.{empty_sound}
 use Rattle.run_state.specs.declared.image.Image.{Image}
 use Rattle.run_state.specs.declared.machine.Machine.{Machine}
 use Rattle.run_state.specs.declared.machine.Open.{Open}

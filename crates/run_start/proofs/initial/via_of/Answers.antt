@@ -1,4 +1,4 @@
-use Rattle.prov_memory.proofs.TagLemmas.{store_adds}
+use Rattle.mem_objects.proofs.TagLemmas.{store_adds}
 use Rattle.run_start.proofs.initial.via_of.Goals as goal
 
 pub returns-in_err-type_id-in-Pointer-clause-store : goal.returns-in_err-type_id-in-Pointer-clause-store

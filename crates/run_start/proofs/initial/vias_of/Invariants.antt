@@ -1,9 +1,9 @@
 -- Those of the first stores.
 use Rattle.std.proofs.Common.{◌≡◌, take}
 use Rattle.mem_spec.specs.Streams.{Io}
-use Rattle.prov_memory.specs.Keeps.{Keeps}
-use Rattle.prov_memory.specs.Memory.{store_of}
-use Rattle.prov_memory.specs.Tags.{AreTagged}
+use Rattle.mem_objects.specs.Keeps.{Keeps}
+use Rattle.mem_objects.specs.Memory.{store_of}
+use Rattle.mem_objects.specs.Tags.{AreTagged}
 use Rattle.run_start.specs.Begins.{IsNamedVia}
 use Rattle.run_state.specs.Stands.{AreEach}
 use Rattle.run_start.proofs.initial.vias_of.Given as goal

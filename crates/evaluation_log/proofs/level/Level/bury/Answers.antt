@@ -8,7 +8,7 @@ pub returns-then-has_born-clause-keeps : goal.returns-then-has_born-clause-keeps
 returns-then-has_born-clause-keeps c =
     after c.args.self.now.foot c.add.new.self c.forget.new.self
     (added c.args.self.now.foot c.add.new.self (Dies c.args.object) c.in_ok-add.ensures.added)
-    (forgotten c.add.new.self c.forget.new.self c.args.object c.forget.ensures
+    (forgotten c.add.new.self c.forget.new.self c.args.object c.forget.ensures (sym c.has_born.ensures ∙ c.if-has_born.true)
     (died c.args.self.now.foot c.add.new.self c.args.object c.in_ok-add.ensures.added))
 
 pub returns-then-has_born-clause-only : goal.returns-then-has_born-clause-only

@@ -1,6 +1,6 @@
 use Rattle.std.proofs.Common.{◌+◌, ◌≤◌, None, refl, arith}
 use Rattle.exposure.specs.declared.prov.Prov.TheVariants.{Whole}
-use Rattle.prov_memory.proofs.AccessLemmas.{access_done, access_raises, whole_found, whole_settles, whole_items}
+use Rattle.mem_objects.proofs.AccessLemmas.{access_done, access_raises, whole_found, whole_settles, whole_items}
 use Rattle.prov_memory.proofs.memory.Memory.access.Goals as goal
 
 pub returns-clause-found : goal.returns-clause-found

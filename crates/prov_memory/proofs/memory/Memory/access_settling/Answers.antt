@@ -1,6 +1,6 @@
 use Rattle.std.proofs.Common.{◌+◌, ◌≤◌, arith}
 use Rattle.std.proofs.lemmas.Result.{err_from_is_err_and}
-use Rattle.prov_memory.proofs.AccessLemmas.{access_done, access_raises, object_raises}
+use Rattle.mem_objects.proofs.AccessLemmas.{access_done, access_raises, object_raises}
 use Rattle.prov_memory.proofs.memory.Memory.access_settling.Goals as goal
 
 pub returns-in_err-target-clause-raises : goal.returns-in_err-target-clause-raises

@@ -1,5 +1,5 @@
 use Rattle.std.proofs.Common.{arith}
-use Rattle.prov_memory.proofs.TagLemmas.{last_is}
+use Rattle.mem_objects.proofs.TagLemmas.{last_is}
 use Rattle.prov_memory.proofs.memory.Memory.add_type.Goals as goal
 
 pub returns-clause-id : goal.returns-clause-id

@@ -1,9 +1,9 @@
 use Rattle.std.proofs.Common.{◌≡◌, ◌<◌, ◌∙◌, ap, true, false, map, arith, rules}
 use Rattle.c_types.specs.Types.{type_of}
-use Rattle.prov_memory.specs.declared.cell.Cell.{Cell}
+use Rattle.mem_objects.specs.declared.cell.Cell.{Cell}
 use Rattle.mem_spec.specs.Acts.{is_piece, are_pieces}
-use Rattle.prov_memory.specs.Cells.{cell_at, byte_in, prov_numbered, tagged_in}
-use Rattle.prov_memory.specs.Access.{range_in}
+use Rattle.mem_objects.specs.Cells.{cell_at, byte_in, prov_numbered, tagged_in}
+use Rattle.mem_objects.specs.Access.{range_in}
 use Rattle.prov_memory.proofs.PointerLemmas.{pieces_pass, pieces_fail}
 use Rattle.prov_memory.proofs.memory.Memory.are_pieces.Goals as goal
 

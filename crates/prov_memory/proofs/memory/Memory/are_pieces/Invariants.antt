@@ -1,7 +1,7 @@
 use Rattle.std.proofs.Common.{◌≡◌, ◌+◌, ◌-◌}
 use Rattle.mem_spec.specs.Acts.{are_pieces}
-use Rattle.prov_memory.specs.Access.{range_in}
-use Rattle.prov_memory.specs.Cells.{prov_numbered}
+use Rattle.mem_objects.specs.Access.{range_in}
+use Rattle.mem_objects.specs.Cells.{prov_numbered}
 use Rattle.prov_memory.proofs.memory.Memory.are_pieces.Given as goal
 
 -- the pieces so far are there, so those that are left decide

@@ -3,8 +3,8 @@ use Rattle.ub_base.specs.Names.{same_object}
 use Rattle.ub_base.proofs.NameLemmas.{same_object_refl}
 use Rattle.addr_map.specs.declared.map.Row.{Row}
 use Rattle.addr_map.specs.Rows.{row_of, row_at}
-use Rattle.prov_memory.specs.Memory.{HaveRows}
-use Rattle.prov_memory.proofs.StoreLemmas.{row_as, end_of_row, rows_inserted, inserted_same}
+use Rattle.mem_objects.specs.Memory.{HaveRows}
+use Rattle.mem_objects.proofs.StoreLemmas.{row_as, end_of_row, rows_inserted, inserted_same}
 use Rattle.std.proofs.Common.{true, rules, ◌≤◌}
 use Rattle.addr_map.specs.Rows.{is_power}
 use Rattle.prov_memory.specs.contracts.memory.Memory.{the_view}

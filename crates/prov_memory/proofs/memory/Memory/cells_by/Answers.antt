@@ -1,11 +1,11 @@
 use Rattle.std.proofs.Common.{◌≡◌, ℕ, ◌+◌, ◌<◌, ◌∙◌, ap, map, option_map, slice_get, arith, rules}
 use Rattle.c_types.specs.Types.{type_of}
 use Rattle.c_types.specs.Shapes.{form_of}
-use Rattle.prov_memory.specs.Cells.{cell_at, tagged_in}
-use Rattle.prov_memory.specs.Tags.{retagged_byte}
-use Rattle.prov_memory.proofs.TagLemmas.{adds_then, taken_next, taken_all}
-use Rattle.prov_memory.specs.Memory.{Kept}
-use Rattle.prov_memory.proofs.SoundLemmas.{cell_known}
+use Rattle.mem_objects.specs.Cells.{cell_at, tagged_in}
+use Rattle.mem_objects.specs.Tags.{retagged_byte}
+use Rattle.mem_objects.proofs.TagLemmas.{adds_then, taken_next, taken_all}
+use Rattle.mem_objects.specs.Memory.{Kept}
+use Rattle.mem_objects.proofs.SoundLemmas.{cell_known}
 use Rattle.prov_memory.proofs.memory.Memory.cells_by.Goals as goal
 
 pub loop-offset-preserved : goal.loop-offset-preserved

@@ -1,8 +1,8 @@
 use Rattle.std.proofs.Common.{◌≡◌, ◌+◌, ◌≤◌, ◌^◌, [], length, option_map, slice_get, Some, vec_len}
 use Rattle.c_types.specs.Shapes.{form_of}
-use Rattle.prov_memory.specs.Held.{Held}
-use Rattle.prov_memory.specs.Memory.{AreKnown, CellsKnown}
-use Rattle.prov_memory.specs.Tags.{AddsTypes, AreTagged, IsTaken}
+use Rattle.mem_objects.specs.Held.{Held}
+use Rattle.mem_objects.specs.Memory.{AreKnown, CellsKnown}
+use Rattle.mem_objects.specs.Tags.{AddsTypes, AreTagged, IsTaken}
 use Rattle.prov_memory.proofs.memory.Memory.cells_by.Given as goal
 
 -- the bytes so far

@@ -1,6 +1,6 @@
 use Rattle.std.proofs.Common.{option_map}
 use Rattle.c_types.specs.Shapes.{form_of}
-use Rattle.prov_memory.proofs.TagLemmas.{taken_as, adds_objects}
+use Rattle.mem_objects.proofs.TagLemmas.{taken_as, adds_objects}
 use Rattle.prov_memory.proofs.memory.Memory.cells_of.Goals as goal
 
 pub returns-clause-taken : goal.returns-clause-taken

@@ -1,6 +1,6 @@
-use Rattle.prov_memory.proofs.ActLemmas.{created_all, created_known}
+use Rattle.mem_objects.proofs.ActLemmas.{created_all, created_known}
 use Rattle.std.proofs.Common.{option_map}
-use Rattle.prov_memory.proofs.SoundLemmas.{created_made, created_whole, created_sound}
+use Rattle.mem_objects.proofs.SoundLemmas.{created_made, created_whole, created_sound}
 use Rattle.prov_memory.proofs.BirthLemmas.{keeps_created, rows_kept, made_either, sound_either}
 use Rattle.prov_memory.proofs.RoomLemmas.{place_found}
 use Rattle.prov_memory.proofs.memory.Memory.create.Goals as goal

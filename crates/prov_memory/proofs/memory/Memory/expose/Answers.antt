@@ -1,10 +1,10 @@
 use Rattle.std.proofs.Common.{length, ap, []}
 use Rattle.mem_spec.specs.Acts.{candidates}
-use Rattle.prov_memory.specs.Memory.{Kept}
-use Rattle.prov_memory.proofs.ActLemmas.{first_noted_all, exposed_act, known_uncovered}
-use Rattle.prov_memory.proofs.PieceLemmas.{named_uncovered}
+use Rattle.mem_objects.specs.Memory.{Kept}
+use Rattle.mem_objects.proofs.ActLemmas.{first_noted_all, exposed_act, known_uncovered}
+use Rattle.mem_objects.proofs.PieceLemmas.{named_uncovered}
 use Rattle.std.proofs.Common.{refl}
-use Rattle.prov_memory.proofs.SoundLemmas.{shown_made, shown_sound}
+use Rattle.mem_objects.proofs.SoundLemmas.{shown_made, shown_sound}
 use Rattle.prov_memory.proofs.KeepLemmas.{keeps_shown}
 use Rattle.prov_memory.proofs.memory.Memory.expose.Goals as goal
 

@@ -1,4 +1,4 @@
-use Rattle.prov_memory.specs.Memory.{store_of}
+use Rattle.mem_objects.specs.Memory.{store_of}
 use Rattle.prov_memory.proofs.FindLemmas.{found_some, found_none}
 use Rattle.prov_memory.proofs.memory.Memory.found.Goals as goal
 

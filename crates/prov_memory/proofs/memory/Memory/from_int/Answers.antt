@@ -1,5 +1,5 @@
 use Rattle.prov_memory.proofs.FindLemmas.{from_int_all}
-use Rattle.prov_memory.proofs.SoundLemmas.{more_made}
+use Rattle.mem_objects.proofs.SoundLemmas.{more_made}
 use Rattle.prov_memory.proofs.memory.Memory.from_int.Goals as goal
 
 pub returns-clause-exact : goal.returns-clause-exact

@@ -1,8 +1,8 @@
 use Rattle.std.proofs.Common.{◌∙◌, sym, subst}
 use Rattle.addr_map.specs.Rows.{row_of}
-use Rattle.prov_memory.specs.Memory.{Kept, HaveRows}
-use Rattle.prov_memory.proofs.ActLemmas.{row_found}
-use Rattle.prov_memory.proofs.AccessLemmas.{range_of_row}
+use Rattle.mem_objects.specs.Memory.{Kept, HaveRows}
+use Rattle.mem_objects.proofs.ActLemmas.{row_found}
+use Rattle.mem_objects.proofs.AccessLemmas.{range_of_row}
 use Rattle.prov_memory.proofs.memory.Memory.has_range.Goals as goal
 
 pub returns-in-Some : goal.returns-in-Some

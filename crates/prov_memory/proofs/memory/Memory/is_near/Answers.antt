@@ -2,9 +2,9 @@ use Rattle.std.proofs.Common.{◌≡◌, ◌∙◌, sym, ap, subst, ℤ, pos, �
 use Rattle.std.specs.Int.{w128}
 use Rattle.addr_map.specs.Rows.{row_of}
 use Rattle.mem_spec.specs.Acts.{in_bounds}
-use Rattle.prov_memory.specs.Held.{is_near}
-use Rattle.prov_memory.specs.Memory.{Kept, HaveRows}
-use Rattle.prov_memory.proofs.ActLemmas.{row_found}
+use Rattle.mem_objects.specs.Held.{is_near}
+use Rattle.mem_objects.specs.Memory.{Kept, HaveRows}
+use Rattle.mem_objects.proofs.ActLemmas.{row_found}
 use Rattle.prov_memory.proofs.NearLemmas.{within_address, near_is}
 use Rattle.prov_memory.proofs.memory.Memory.is_near.Goals as goal
 

@@ -1,12 +1,12 @@
 use Rattle.std.proofs.Common.{refl, sym, subst, List, length}
-use Rattle.prov_memory.specs.Held.{Held, killed}
-use Rattle.prov_memory.specs.Made.{AreNamed}
-use Rattle.prov_memory.proofs.PieceLemmas.{named_changed}
-use Rattle.prov_memory.specs.Memory.{HaveRows, AreKnown, Kept}
+use Rattle.mem_objects.specs.Held.{Held, killed}
+use Rattle.mem_objects.specs.Made.{AreNamed}
+use Rattle.mem_objects.proofs.PieceLemmas.{named_changed}
+use Rattle.mem_objects.specs.Memory.{HaveRows, AreKnown, Kept}
 use Rattle.prov_memory.specs.contracts.memory.Memory.{the_view}
-use Rattle.prov_memory.proofs.StoreLemmas.{rows_killed}
-use Rattle.prov_memory.proofs.ActLemmas.{first_noted, killed_act, known_killed}
-use Rattle.prov_memory.proofs.SoundLemmas.{changed_made, changed_sound}
+use Rattle.mem_objects.proofs.StoreLemmas.{rows_killed}
+use Rattle.mem_objects.proofs.ActLemmas.{first_noted, killed_act, known_killed}
+use Rattle.mem_objects.proofs.SoundLemmas.{changed_made, changed_sound}
 use Rattle.prov_memory.proofs.KeepLemmas.{keeps_killed}
 use Rattle.prov_memory.proofs.memory.Memory.kill.Goals as goal
 

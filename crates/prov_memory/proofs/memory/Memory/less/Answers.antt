@@ -1,5 +1,5 @@
-use Rattle.prov_memory.proofs.SettleLemmas.{stays_made}
-use Rattle.prov_memory.proofs.SoundLemmas.{settled_sound}
+use Rattle.mem_objects.proofs.SettleLemmas.{stays_made}
+use Rattle.mem_objects.proofs.SoundLemmas.{settled_sound}
 use Rattle.prov_memory.proofs.memory.Memory.less.Goals as goal
 
 pub returns-clause-made : goal.returns-clause-made

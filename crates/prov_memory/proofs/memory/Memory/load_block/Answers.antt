@@ -1,13 +1,13 @@
 use Rattle.std.proofs.Common.{◌≡◌, ◌++◌, ◌∷◌, [], ap, sym, subst, ◌∙◌}
 use Rattle.std.proofs.lemmas.Result.{err_from_is_err_and}
 use Rattle.ub_base.specs.declared.names.Item.TheVariants.{Alive, Read}
-use Rattle.prov_memory.specs.Memory.{Kept}
-use Rattle.prov_memory.specs.Made.{IsMade, settling_items}
-use Rattle.prov_memory.specs.Sound.{IsSound}
-use Rattle.prov_memory.proofs.ActLemmas.{noted_after}
-use Rattle.prov_memory.proofs.WriteLemmas.{few}
+use Rattle.mem_objects.specs.Memory.{Kept}
+use Rattle.mem_objects.specs.Made.{IsMade, settling_items}
+use Rattle.mem_objects.specs.Sound.{IsSound}
+use Rattle.mem_objects.proofs.ActLemmas.{noted_after}
+use Rattle.mem_objects.proofs.WriteLemmas.{few}
 use Rattle.prov_memory.proofs.BlockLemmas.{block_unreached, block_done, block_cells, block_tagged}
-use Rattle.prov_memory.proofs.SoundLemmas.{block_made, block_sound, block_known, typed_made, typed_sound}
+use Rattle.mem_objects.proofs.SoundLemmas.{block_made, block_sound, block_known, typed_made, typed_sound}
 use Rattle.prov_memory.proofs.KeepLemmas.{keeps_then, keeps_after, keeps_same, keeps_types}
 use Rattle.prov_memory.proofs.memory.Memory.load_block.Goals as goal
 

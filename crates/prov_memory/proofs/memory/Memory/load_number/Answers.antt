@@ -1,9 +1,9 @@
 use Rattle.std.proofs.Common.{map}
 use Rattle.ub_base.specs.declared.names.Item.TheVariants.{Expose, Read}
-use Rattle.prov_memory.specs.Access.{bytes_in}
-use Rattle.prov_memory.specs.Loads.{origins_of}
+use Rattle.mem_objects.specs.Access.{bytes_in}
+use Rattle.mem_objects.specs.Loads.{origins_of}
 use Rattle.prov_memory.proofs.ShowLemmas.{loaded_by, load_noted, besides_put}
-use Rattle.prov_memory.proofs.SoundLemmas.{shown_made, shown_sound}
+use Rattle.mem_objects.proofs.SoundLemmas.{shown_made, shown_sound}
 use Rattle.prov_memory.proofs.KeepLemmas.{keeps_then, keeps_shown, keeps_none}
 use Rattle.prov_memory.proofs.memory.Memory.load_number.Goals as goal
 

@@ -1,12 +1,12 @@
 use Rattle.std.proofs.Common.{refl, sym, subst, ap, List}
 use Rattle.std.proofs.lemmas.Result.{err_from_is_err_and}
 use Rattle.c_types.specs.Types.{type_of}
-use Rattle.prov_memory.specs.Memory.{Kept}
-use Rattle.prov_memory.specs.Made.{Extends, IsMade}
-use Rattle.prov_memory.specs.Sound.{IsSound}
+use Rattle.mem_objects.specs.Memory.{Kept}
+use Rattle.mem_objects.specs.Made.{Extends, IsMade}
+use Rattle.mem_objects.specs.Sound.{IsSound}
 use Rattle.prov_memory.specs.Named.{named_in}
 use Rattle.prov_memory.proofs.PointerLemmas.{pointer_unreached, pointer_unread, pointer_exact, unresolved}
-use Rattle.prov_memory.proofs.SoundLemmas.{pointer_value, pointer_kept, more_made, settled_sound}
+use Rattle.mem_objects.proofs.SoundLemmas.{pointer_value, pointer_kept, more_made, settled_sound}
 use Rattle.prov_memory.proofs.ShowLemmas.{besides_looked}
 use Rattle.exposure.specs.declared.prov.Prov.{Prov}
 use Rattle.prov_memory.proofs.KeepLemmas.{keeps_then, keeps_after, keeps_same}

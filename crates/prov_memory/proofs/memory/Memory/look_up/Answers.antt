@@ -1,9 +1,9 @@
 use Rattle.std.proofs.Common.{sym, subst, List}
 use Rattle.exposure.specs.declared.prov.Prov.{Prov}
-use Rattle.prov_memory.specs.Sound.{AllMade}
-use Rattle.prov_memory.specs.Cells.{prov_numbered}
+use Rattle.mem_objects.specs.Sound.{AllMade}
+use Rattle.mem_objects.specs.Cells.{prov_numbered}
 use Rattle.prov_memory.proofs.FindLemmas.{look_up_created}
-use Rattle.prov_memory.proofs.SoundLemmas.{more_made, more_sound}
+use Rattle.mem_objects.proofs.SoundLemmas.{more_made, more_sound}
 use Rattle.prov_memory.proofs.KeepLemmas.{keeps_more}
 use Rattle.prov_memory.proofs.memory.Memory.look_up.Goals as goal
 

@@ -1,6 +1,6 @@
 use Rattle.std.proofs.Common.{sym, subst}
-use Rattle.prov_memory.specs.Memory.{Kept}
-use Rattle.prov_memory.specs.Sound.{AllMade}
+use Rattle.mem_objects.specs.Memory.{Kept}
+use Rattle.mem_objects.specs.Sound.{AllMade}
 use Rattle.prov_memory.proofs.memory.Memory.make_ambiguity.Goals as goal
 
 pub returns-in_err-make-clause-each : goal.returns-in_err-make-clause-each

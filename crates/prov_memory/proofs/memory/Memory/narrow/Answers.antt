@@ -1,11 +1,11 @@
 use Rattle.std.proofs.Common.{◌≡◌, sym, subst, true}
 use Rattle.exposure.specs.Cells.{has_cell}
-use Rattle.prov_memory.specs.Memory.{Kept}
+use Rattle.mem_objects.specs.Memory.{Kept}
 use Rattle.prov_memory.specs.contracts.memory.Memory.{the_view}
-use Rattle.prov_memory.proofs.ActLemmas.{settled_all}
+use Rattle.mem_objects.proofs.ActLemmas.{settled_all}
 use Rattle.std.proofs.Common.{refl}
-use Rattle.prov_memory.proofs.SettleLemmas.{stays_made}
-use Rattle.prov_memory.proofs.SoundLemmas.{settled_sound, cells_narrowed}
+use Rattle.mem_objects.proofs.SettleLemmas.{stays_made}
+use Rattle.mem_objects.proofs.SoundLemmas.{settled_sound, cells_narrowed}
 use Rattle.prov_memory.proofs.KeepLemmas.{keeps_narrowed}
 use Rattle.prov_memory.proofs.memory.Memory.narrow.Goals as goal
 

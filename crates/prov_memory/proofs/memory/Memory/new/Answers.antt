@@ -1,10 +1,10 @@
 use Rattle.std.proofs.Common.{◌∙◌, sym, ap, subst, List, Some}
 use Rattle.addr_map.specs.declared.map.Row.{Row}
-use Rattle.prov_memory.specs.Memory.{Kept, empty}
-use Rattle.prov_memory.specs.Sound.{IsSound}
-use Rattle.prov_memory.specs.Tags.{AreTagged}
-use Rattle.prov_memory.specs.Room.{IsClose}
-use Rattle.prov_memory.proofs.SoundLemmas.{empty_sound}
+use Rattle.mem_objects.specs.Memory.{Kept, empty}
+use Rattle.mem_objects.specs.Sound.{IsSound}
+use Rattle.mem_objects.specs.Tags.{AreTagged}
+use Rattle.mem_objects.specs.Room.{IsClose}
+use Rattle.mem_objects.proofs.SoundLemmas.{empty_sound}
 use Rattle.prov_memory.proofs.RoomLemmas.{empty_close}
 use Rattle.prov_memory.proofs.memory.Memory.new.Goals as goal
 

@@ -1,6 +1,6 @@
 use Rattle.std.proofs.Common.{ap}
-use Rattle.prov_memory.specs.Cells.{part_of}
-use Rattle.prov_memory.specs.Pieces.{seen}
+use Rattle.mem_objects.specs.Cells.{part_of}
+use Rattle.mem_objects.specs.Pieces.{seen}
 use Rattle.prov_memory.proofs.PartLemmas.{func_done, func_fails}
 use Rattle.prov_memory.proofs.memory.Memory.part_func.Goals as goal
 

@@ -3,8 +3,8 @@ use Rattle.std.specs.Int.{w128}
 use Rattle.std.proofs.lemmas.Int.{to_z-of_z}
 use Rattle.std.proofs.lemmas.Result.{err_from_is_err_and}
 use Rattle.mem_spec.specs.Agreement.{bytes_of_kind}
-use Rattle.prov_memory.specs.Cells.{part_of}
-use Rattle.prov_memory.specs.Pieces.{seen}
+use Rattle.mem_objects.specs.Cells.{part_of}
+use Rattle.mem_objects.specs.Pieces.{seen}
 use Rattle.prov_memory.proofs.LoadLemmas.{same_bytes}
 use Rattle.prov_memory.proofs.PartLemmas.{int_done, int_fails}
 use Rattle.prov_memory.proofs.memory.Memory.part_int.Goals as goal

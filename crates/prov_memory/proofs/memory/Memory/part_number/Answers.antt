@@ -1,8 +1,8 @@
 use Rattle.std.proofs.Common.{refl, ap, []}
-use Rattle.prov_memory.specs.Loads.{origins_of}
-use Rattle.prov_memory.specs.Memory.{Kept}
-use Rattle.prov_memory.specs.Pieces.{seen}
-use Rattle.prov_memory.proofs.SoundLemmas.{shown_made, shown_sound}
+use Rattle.mem_objects.specs.Loads.{origins_of}
+use Rattle.mem_objects.specs.Memory.{Kept}
+use Rattle.mem_objects.specs.Pieces.{seen}
+use Rattle.mem_objects.proofs.SoundLemmas.{shown_made, shown_sound}
 use Rattle.prov_memory.proofs.KeepLemmas.{keeps_shown, keeps_none}
 use Rattle.prov_memory.proofs.memory.Memory.part_number.Goals as goal
 

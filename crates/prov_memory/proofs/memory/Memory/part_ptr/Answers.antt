@@ -1,9 +1,9 @@
 use Rattle.std.proofs.Common.{ap}
 use Rattle.std.proofs.lemmas.Result.{err_from_is_err_and}
-use Rattle.prov_memory.specs.Cells.{part_of}
-use Rattle.prov_memory.specs.Pieces.{seen}
+use Rattle.mem_objects.specs.Cells.{part_of}
+use Rattle.mem_objects.specs.Pieces.{seen}
 use Rattle.prov_memory.proofs.PartLemmas.{pointer_done, pointer_fails, seen_made}
-use Rattle.prov_memory.proofs.SoundLemmas.{more_made}
+use Rattle.mem_objects.proofs.SoundLemmas.{more_made}
 use Rattle.prov_memory.proofs.KeepLemmas.{keeps_none}
 use Rattle.prov_memory.proofs.memory.Memory.part_ptr.Goals as goal
 

@@ -1,8 +1,8 @@
 use Rattle.std.proofs.Common.{◌≡◌, ℕ, ◌+◌, ◌-◌, ◌<◌, ◌≤◌, ◌∙◌, refl, sym, ap, subst, true, map, arith, rules}
 use Rattle.c_types.specs.Types.{type_of}
 use Rattle.mem_spec.specs.Acts.{is_written, is_piece, number_in}
-use Rattle.prov_memory.specs.declared.cell.Cell.{Cell}
-use Rattle.prov_memory.specs.Cells.{cell_at, byte_in, prov_numbered, tagged_in}
+use Rattle.mem_objects.specs.declared.cell.Cell.{Cell}
+use Rattle.mem_objects.specs.Cells.{cell_at, byte_in, prov_numbered, tagged_in}
 use Rattle.prov_memory.proofs.LoadLemmas.{IsRead, cap_small, held_is, read_next, read_all, below_next}
 use Rattle.prov_memory.proofs.ReadLemmas.{pieces_before, pieces_whole}
 use Rattle.prov_memory.proofs.memory.Memory.pieces_number.Goals as goal

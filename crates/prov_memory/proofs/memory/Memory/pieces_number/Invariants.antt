@@ -2,7 +2,7 @@ use Rattle.std.proofs.Common.{◌≡◌, ◌+◌, ◌-◌, ◌<◌, map, true}
 use Rattle.c_types.specs.Types.{type_of}
 use Rattle.mem_spec.specs.Acts.{are_pieces}
 use Rattle.mem_spec.specs.Store.{range_from}
-use Rattle.prov_memory.specs.Cells.{cell_at, prov_numbered, tagged_in}
+use Rattle.mem_objects.specs.Cells.{cell_at, prov_numbered, tagged_in}
 use Rattle.prov_memory.proofs.LoadLemmas.{IsRead, cap}
 use Rattle.prov_memory.proofs.memory.Memory.pieces_number.Given as goal
 

@@ -1,9 +1,9 @@
 use Rattle.std.proofs.Common.{◌∙◌, sym, ap, subst, List, length}
-use Rattle.prov_memory.specs.declared.cell.Cell.{Cell}
-use Rattle.prov_memory.specs.Cells.{Loaded}
-use Rattle.prov_memory.specs.Memory.{CellsKnown}
-use Rattle.prov_memory.specs.Tags.{CellsTagged}
-use Rattle.prov_memory.proofs.SoundLemmas.{pieces_known, pieces_tagged}
+use Rattle.mem_objects.specs.declared.cell.Cell.{Cell}
+use Rattle.mem_objects.specs.Cells.{Loaded}
+use Rattle.mem_objects.specs.Memory.{CellsKnown}
+use Rattle.mem_objects.specs.Tags.{CellsTagged}
+use Rattle.mem_objects.proofs.SoundLemmas.{pieces_known, pieces_tagged}
 use Rattle.prov_memory.proofs.memory.Memory.pieces_of.Goals as goal
 
 pub returns-clause-known : goal.returns-clause-known

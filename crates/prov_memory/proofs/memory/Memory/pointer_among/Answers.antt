@@ -2,9 +2,9 @@ use Rattle.std.proofs.Common.{◌≡◌, ◌∙◌, ap, sym, subst, refl, length
 use Rattle.std.specs.Prelude.{IfSome}
 use Rattle.exposure.specs.declared.prov.Prov.{Prov}
 use Rattle.mem_spec.specs.Acts.{are_pieces, origin_in}
-use Rattle.prov_memory.specs.Cells.{byte_in, prov_numbered}
-use Rattle.prov_memory.specs.Access.{range_in}
-use Rattle.prov_memory.specs.declared.cell.Cell.{Cell}
+use Rattle.mem_objects.specs.Cells.{byte_in, prov_numbered}
+use Rattle.mem_objects.specs.Access.{range_in}
+use Rattle.mem_objects.specs.declared.cell.Cell.{Cell}
 use Rattle.prov_memory.proofs.PartLemmas.{among_none, among_some}
 use Rattle.prov_memory.proofs.memory.Memory.pointer_among.Goals as goal
 

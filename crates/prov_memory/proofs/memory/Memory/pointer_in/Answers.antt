@@ -1,8 +1,8 @@
 use Rattle.std.proofs.Common.{◌∙◌, ap, List}
 use Rattle.mem_spec.specs.Acts.{are_pieces}
-use Rattle.prov_memory.specs.declared.cell.Cell.{Cell}
-use Rattle.prov_memory.specs.Access.{range_in}
-use Rattle.prov_memory.specs.Cells.{prov_numbered}
+use Rattle.mem_objects.specs.declared.cell.Cell.{Cell}
+use Rattle.mem_objects.specs.Access.{range_in}
+use Rattle.mem_objects.specs.Cells.{prov_numbered}
 use Rattle.prov_memory.specs.Named.{named_in}
 use Rattle.prov_memory.proofs.NumberLemmas.{unwritten_numbered, plain_numbered, piece_numbered}
 use Rattle.prov_memory.proofs.memory.Memory.pointer_in.Goals as goal

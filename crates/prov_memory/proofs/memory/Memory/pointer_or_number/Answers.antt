@@ -1,7 +1,7 @@
 use Rattle.std.proofs.Common.{◌∙◌, ap, List}
-use Rattle.prov_memory.specs.declared.cell.Cell.{Cell}
-use Rattle.prov_memory.specs.Access.{range_in}
-use Rattle.prov_memory.specs.Loads.{number_if}
+use Rattle.mem_objects.specs.declared.cell.Cell.{Cell}
+use Rattle.mem_objects.specs.Access.{range_in}
+use Rattle.mem_objects.specs.Loads.{number_if}
 use Rattle.prov_memory.proofs.memory.Memory.pointer_or_number.Goals as goal
 
 pub returns-clause-number : goal.returns-clause-number

@@ -1,9 +1,9 @@
 use Rattle.std.proofs.Common.{◌≡◌, ◌∙◌, ap, subst, true, List}
 use Rattle.mem_spec.specs.Acts.{are_pieces}
-use Rattle.prov_memory.specs.declared.cell.Cell.{Cell}
-use Rattle.prov_memory.specs.Access.{range_in}
-use Rattle.prov_memory.specs.Cells.{prov_numbered}
-use Rattle.prov_memory.specs.Loads.{number_if}
+use Rattle.mem_objects.specs.declared.cell.Cell.{Cell}
+use Rattle.mem_objects.specs.Access.{range_in}
+use Rattle.mem_objects.specs.Cells.{prov_numbered}
+use Rattle.mem_objects.specs.Loads.{number_if}
 use Rattle.prov_memory.proofs.ReadLemmas.{pieces_pointer}
 use Rattle.prov_memory.proofs.memory.Memory.pointer_read.Goals as goal
 

@@ -5,11 +5,11 @@ use Rattle.addr_map.specs.Rows.{row_of}
 use Rattle.ub_base.specs.declared.names.Item.TheVariants.{Alive}
 use Rattle.mem_spec.specs.Store.{is_live}
 use Rattle.mem_spec.specs.Script.{Done}
-use Rattle.prov_memory.specs.Held.{Held, held_of}
-use Rattle.prov_memory.specs.Memory.{Kept, HaveRows, IsRowOf, life_in}
+use Rattle.mem_objects.specs.Held.{Held, held_of}
+use Rattle.mem_objects.specs.Memory.{Kept, HaveRows, IsRowOf, life_in}
 use Rattle.prov_memory.specs.contracts.memory.Memory.{the_view}
-use Rattle.prov_memory.proofs.ActLemmas.{row_found}
-use Rattle.prov_memory.proofs.AccessLemmas.{dead_raises, checks, falls, named_is}
+use Rattle.mem_objects.proofs.ActLemmas.{row_found}
+use Rattle.mem_objects.proofs.AccessLemmas.{dead_raises, checks, falls, named_is}
 use Rattle.prov_memory.proofs.memory.Memory.reach.Goals as goal
 
 pub returns-in_default-clause-raises : goal.returns-in_default-clause-raises

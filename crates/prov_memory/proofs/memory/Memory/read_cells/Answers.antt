@@ -1,5 +1,5 @@
 use Rattle.std.proofs.Common.{◌∙◌, ap}
-use Rattle.prov_memory.specs.Loads.{number_checked}
+use Rattle.mem_objects.specs.Loads.{number_checked}
 use Rattle.prov_memory.proofs.memory.Memory.read_cells.Goals as goal
 
 pub returns : goal.returns

@@ -2,8 +2,8 @@ use Rattle.std.proofs.Common.{◌∙◌, ap, sym}
 use Rattle.std.specs.Prelude.{Result}
 use Rattle.ub_base.specs.declared.clause.Clause.{Clause}
 use Rattle.mem_spec.specs.Acts.{in_common, candidates}
-use Rattle.prov_memory.specs.Memory.{act_of, store_of}
-use Rattle.prov_memory.proofs.SettleLemmas.{err_is}
+use Rattle.mem_objects.specs.Memory.{act_of, store_of}
+use Rattle.mem_objects.proofs.SettleLemmas.{err_is}
 use Rattle.prov_memory.proofs.CompareLemmas.{common_done, common_raised}
 use Rattle.prov_memory.proofs.KeepLemmas.{keeps_then, keeps_none}
 use Rattle.prov_memory.proofs.memory.Memory.settle_common.Goals as goal

@@ -2,10 +2,10 @@ use Rattle.std.proofs.Common.{◌≡◌, ◌∙◌, ap, sym, ℕ, ℤ, pos, ◌+
 use Rattle.std.specs.Int.{w128}
 use Rattle.std.specs.Prelude.{Result}
 use Rattle.ub_base.specs.declared.clause.Clause.{Clause}
-use Rattle.prov_memory.specs.Memory.{act_of, store_of}
-use Rattle.prov_memory.specs.Made.{address_result, shift_settling}
-use Rattle.prov_memory.proofs.SettleLemmas.{shift_done, shift_raised, err_is}
-use Rattle.prov_memory.proofs.SoundLemmas.{settled_sound}
+use Rattle.mem_objects.specs.Memory.{act_of, store_of}
+use Rattle.mem_objects.specs.Made.{address_result, shift_settling}
+use Rattle.mem_objects.proofs.SettleLemmas.{shift_done, shift_raised, err_is}
+use Rattle.mem_objects.proofs.SoundLemmas.{settled_sound}
 use Rattle.prov_memory.proofs.KeepLemmas.{keeps_none}
 use Rattle.prov_memory.proofs.memory.Memory.shift.Goals as goal
 

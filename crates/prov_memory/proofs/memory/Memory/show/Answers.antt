@@ -1,7 +1,7 @@
 use Rattle.std.proofs.Common.{sym, subst, List}
-use Rattle.prov_memory.specs.Held.{Held}
-use Rattle.prov_memory.specs.Memory.{HaveRows}
-use Rattle.prov_memory.proofs.StoreLemmas.{rows_uncovered}
+use Rattle.mem_objects.specs.Held.{Held}
+use Rattle.mem_objects.specs.Memory.{HaveRows}
+use Rattle.mem_objects.proofs.StoreLemmas.{rows_uncovered}
 use Rattle.prov_memory.proofs.memory.Memory.show.Goals as goal
 
 pub invariant_of-self : goal.invariant_of-self

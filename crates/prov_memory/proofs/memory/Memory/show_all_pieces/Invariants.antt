@@ -1,8 +1,8 @@
 use Rattle.std.proofs.Common.{◌≡◌, ◌+◌, ◌<◌, ◌++◌, length, map, slice_get, Some}
 use Rattle.ub_base.specs.declared.names.Item.TheVariants.{Expose}
-use Rattle.prov_memory.specs.Access.{bytes_in}
-use Rattle.prov_memory.specs.Held.{Held}
-use Rattle.prov_memory.specs.Loads.{origins_of}
+use Rattle.mem_objects.specs.Access.{bytes_in}
+use Rattle.mem_objects.specs.Held.{Held}
+use Rattle.mem_objects.specs.Loads.{origins_of}
 use Rattle.prov_memory.proofs.ShowLemmas.{showing}
 use Rattle.prov_memory.proofs.memory.Memory.show_all_pieces.Given as goal
 

@@ -3,9 +3,9 @@ use Rattle.ub_base.specs.declared.names.ObjName.{ObjName}
 use Rattle.ub_base.specs.declared.names.Item.TheVariants.{Expose}
 use Rattle.mem_spec.specs.Acts.{candidates, origins_in}
 use Rattle.mem_spec.specs.Store.{TaggedByte}
-use Rattle.prov_memory.specs.Cells.{cell_at, byte_in}
-use Rattle.prov_memory.specs.Loads.{origins_of}
-use Rattle.prov_memory.specs.Memory.{Kept}
+use Rattle.mem_objects.specs.Cells.{cell_at, byte_in}
+use Rattle.mem_objects.specs.Loads.{origins_of}
+use Rattle.mem_objects.specs.Memory.{Kept}
 use Rattle.prov_memory.proofs.PartLemmas.{next_piece, range_to}
 use Rattle.prov_memory.proofs.ShowLemmas.{piece_named, showing, shown_next, noted_next}
 use Rattle.prov_memory.proofs.memory.Memory.show_cells.Goals as goal

@@ -1,7 +1,7 @@
 use Rattle.std.proofs.Common.{◌≡◌, ◌+◌, ◌<◌, ◌++◌, length, map}
 use Rattle.ub_base.specs.declared.names.Item.TheVariants.{Expose}
-use Rattle.prov_memory.specs.Access.{range_in}
-use Rattle.prov_memory.specs.Loads.{origins_of}
+use Rattle.mem_objects.specs.Access.{range_in}
+use Rattle.mem_objects.specs.Loads.{origins_of}
 use Rattle.prov_memory.proofs.ShowLemmas.{showing}
 use Rattle.prov_memory.proofs.memory.Memory.show_cells.Given as goal
 

@@ -3,13 +3,13 @@ use Rattle.std.specs.Prelude.{slice_get, Err, Ok}
 use Rattle.std.proofs.lemmas.Result.{err_from_is_err_and}
 use Rattle.ub_base.specs.declared.names.Item.TheVariants.{Alive}
 use Rattle.mem_spec.specs.Acts.{Seen}
-use Rattle.prov_memory.specs.Held.{held_of, changed, holding}
-use Rattle.prov_memory.specs.Memory.{Kept, life_in}
-use Rattle.prov_memory.specs.Made.{settling_items}
-use Rattle.prov_memory.specs.Stores.{Sees, checked_store}
-use Rattle.prov_memory.proofs.ActLemmas.{noted_after}
-use Rattle.prov_memory.proofs.WriteLemmas.{access_fails, store_raises, store_done, store_known, stored_by, few}
-use Rattle.prov_memory.proofs.SoundLemmas.{stored_made, stored_sound}
+use Rattle.mem_objects.specs.Held.{held_of, changed, holding}
+use Rattle.mem_objects.specs.Memory.{Kept, life_in}
+use Rattle.mem_objects.specs.Made.{settling_items}
+use Rattle.mem_objects.specs.Stores.{Sees, checked_store}
+use Rattle.mem_objects.proofs.ActLemmas.{noted_after}
+use Rattle.mem_objects.proofs.WriteLemmas.{access_fails, store_raises, store_done, store_known, stored_by, few}
+use Rattle.mem_objects.proofs.SoundLemmas.{stored_made, stored_sound}
 use Rattle.prov_memory.proofs.ShowLemmas.{besides_after, besides_put}
 use Rattle.prov_memory.proofs.KeepLemmas.{keeps_then, keeps_same, keeps_written}
 use Rattle.prov_memory.proofs.memory.Memory.store_cells.Goals as goal

@@ -2,15 +2,15 @@ use Rattle.std.proofs.Common.{◌≡◌, ◌∙◌, ap, take, to_z, of_z, to_z-o
 use Rattle.std.specs.Int.{w128}
 use Rattle.mem_spec.specs.Agreement.{bytes_of_kind}
 use Rattle.mem_spec.specs.Bytes.{low_bits, number_bytes}
-use Rattle.prov_memory.specs.Pieces.{plain_cells}
+use Rattle.mem_objects.specs.Pieces.{plain_cells}
 use Rattle.prov_memory.proofs.LoadLemmas.{same_bytes}
 use Rattle.prov_memory.proofs.ValueLemmas.{first_bytes, number_seen, number_short, stored_as, unstored_as}
 use Rattle.std.proofs.Common.{List, length, sym, subst}
-use Rattle.prov_memory.specs.declared.cell.Cell.{Cell}
-use Rattle.prov_memory.specs.Memory.{CellsKnown}
-use Rattle.prov_memory.specs.Tags.{CellsTagged}
-use Rattle.prov_memory.proofs.PieceLemmas.{plain_known}
-use Rattle.prov_memory.proofs.SoundLemmas.{plain_tagged}
+use Rattle.mem_objects.specs.declared.cell.Cell.{Cell}
+use Rattle.mem_objects.specs.Memory.{CellsKnown}
+use Rattle.mem_objects.specs.Tags.{CellsTagged}
+use Rattle.mem_objects.proofs.PieceLemmas.{plain_known}
+use Rattle.mem_objects.proofs.SoundLemmas.{plain_tagged}
 use Rattle.prov_memory.proofs.memory.Memory.store_int.Goals as goal
 
 pub returns-clause-exact : goal.returns-clause-exact

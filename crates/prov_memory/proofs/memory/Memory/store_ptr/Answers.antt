@@ -1,11 +1,11 @@
 use Rattle.std.proofs.Common.{List, length, sym, subst}
-use Rattle.prov_memory.specs.declared.cell.Cell.{Cell}
-use Rattle.prov_memory.specs.Memory.{CellsKnown}
-use Rattle.prov_memory.proofs.SoundLemmas.{pieces_known}
+use Rattle.mem_objects.specs.declared.cell.Cell.{Cell}
+use Rattle.mem_objects.specs.Memory.{CellsKnown}
+use Rattle.mem_objects.proofs.SoundLemmas.{pieces_known}
 use Rattle.mem_spec.specs.Bytes.{pointer_bytes}
 use Rattle.prov_memory.proofs.ValueLemmas.{pieces_seen, pieces_short, stored_as, unstored_as}
-use Rattle.prov_memory.specs.Tags.{CellsTagged}
-use Rattle.prov_memory.proofs.SoundLemmas.{pieces_tagged}
+use Rattle.mem_objects.specs.Tags.{CellsTagged}
+use Rattle.mem_objects.proofs.SoundLemmas.{pieces_tagged}
 use Rattle.prov_memory.proofs.memory.Memory.store_ptr.Goals as goal
 
 pub returns-clause-exact : goal.returns-clause-exact

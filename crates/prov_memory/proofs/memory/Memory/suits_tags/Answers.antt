@@ -1,9 +1,9 @@
 use Rattle.std.proofs.Common.{◌≡◌, ◌<◌, ◌∙◌, ap, true, false, map, arith, rules}
 use Rattle.c_types.specs.Types.{type_of}
-use Rattle.prov_memory.specs.declared.cell.Cell.{Cell}
+use Rattle.mem_objects.specs.declared.cell.Cell.{Cell}
 use Rattle.mem_spec.specs.Acts.{tag_agrees, tags_agree}
-use Rattle.prov_memory.specs.Cells.{cell_at, tag_in, tagged_in}
-use Rattle.prov_memory.specs.Access.{bytes_in}
+use Rattle.mem_objects.specs.Cells.{cell_at, tag_in, tagged_in}
+use Rattle.mem_objects.specs.Access.{bytes_in}
 use Rattle.prov_memory.proofs.LoadLemmas.{tags_pass, tags_fail}
 use Rattle.prov_memory.proofs.memory.Memory.suits_tags.Goals as goal
 

@@ -1,7 +1,7 @@
 use Rattle.std.proofs.Common.{◌≡◌, ◌+◌, ◌-◌}
 use Rattle.c_types.specs.Types.{type_of}
 use Rattle.mem_spec.specs.Acts.{tags_agree}
-use Rattle.prov_memory.specs.Access.{bytes_in}
+use Rattle.mem_objects.specs.Access.{bytes_in}
 use Rattle.prov_memory.proofs.memory.Memory.suits_tags.Given as goal
 
 -- the tags so far agree, so those that are left decide

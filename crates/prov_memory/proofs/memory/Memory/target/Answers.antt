@@ -6,9 +6,9 @@ use Rattle.ub_base.specs.declared.clause.Clause.TheVariants.{OutOfBounds}
 use Rattle.ub_base.specs.declared.names.ObjName.{ObjName}
 use Rattle.mem_spec.specs.Acts.{in_row, object_of}
 use Rattle.mem_spec.specs.Script.{Script, Give, Settle, run, touch, ◌>>◌}
-use Rattle.prov_memory.specs.Memory.{store_of}
-use Rattle.prov_memory.specs.Access.{CanSettleOf}
-use Rattle.prov_memory.proofs.AccessLemmas.{found_settled, refused_settled, can_settled, past_holds, start_holds}
+use Rattle.mem_objects.specs.Memory.{store_of}
+use Rattle.mem_objects.specs.Access.{CanSettleOf}
+use Rattle.mem_objects.proofs.AccessLemmas.{found_settled, refused_settled, can_settled, past_holds, start_holds}
 use Rattle.prov_memory.proofs.memory.Memory.target.Goals as goal
 
 pub returns-then-has_range-clause-raises : goal.returns-then-has_range-clause-raises

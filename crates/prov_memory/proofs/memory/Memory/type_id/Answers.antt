@@ -1,7 +1,7 @@
 use Rattle.std.proofs.Common.{◌∙◌, ap, [], Some, Ok, map, arith}
 use Rattle.c_types.specs.Types.{type_of}
 use Rattle.prov_memory.proofs.KeepLemmas.{keeps_types}
-use Rattle.prov_memory.proofs.TagLemmas.{unnumbered}
+use Rattle.mem_objects.proofs.TagLemmas.{unnumbered}
 use Rattle.prov_memory.proofs.memory.Memory.type_id.Goals as goal
 
 pub returns-in-Some-clause-known : goal.returns-in-Some-clause-known

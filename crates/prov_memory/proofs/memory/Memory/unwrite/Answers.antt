@@ -1,14 +1,14 @@
 use Rattle.std.proofs.Common.{refl, sym, subst, List, [], length}
 use Rattle.std.proofs.Common.{◌≡◌, ◌∷◌, ◌∙◌, ap, arith}
 use Rattle.ub_base.specs.declared.names.Item.TheVariants.{Alive, Write}
-use Rattle.prov_memory.specs.Held.{Held, emptied}
-use Rattle.prov_memory.specs.Made.{AreNamed}
-use Rattle.prov_memory.proofs.PieceLemmas.{named_changed}
-use Rattle.prov_memory.specs.Memory.{HaveRows, AreKnown, Kept}
+use Rattle.mem_objects.specs.Held.{Held, emptied}
+use Rattle.mem_objects.specs.Made.{AreNamed}
+use Rattle.mem_objects.proofs.PieceLemmas.{named_changed}
+use Rattle.mem_objects.specs.Memory.{HaveRows, AreKnown, Kept}
 use Rattle.prov_memory.specs.contracts.memory.Memory.{the_view}
-use Rattle.prov_memory.proofs.StoreLemmas.{rows_emptied}
-use Rattle.prov_memory.proofs.ActLemmas.{first_noted, noted_after, unwritten_act, known_emptied}
-use Rattle.prov_memory.proofs.SoundLemmas.{changed_made, changed_sound}
+use Rattle.mem_objects.proofs.StoreLemmas.{rows_emptied}
+use Rattle.mem_objects.proofs.ActLemmas.{first_noted, noted_after, unwritten_act, known_emptied}
+use Rattle.mem_objects.proofs.SoundLemmas.{changed_made, changed_sound}
 use Rattle.prov_memory.proofs.KeepLemmas.{keeps_emptied, keeps_none}
 use Rattle.prov_memory.proofs.memory.Memory.unwrite.Goals as goal
 
@@ -20,9 +20,9 @@ invariant_of-self c =
 pub returns-clause-exact : goal.returns-clause-exact
 returns-clause-exact c = λ io.
     let first : c.note.new.self ≡ Alive c.args.name ∷ [] = first_noted c.clear.new.self c.note.new.self _ c.clear.ensures c.note.ensures in
-    let second : c.note-2.new.self ≡ Alive c.args.name ∷ Write c.args.name 0 c.object.inside.size ∷ [] =
+    let second : c.note-2.new.self ≡ Alive c.args.name ∷ Write c.args.name 0 c.size-len.result ∷ [] =
     noted_after c.note.new.self c.note-2.new.self (Alive c.args.name ∷ []) _ first (omega arith) c.note-2.ensures in
-    let size : c.object.inside.size ≡ c.in-Some.object.now.size = ap (λ (h : Held). h.size) c.object.view_is in
+    let size : c.size-len.result ≡ c.in-Some.object.now.size = c.size-len.ensures in
     rw (← c.self.view_is, c.unwrite.ensures)
     (unwritten_act (the_view c.self.inside) c.args.name c.in-Some.object.now c.note-2.new.self (sym c.in-Some.ensures.object) c.in-Some.ensures.fit
     c.self.invariant (second ∙ ap (λ n. Alive c.args.name ∷ Write c.args.name 0 n ∷ []) size) io)

@@ -1,8 +1,8 @@
 use Rattle.std.proofs.Common.{sym, subst}
-use Rattle.prov_memory.specs.Memory.{Kept}
-use Rattle.prov_memory.specs.Sound.{IsSound}
-use Rattle.prov_memory.specs.Tags.{AreTagged}
-use Rattle.prov_memory.proofs.SoundLemmas.{empty_sound}
+use Rattle.mem_objects.specs.Memory.{Kept}
+use Rattle.mem_objects.specs.Sound.{IsSound}
+use Rattle.mem_objects.specs.Tags.{AreTagged}
+use Rattle.mem_objects.proofs.SoundLemmas.{empty_sound}
 use Rattle.prov_memory.proofs.memory.Memory.with_map.Goals as goal
 
 pub returns-clause-sound : goal.returns-clause-sound

@@ -1,8 +1,8 @@
 use Rattle.std.proofs.Common.{◌≡◌, ℕ, ◌+◌, ◌-◌, ◌<◌, ◌≤◌, ◌∙◌, refl, sym, subst, true, false, map, arith}
 use Rattle.c_types.specs.Types.{type_of}
-use Rattle.prov_memory.specs.declared.cell.Cell.{Cell}
+use Rattle.mem_objects.specs.declared.cell.Cell.{Cell}
 use Rattle.mem_spec.specs.Acts.{is_written, number_in}
-use Rattle.prov_memory.specs.Cells.{cell_at, byte_in, tagged_in}
+use Rattle.mem_objects.specs.Cells.{cell_at, byte_in, tagged_in}
 use Rattle.prov_memory.proofs.LoadLemmas.{IsRead, cap_small, held_is, none_is, indeterminate, read_next, read_all, below_next}
 use Rattle.prov_memory.proofs.memory.load.number_at.Goals as goal
 

@@ -1,7 +1,7 @@
 use Rattle.std.proofs.Common.{◌<◌, map}
 use Rattle.c_types.specs.Types.{type_of}
-use Rattle.prov_memory.specs.Cells.{cell_at, tagged_in}
-use Rattle.prov_memory.specs.Memory.{Kept}
+use Rattle.mem_objects.specs.Cells.{cell_at, tagged_in}
+use Rattle.mem_objects.specs.Memory.{Kept}
 use Rattle.prov_memory.proofs.LoadLemmas.{IsRead, cap}
 use Rattle.prov_memory.proofs.memory.load.number_at.Given as goal
 

@@ -1,9 +1,9 @@
 use Rattle.std.proofs.Common.{◌≡◌, ◌+◌, ◌-◌, ◌<◌, [], map, true}
 use Rattle.c_types.specs.Types.{type_of}
 use Rattle.mem_spec.specs.Store.{range_from}
-use Rattle.prov_memory.specs.Cells.{cell_at, tagged_in}
-use Rattle.prov_memory.specs.Loads.{origins_of}
-use Rattle.prov_memory.specs.Memory.{Kept}
+use Rattle.mem_objects.specs.Cells.{cell_at, tagged_in}
+use Rattle.mem_objects.specs.Loads.{origins_of}
+use Rattle.mem_objects.specs.Memory.{Kept}
 use Rattle.prov_memory.proofs.LoadLemmas.{IsRead, cap}
 use Rattle.prov_memory.proofs.memory.load.seen_at.Given as goal
 

@@ -1,5 +1,5 @@
 use Rattle.std.proofs.Common.{◌∙◌, ap}
-use Rattle.prov_memory.specs.Loads.{number_if}
+use Rattle.mem_objects.specs.Loads.{number_if}
 use Rattle.prov_memory.proofs.PartLemmas.{range_seen}
 use Rattle.prov_memory.proofs.memory.parts.number_in.Goals as goal
 

@@ -1,5 +1,5 @@
-use Rattle.prov_memory.specs.Pieces.{piece_cells}
-use Rattle.prov_memory.proofs.PieceLemmas.{piece_pushed}
+use Rattle.mem_objects.specs.Pieces.{piece_cells}
+use Rattle.mem_objects.proofs.PieceLemmas.{piece_pushed}
 use Rattle.prov_memory.proofs.memory.parts.piece_cells.Goals as goal
 
 pub loop-index-preserved : goal.loop-index-preserved

@@ -1,5 +1,5 @@
 use Rattle.std.proofs.Common.{◌≡◌, ◌-◌, ◌++◌}
-use Rattle.prov_memory.specs.Pieces.{piece_cells}
+use Rattle.mem_objects.specs.Pieces.{piece_cells}
 use Rattle.prov_memory.proofs.memory.parts.piece_cells.Given as goal
 
 -- the pieces so far, and those that are left

@@ -1,10 +1,10 @@
 use Rattle.std.proofs.Common.{◌∙◌, sym, ap, subst, List, map}
-use Rattle.prov_memory.specs.declared.cell.Cell.{Cell}
-use Rattle.prov_memory.specs.Cells.{Loaded, tagged_in}
-use Rattle.prov_memory.specs.Memory.{CellsKnown}
-use Rattle.prov_memory.specs.Tags.{CellsTagged}
-use Rattle.prov_memory.proofs.PieceLemmas.{seen_plain, plain_known}
-use Rattle.prov_memory.proofs.SoundLemmas.{plain_tagged}
+use Rattle.mem_objects.specs.declared.cell.Cell.{Cell}
+use Rattle.mem_objects.specs.Cells.{Loaded, tagged_in}
+use Rattle.mem_objects.specs.Memory.{CellsKnown}
+use Rattle.mem_objects.specs.Tags.{CellsTagged}
+use Rattle.mem_objects.proofs.PieceLemmas.{seen_plain, plain_known}
+use Rattle.mem_objects.proofs.SoundLemmas.{plain_tagged}
 use Rattle.prov_memory.proofs.memory.parts.plain_bytes.Goals as goal
 
 pub returns-clause-bytes : goal.returns-clause-bytes

@@ -1,5 +1,5 @@
-use Rattle.prov_memory.specs.Pieces.{plain_cells}
-use Rattle.prov_memory.proofs.PieceLemmas.{plain_pushed}
+use Rattle.mem_objects.specs.Pieces.{plain_cells}
+use Rattle.mem_objects.proofs.PieceLemmas.{plain_pushed}
 use Rattle.prov_memory.proofs.memory.parts.plain_cells.Goals as goal
 
 pub loop-index-preserved : goal.loop-index-preserved

@@ -1,5 +1,5 @@
 use Rattle.std.proofs.Common.{◌≡◌, ◌-◌, ◌++◌}
-use Rattle.prov_memory.specs.Pieces.{plain_cells}
+use Rattle.mem_objects.specs.Pieces.{plain_cells}
 use Rattle.prov_memory.proofs.memory.parts.plain_cells.Given as goal
 
 -- the bytes so far, and those that are left

@@ -1,6 +1,6 @@
 -- Only the values change, those that were there are still there, and there are as many as the loop has come to, and no fewer than before.
 use Rattle.std.proofs.Common.{◌≡◌, ◌≤◌, ℕ, Some, length, slice_get}
-use Rattle.prov_memory.specs.declared.value.Value.{Value}
+use Rattle.mem_objects.specs.declared.value.Value.{Value}
 use Rattle.run_state.proofs.machine.Machine.grow.Given as goal
 
 abbrev pub invariant-loop-room : goal.invariant-loop-room

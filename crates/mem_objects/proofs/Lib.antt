@@ -1,0 +1,12 @@
+pub mod HeldLemmas
+pub mod IndexLemmas
+pub mod StoreLemmas
+pub mod ActLemmas
+pub mod CellLemmas
+pub mod ProvLemmas
+pub mod SettleLemmas
+pub mod PieceLemmas
+pub mod AccessLemmas
+pub mod WriteLemmas
+pub mod TagLemmas
+pub mod SoundLemmas

@@ -1,0 +1,12 @@
+pub mod Access
+pub mod Cells
+pub mod Held
+pub mod Memory
+pub mod Made
+pub mod Pieces
+pub mod Stores
+pub mod Loads
+pub mod Tags
+pub mod Sound
+pub mod Keeps
+pub mod Room

@@ -1,8 +1,0 @@
-use Rattle.prov_memory.specs.Pieces.{plain_cells}
-use Rattle.prov_memory.proofs.PieceLemmas.{plain_put}
-use Rattle.prov_memory.proofs.cell.number_cells.Goals as goal
-
-pub loop-index-preserved : goal.loop-index-preserved
-loop-index-preserved c =
-    plain_put c.loop-index.cells (plain_cells 8 c.args.number) 8 c.loop-index.index c.loop-index.rest c.plain.result c.loop-index-test.true
-    c.loop-index.invariant.0 c.loop-index.invariant.1 c.plain.ensures
