@@ -1,14 +1,10 @@
 -- A machine along a run shows the full expressions that are open, and each object that was created at its row.
-use Rattle.std.proofs.Common.{◌≡◌, ◌+◌, ◌<◌, ◌^◌, ℕ, zero, suc, arith, true, refl, sym, ap, ◌∙◌, subst, List, [], ◌∷◌, ◌++◌, length, map, reverse, take}
+use Rattle.std.proofs.Common.{◌≡◌, ◌<◌, ◌^◌, ℕ, zero, suc, true, sym, ap, ◌∙◌, subst, List, [], ◌∷◌, ◌++◌, length, map, reverse, take}
 use Rattle.std.proofs.Common.{Option, Some, None, slice_get}
 use Rattle.std.specs.Prelude.{is_some}
-use Rattle.std.specs.List.{All}
 use Rattle.std.proofs.lemmas.List.{length-reverse, reverse-append}
 use Rattle.std.proofs.lemmas.Option.{same_Some}
 use Rattle.ub_base.specs.declared.names.Frame.{Frame}
-use Rattle.ub_base.specs.declared.names.ObjName.{ObjName}
-use Rattle.ub_base.specs.Frames.{Row as Started}
-use Rattle.addr_map.specs.Rows.{row_of}
 use Rattle.c_typed.specs.declared.program.Program.{Program}
 use Rattle.c_typed.specs.declared.tree.Place.{Place}
 use Rattle.c_typed.specs.declared.tree.Typed.{Typed}
@@ -18,7 +14,7 @@ use Rattle.elaborate.specs.Formed.{is_formed}
 use Rattle.mem_laws.specs.MoreRows.{StandIn}
 use Rattle.mem_spec.specs.Store.{Store}
 use Rattle.mem_objects.specs.Sound.{ObjectsHaveRows}
-use Rattle.c_model.specs.Program.{Expr, tree_of}
+use Rattle.c_model.specs.Program.{tree_of}
 use Rattle.c_model.specs.Runs.{State}
 use Rattle.c_model.specs.Steps.{Begun, Local, Scene}
 use Rattle.c_model.specs.World.{World}
@@ -30,12 +26,10 @@ use Rattle.run_control.specs.View.{Meaning}
 use Rattle.run_layout.specs.declared.steps.Expression.{Expression as Laid}
 use Rattle.run_layout.specs.Named.{IsExpressionOf}
 use Rattle.run_layout.specs.OfTrees.{HasListing, ListsTrees}
-use Rattle.run_layout.specs.Roots.{roots_in}
 use Rattle.run_state.specs.declared.machine.Machine.{Machine}
 use Rattle.run_state.specs.declared.machine.Open.{Open}
 use Rattle.run_state.specs.declared.machine.Stage.{Stage}
-use Rattle.run_state.specs.declared.watch.Begun.{Begun as Shown_begun}
-use Rattle.run_state.specs.Stands.{StandFrames, Stands, StandsBegun, StandsExpression, StandsFrame, StandsMemory}
+use Rattle.run_state.specs.Stands.{StandFrames, Stands, StandsBegun, StandsExpression, StandsMemory}
 use Rattle.run_answers.proofs.Parts.{each_at}
 use Rattle.code_view.specs.Known.{AreInOrder}
 use Rattle.code_view.specs.Numbering.{meaning_of}

@@ -2,11 +2,10 @@
 use Rattle.std.proofs.Common.{◌≡◌, ℕ, true, refl, sym, ap, subst, List, [], ◌∷◌, ◌++◌, Option, Some, None}
 use Rattle.std.specs.Prelude.{is_some}
 use Rattle.ub_base.specs.Frames.{Path, Row as Started}
-use Rattle.c_model.specs.Runs.{Entry, State, canonical_pick}
-use Rattle.c_model.specs.World.{World}
+use Rattle.c_model.specs.Runs.{Entry, canonical_pick}
 use Rattle.frame_numbers.specs.Numbers.{NumbersStay, number_in}
 use Rattle.canonical_laws.proofs.Steps.{step_trace}
-use Rattle.run_shown.specs.Laws.{ListsStayListed, PicksStayListed}
+use Rattle.run_shown.specs.Laws.{PicksStayListed}
 use Rattle.run_shown.specs.Shown.{AreListed}
 
 pub picks_listed : PicksStayListed
