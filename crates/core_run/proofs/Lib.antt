@@ -1,6 +1,5 @@
 mod Counts
 mod Telling
-mod Comes
 mod Told
 mod Rows
 mod Raised

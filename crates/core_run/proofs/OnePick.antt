@@ -316,9 +316,9 @@ module _ (comes : AlongComes) (asked : EventIsAsked) (goes : ControlGoesOn) (ask
     (strings : List (List ℕ)) (input : List ℕ) (numbers : Numbers) (before heard : S) (old new : Machine) (n : ℕ) (frames : List Started_frame)
     (earlier : List (List Row)) (at : IsAt coming p strings input numbers before heard old n frames earlier) (few : suc n < 2 ^ 32) where
   -- what was written before it, where nothing was written since
-  written_before : (world : World) (d : StandsAt coming p strings input numbers before heard world old n frames) → new.streams ≡ old.streams
+  written_before : (w : World) (d : StandsAt coming p strings input numbers before heard w old n frames) → new.streams ≡ old.streams
       → d.st.store.output ≡ new.streams.output
-  written_before world d keeps = ap (λ (s : Store). s.output) d.along.going.stands.memory.store ∙ ap (λ (io : Io). io.output) (sym keeps)
+  written_before w d keeps = ap (λ (s : Store). s.output) d.along.going.stands.memory.store ∙ ap (λ (io : Io). io.output) (sym keeps)
 
   pub ends_by : (h : Halt) (ran : Ran) → AnswersAll old new (Err h) → GrowsNext old new (Err h) → RaisesNext old (Err h)
       → KeepsStreams {A = Pick} old new (Err h) → IsEndedBy h n ran

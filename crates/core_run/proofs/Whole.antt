@@ -1,5 +1,5 @@
 -- A run of a lawful program begins where the definitions start.
-use Rattle.std.proofs.Common.{◌≡◌, ◌≤◌, ◌<◌, ◌+◌, ◌^◌, ℕ, arith, refl, sym, subst, ◌∙◌, List, [], length, map, Option, Some, None}
+use Rattle.std.proofs.Common.{◌≡◌, ◌≤◌, ◌<◌, ◌+◌, ◌^◌, ℕ, arith, refl, sym, subst, ◌∙◌, List, [], length, map, Option}
 use Rattle.std.specs.List.{All}
 use Rattle.std.proofs.lemmas.List.Elements.{All-head}
 use Rattle.ub_base.specs.Frames.{Path}
@@ -25,8 +25,7 @@ use Rattle.run_code.specs.Statements.{IsNumberedBy}
 use Rattle.code_view.specs.Known.{AreInOrder}
 use Rattle.code_view.specs.Laws.{TreesAreFormed}
 use Rattle.mem_laws.specs.MoreRows.{Extends}
-use Rattle.c_model.specs.Runs.{State}
-use Rattle.c_model.specs.World.{World, profile_limits}
+use Rattle.c_model.specs.World.{profile_limits}
 use Rattle.run_laws.specs.SetUp.{IsItsCode, IsProfile, IsItsWorld, IsSetUp, IsWhole}
 use Rattle.run_start.specs.Begins.{BeginsAsDefined, CountsAsDefined, HoldsGiven, IsUnstarted, KeepsLabels}
 use Rattle.run_state.specs.declared.machine.Machine.{Machine}
