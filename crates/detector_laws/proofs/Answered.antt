@@ -17,6 +17,7 @@ use Rattle.c_model.specs.Steps.{Begun, Local, Scene, is_done, taken_by, with_giv
 use Rattle.c_model.specs.World.{World}
 use Rattle.elaborate.specs.Formed.{is_formed}
 use Rattle.finding_laws.specs.FirstPairs.{IsDue}
+use Rattle.finding_laws.specs.Forgotten.{AllAsked}
 use Rattle.listing_laws.specs.Along.{StandsAlong}
 use Rattle.run_evaluations.specs.Scopes.{Scope, part_of}
 use Rattle.run_evaluations.specs.Told.{Opened}
@@ -30,6 +31,7 @@ use Rattle.detector_laws.specs.Looked.{looked_at, scope_of}
 use Rattle.detector_laws.specs.Frames.{TakesEvent}
 use Rattle.detector_laws.specs.Bare.{IsBareStore}
 use Rattle.detector_laws.specs.Records.{AnswersAreFound, Records}
+use Rattle.detector_laws.proofs.Asked.{by_asked}
 use Rattle.detector_laws.proofs.Free.{done_as, done_if_shown, shown_of_quarrel, shown_of_race}
 use Rattle.detector_laws.proofs.Paths.{and_b, and_l, and_r, not_true}
 use Rattle.detector_laws.proofs.Recorded.{has_place}
@@ -91,7 +93,7 @@ module _ (world : World) (trace : List Entry) (f : Scene) (e : Begun) (done ahea
 -- ---- what was told is what c_model looks at
 module _ (world : World) (trace later : List Entry) (f : Scene) (e : Begun) (u : Place) (top : Local) (t : Opened)
     (took : TakesEvent world trace later f e u top)
-    (r : Records world later f (with_given e u took.value) (took.passed ++ u ∷ []) (took.passed ++ u ∷ []) t) where
+    (r : Records world later f (with_given e u took.value) (took.passed ++ u ∷ []) (took.passed ++ u ∷ []) t) (all : AllAsked later) where
   abbrev now : Begun
   now = with_given e u took.value
 
@@ -112,6 +114,7 @@ module _ (world : World) (trace later : List Entry) (f : Scene) (e : Begun) (u :
         ∙ (ap₂ (λ (z : Tree) (c : Taken). has_shown z c (has (with_it took.passed u))) (sym r.tree) (sym r.taken)
         ∙ ap (λ z. has_shown t.scope.tree t.scope.taken (has z)) (sym r.places));
     items = λ d a. r.items d a (ap (λ z. has z d.place) (sym r.places) ∙ has_place t.done a.0 d a.1);
+    asked = λ d a. by_asked later later f.path f.turn d.place all all;
   }
 
   pub is_told : IsBareStore world later f now u.node →
@@ -126,6 +129,6 @@ module _ (world : World) (trace later : List Entry) (f : Scene) (e : Begun) (u :
   }
 
 pub answers_are_found : AnswersAreFound
-answers_are_found world trace later f e u top t frames r took records bare first =
+answers_are_found world trace later f e u top t frames r took records bare all first =
     first_is_found world.rows frames t (taken_by world f e) took.passed u took.ahead took.further (looked_at world trace f e)
-    (looked_at world later f (with_given e u took.value)) r (is_told world trace later f e u top t took records bare) first
+    (looked_at world later f (with_given e u took.value)) r (is_told world trace later f e u top t took records all bare) first

@@ -1,5 +1,6 @@
 pub mod Answered
 pub mod Around
+pub mod Asked
 pub mod Barely
 pub mod Bodies
 pub mod Chosen

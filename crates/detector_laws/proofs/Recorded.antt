@@ -18,10 +18,12 @@ use Rattle.c_model.specs.Steps.{Begun, Scene, taken_by, with_given}
 use Rattle.c_model.specs.World.{World}
 use Rattle.c_model.proofs.Listed.{same_place_itself}
 use Rattle.evaluation_log.specs.Touched.{touched}
+use Rattle.finding_laws.specs.Forgotten.{HasItemsBut, HasItemsOf}
 use Rattle.finding_laws.specs.LeastPairs.{HasItems}
 use Rattle.run_evaluations.specs.Listing.{IsListedNext}
 use Rattle.run_evaluations.specs.Told.{Evaluation, Opened, chosen_by, evaluation, last_given, told, has as has_item}
 use Rattle.telling_laws.specs.Standing.{Chooses, StandsBehind, StandsTold, places}
+use Rattle.telling_laws.proofs.Besides.{of_either}
 use Rattle.telling_laws.proofs.Splits.{at_seam, given_last, last_split, places_push}
 use Rattle.telling_laws.proofs.Stands.{begins_standing, chooses_standing, gives_standing, tells_standing}
 use Rattle.detector_laws.specs.Looked.{scope_of}
@@ -108,6 +110,10 @@ items_are trace x f u is fresh =
 alone : (own : Item → Bool) (is : List Item) → HasItems own is → HasItems (λ j. own j || false) is
 alone own is h = λ j. ((λ g. (h j).0 (sym (or_false (own j)) ∙ g)), (λ g. or_false (own j) ∙ (h j).1 g))
 
+-- ---- what an evaluation has of these items
+abbrev pub HasTold : Evaluation → List Item → Type 0
+HasTold d is = HasItemsOf (is_body d.place.kind) (has_item d) is
+
 -- ---- as an event is told
 module _ (world : World) (trace : List Entry) (f : Scene) (e : Begun) (u : Place) (passed ahead : List Place) (t : Opened)
     (s : StandsFree world trace f e passed (u ∷ ahead)) (r : Records world trace f e passed passed t) where
@@ -129,10 +135,10 @@ module _ (world : World) (trace : List Entry) (f : Scene) (e : Begun) (u : Place
 
   -- of what was done before
   kept : (later : List Entry) → ((w : Place) → has passed w ≡ true → items_by later later f.path f.turn w ≡ items_by trace trace f.path f.turn w) →
-      (d : Evaluation) (j : ℕ) → slice_get t.done j ≡ Some d → HasItems (has_item d) (items_by later later f.path f.turn d.place)
+      (d : Evaluation) (j : ℕ) → slice_get t.done j ≡ Some d → HasTold d (items_by later later f.path f.turn d.place)
   kept later stay d j h =
       let p : has passed d.place ≡ true = ap (λ z. has z d.place) (sym r.places) ∙ has_place t.done j d h in
-      subst (HasItems (has_item d)) (sym (stay d.place p)) (r.items d (j, h) p)
+      subst (HasTold d) (sym (stay d.place p)) (r.items d (j, h) p)
 
 pub tells_recorded : TellsRecorded
 tells_recorded world trace x f e u top t items took is tells fresh r stands = (
@@ -144,9 +150,10 @@ tells_recorded world trace x f e u top t items took is tells fresh r stands = (
     places = told_places world trace f e u took.passed took.ahead t took.before r items;
     items = λ d a h. ⊎_elim
         (λ j. kept world trace f e u took.passed took.ahead t took.before r (x ∷ trace) took.around.items d j.0 j.1)
-        (λ q. subst (λ (z : Evaluation). HasItems (has_item z) (items_by (x ∷ trace) (x ∷ trace) f.path f.turn z.place)) q
+        (λ q. subst (λ (z : Evaluation). HasTold z (items_by (x ∷ trace) (x ∷ trace) f.path f.turn z.place)) q
+        (of_either (is_body u.kind) (has_item (evaluation u.node u.kind items)) (items_by (x ∷ trace) (x ∷ trace) f.path f.turn u)
         (subst (HasItems (has_item (evaluation u.node u.kind items))) (sym (items_are trace x f u is fresh))
-        (alone (touched items 0 (length items)) x.items tells)))
+        (alone (touched items 0 (length items)) x.items tells))))
         (pushed t.done (evaluation u.node u.kind items) d a.0 a.1);
   },
   stands_behind world trace f e u took.passed took.ahead t took.before r (taken_by world f (with_given e u took.value)) items took.chooses stands,
@@ -177,7 +184,7 @@ stays_recorded world trace x f e u passed ahead t body s under r = record {
   tree = r.tree;
   taken = r.taken;
   places = r.places;
-  items = λ d a h. subst (HasItems (has_item d))
+  items = λ d a h. subst (HasTold d)
       (sym (held_items world trace x f u passed body (not_passed world f e passed ahead u s.along) under d.place h)) (r.items d a h);
 }
 
@@ -192,8 +199,8 @@ ends_recorded world trace later f e u top t last body is_body_kind took r stands
     places = ap places is ∙ (places_push front last_now ∙ (sym (ap places split.1 ∙ places_push front last) ∙ r.places));
     items = λ d a h. ⊎_elim
         (λ j. before d j.0 j.1)
-        (λ q. subst (λ (z : Evaluation). HasItems (has_item z) (items_by later later f.path f.turn z.place)) q
-        (subst (λ z. HasItems (has_item last_now) (items_by later later f.path f.turn z)) (sym at_end.1) has_body))
+        (λ q. subst (λ (z : Evaluation). HasTold z (items_by later later f.path f.turn z.place)) q
+        (subst (λ (z : Place). HasItemsOf (is_body z.kind) (has_item last_now) (items_by later later f.path f.turn z)) (sym at_end.1) of_body))
         (pushed front last_now d a.0 (ap (λ z. slice_get z a.0) (sym is) ∙ a.1));
   },
   (gives_standing t body).1 last stands,
@@ -221,7 +228,10 @@ ends_recorded world trace later f e u top t last body is_body_kind took r stands
     same : taken_by world f (with_given e u took.value) ≡ taken_by world f e
     same = λ i n. took.chooses.only n (other n) i
 
-    before : (d : Evaluation) (j : ℕ) → slice_get front j ≡ Some d → HasItems (has_item d) (items_by later later f.path f.turn d.place)
+    of_body : HasItemsOf (is_body u.kind) (has_item last_now) (items_by later later f.path f.turn u)
+    of_body = subst (λ (k : Kind). HasItemsOf (is_body k) (has_item last_now) (items_by later later f.path f.turn u)) (sym is_body_kind) has_body
+
+    before : (d : Evaluation) (j : ℕ) → slice_get front j ≡ Some d → HasTold d (items_by later later f.path f.turn d.place)
     before d j h =
         r.items d (j, ap (λ z. slice_get z j) split.1 ∙ at_front front (last ∷ []) j d h)
         (ap (λ z. has z d.place) (sym at_end.0) ∙ has_place front j d h)

@@ -6,7 +6,7 @@ use Rattle.std.proofs.lemmas.Bool.Decides.{nat_tests}
 use Rattle.std.proofs.lemmas.Option.{same_Some}
 use Rattle.ub_base.specs.declared.names.Event.{Event}
 use Rattle.ub_base.specs.declared.names.Item.{Item}
-use Rattle.ub_base.specs.declared.names.Item.TheVariants.{Ending, Any as AnyItem}
+use Rattle.ub_base.specs.declared.names.Item.TheVariants.{Born, Dies, Ending, Any as AnyItem}
 use Rattle.ub_base.specs.Frames.{Row as FrameRow}
 use Rattle.addr_map.specs.Conflict.{some_conflict}
 use Rattle.addr_map.specs.declared.map.Row.{Row}
@@ -33,8 +33,9 @@ use Rattle.evaluation_search.specs.First.{IsFirstOf, sought_of}
 use Rattle.finding_laws.specs.AtEnd.{with_any}
 use Rattle.finding_laws.specs.FirstPairs.{IsDue, place_key, precedes}
 use Rattle.finding_laws.specs.Footprints.{IsAmong as IsItemOf}
+use Rattle.finding_laws.specs.Forgotten.{AllAsked, AreAsked, HasItemsBut, HasItemsOf, IsLost}
 use Rattle.finding_laws.specs.LeastPairs.{HasItems}
-use Rattle.finding_laws.proofs.AtEnd.{any_is_had, only_ends_meet, races_as_before}
+use Rattle.finding_laws.proofs.AtEnd.{any_is_asked, any_is_had_besides, only_ends_meet, races_as_before}
 use Rattle.finding_laws.proofs.Bytes.{right_of}
 use Rattle.footprint.specs.Holds.{stands_for}
 use Rattle.footprint.specs.Least.{IsLeast}
@@ -44,13 +45,15 @@ use Rattle.run_evaluations.specs.Scopes.{Scope}
 use Rattle.run_evaluations.specs.Shows.{AreApart, AreOfTwo, IsAmong}
 use Rattle.run_evaluations.specs.Told.{Evaluation, IsUnder, Opened, has as has_item}
 use Rattle.telling_laws.specs.Standing.{StandsBehind, places}
-use Rattle.telling_laws.proofs.ClashLemmas.{has_least, meets_by_items, races_by_items}
+use Rattle.telling_laws.proofs.Besides.{besides, has_least_besides, just, meets_besides, races_besides}
+use Rattle.telling_laws.proofs.ClashLemmas.{has_least, races_by_items}
 use Rattle.telling_laws.proofs.FirstTold.{told_of}
 use Rattle.telling_laws.proofs.New.{key_small, neither, node_order, not_any, not_false}
 use Rattle.telling_laws.proofs.OwnLemmas.{only_stores_conflict}
 use Rattle.telling_laws.proofs.Splits.{append_one, last_split, places_push}
 use Rattle.detector_laws.specs.Looked.{looked_at, scope_of}
 use Rattle.detector_laws.specs.Records.{Records}
+use Rattle.detector_laws.proofs.Asked.{by_asked}
 use Rattle.detector_laws.proofs.Free.{done_as}
 use Rattle.detector_laws.proofs.Recorded.{has_place}
 use Rattle.ending_laws.specs.Ends.{EndIsFound, EndsIn, IsToldAtEnd, ending_at}
@@ -106,7 +109,7 @@ done_at (e ∷ es) (suc i) d w j h same g = or_b (same_place e.place w && has_it
 
 module _ (world : World) (trace later : List Entry) (frames : List FrameRow) (f : Scene) (e : Begun) (u : Place) (t : Opened) (last : Evaluation)
     (ends : EndsIn world trace later f e u) (r : Records world later f e (ends.passed ++ u ∷ []) (ends.passed ++ u ∷ []) t)
-    (stands : StandsBehind t last) where
+    (stands : StandsBehind t last) (asked : AllAsked later) where
   abbrev o : Open
   o = ending_at world later f e
 
@@ -137,26 +140,51 @@ module _ (world : World) (trace later : List Entry) (frames : List FrameRow) (f 
       (same_ends (places split.0) passed last.place u (sym (ap places split.1 ∙ places_push split.0 last) ∙ r.places)).1
 
   -- ---- items
-  told_items : (d : Evaluation) → IsAmong t d → HasItems (has_item d) (it d.place)
-  told_items d a = r.items d a (ap (λ z. has z d.place) (sym r.places) ∙ has_place t.done a.0 d a.1)
+  told_of_either : (d : Evaluation) → IsAmong t d → HasItemsOf (is_body d.place.kind) (has_item d) (it d.place)
+  told_of_either d a = r.items d a (ap (λ z. has z d.place) (sym r.places) ∙ has_place t.done a.0 d a.1)
+
+  told_items : (d : Evaluation) → IsAmong t d → HasItemsBut (has_item d) (it d.place)
+  told_items d a = besides (is_body d.place.kind) (has_item d) (it d.place) (told_of_either d a)
+
+  -- of another event than a body
+  just_items : (d : Evaluation) → IsAmong t d → is_body d.place.kind ≡ false → HasItems (has_item d) (it d.place)
+  just_items d a bodiless = just (is_body d.place.kind) (has_item d) (it d.place) bodiless (told_of_either d a)
 
   last_among : IsAmong t last
   last_among = (length t.done - 1, stands.at)
 
-  last_items : HasItems (has_item last) (it u)
-  last_items = subst (λ z. HasItems (has_item last) (it z)) last_is (told_items last last_among)
+  last_items : HasItemsBut (has_item last) (it u)
+  last_items = subst (λ z. HasItemsBut (has_item last) (it z)) last_is (told_items last last_among)
 
-  done_items : (w : Place) → HasItems (done_has t.done w) (it w)
-  done_items w j = (
-    λ h. let d = done_found t.done w j h in subst (λ z. IsItemOf (all_by_bytes (it z)) j) d.3 ((told_items d.0 (d.1, d.2) j).0 d.4),
-    λ h. by_test (has (places t.done) w)
-        (λ g. let d = told_of t.done w g in
-        done_at t.done d.1 d.0 w j d.2 d.3 ((told_items d.0 (d.1, d.2) j).1 (subst (λ z. IsItemOf (all_by_bytes (it z)) j) d.3 h)))
-        (λ g. absurd (subst (λ (z : List Item). IsItemOf (all_by_bytes z) j) (ends.left w (ap (λ z. has z w) (sym r.places) ∙ g)) h)),
-  )
+  last_ending : IsItemOf (all_by_bytes (it u)) Ending → has_item last Ending ≡ true
+  last_ending h = ⊎_elim (λ held. held) (λ lost. absurd (let e : false ≡ true = lost.1 in cc)) (last_items.all Ending h)
 
-  at_end_items : (w : Place) → HasItems (has_at_end t w) (with_any (it w))
-  at_end_items w = any_is_had (done_has t.done w) (it w) (done_items w)
+  done_only : (w : Place) (j : Item) → done_has t.done w j ≡ true → IsItemOf (all_by_bytes (it w)) j
+  done_only w j h =
+      let d = done_found t.done w j h in
+      subst (λ z. IsItemOf (all_by_bytes (it z)) j) d.3 ((told_items d.0 (d.1, d.2)).only j d.4)
+
+  done_all : (w : Place) (j : Item) → IsItemOf (all_by_bytes (it w)) j → (done_has t.done w j ≡ true) ⊎ IsLost (done_has t.done w) j
+  done_all w j h = by_test (has (places t.done) w)
+      (λ g.
+      let d = told_of t.done w g in
+      ⊎_elim
+      (λ held. inl (done_at t.done d.1 d.0 w j d.2 d.3 held))
+      (λ lost. inr (lost.0, lost.1, done_at t.done d.1 d.0 w (Born lost.0) d.2 d.3 lost.2, done_at t.done d.1 d.0 w (Dies lost.0) d.2 d.3 lost.3))
+      ((told_items d.0 (d.1, d.2)).all j (subst (λ z. IsItemOf (all_by_bytes (it z)) j) d.3 h)))
+      (λ g. absurd (subst (λ (z : List Item). IsItemOf (all_by_bytes z) j) (ends.left w (ap (λ z. has z w) (sym r.places) ∙ g)) h))
+
+  done_items : (w : Place) → HasItemsBut (done_has t.done w) (it w)
+  done_items w = record { only = done_only w; all = done_all w }
+
+  at_end_items : (w : Place) → HasItemsBut (has_at_end t w) (with_any (it w))
+  at_end_items w = any_is_had_besides (done_has t.done w) (it w) (done_items w)
+
+  asked_items : (w : Place) → AreAsked (it w)
+  asked_items w = by_asked later later f.path f.turn w asked asked
+
+  asked_at_end : (w : Place) → AreAsked (with_any (it w))
+  asked_at_end w = any_is_asked (it w) (asked_items w)
 
   -- of another event than the body
   left_without : (w : Place) → same_place w u ≡ false → has passed w ≡ false → it w ≡ []
@@ -207,16 +235,17 @@ module _ (world : World) (trace later : List Entry) (frames : List FrameRow) (f 
       grind (arith, nat_tests, key)
 
   -- ---- two events that race, or quarrel, by what was told of them
-  race_met : (x y : Place) (g h : Item → Bool) → HasItems g (it x) → HasItems h (it y) → (is_body x.kind || is_body y.kind) ≡ false →
+  race_met : (x y : Place) (g h : Item → Bool) → HasItemsBut g (it x) → HasItemsBut h (it y) → (is_body x.kind || is_body y.kind) ≡ false →
       are_apart o x y ≡ true → SomeClash Races world.rows g h → races world.rows o x y ≡ true
   race_met x y g h gx hy bodiless apart c =
       and_b _ _ (ap not bodiless) (and_b _ _ apart
       (ap₂ (λ (p q : List Item). some_conflict world.rows p q) (races_as_before (it x)) (races_as_before (it y))
-      ∙ (races_by_items world.rows g h (it x) (it y) gx hy).0 c))
+      ∙ races_besides world.rows g h (it x) (it y) gx hy c))
 
-  quarrel_met : (x y : Place) (g h : Item → Bool) → HasItems g (with_any (it x)) → HasItems h (with_any (it y)) → are_apart o x y ≡ true →
+  quarrel_met : (x y : Place) (g h : Item → Bool) → HasItemsBut g (with_any (it x)) → HasItemsBut h (with_any (it y)) → are_apart o x y ≡ true →
       SomeClash Any world.rows g h → quarrels world.rows o x y ≡ true
-  quarrel_met x y g h gx hy apart c = and_b _ _ apart ((meets_by_items world.rows g h (with_any (it x)) (with_any (it y)) gx hy).0 c)
+  quarrel_met x y g h gx hy apart c =
+      and_b _ _ apart ((meets_besides world.rows g h (with_any (it x)) (with_any (it y)) gx hy (asked_at_end x) (asked_at_end y)).0 c)
 
   -- with `any` besides they clash all the more
   more_left : (g h : Item → Bool) → SomeClash Any world.rows g h → SomeClash Any world.rows (λ i. g i || stands_for AnyItem i) h
@@ -252,13 +281,14 @@ module _ (world : World) (trace later : List Entry) (frames : List FrameRow) (f 
         raced = λ q. race_met a b (has_item c.one) (has_item c.other) (told_items c.one c.one_done) (told_items c.other c.other_done) (c.of.bodiless q) apart
             (subst (λ z. SomeClash (sought_of z) world.rows (has_item c.one) (has_item c.other)) q clash);
         quarrelled = λ q. quarrel_met a b (λ i. has_item c.one i || stands_for AnyItem i) (λ i. has_item c.other i || stands_for AnyItem i)
-            (any_is_had (has_item c.one) (it a) (told_items c.one c.one_done)) (any_is_had (has_item c.other) (it b) (told_items c.other c.other_done)) apart
+            (any_is_had_besides (has_item c.one) (it a) (told_items c.one c.one_done))
+            (any_is_had_besides (has_item c.other) (it b) (told_items c.other c.other_done)) apart
             (more_right (λ i. has_item c.one i || stands_for AnyItem i) (has_item c.other) (more_left (has_item c.one) (has_item c.other)
             (subst (λ z. SomeClash (sought_of z) world.rows (has_item c.one) (has_item c.other)) q clash)));
       }
 
-  last_at_end : HasItems (λ i. has_item last i || stands_for AnyItem i) (with_any (it last.place))
-  last_at_end = any_is_had (has_item last) (it last.place) (told_items last last_among)
+  last_at_end : HasItemsBut (λ i. has_item last i || stands_for AnyItem i) (with_any (it last.place))
+  last_at_end = any_is_had_besides (has_item last) (it last.place) (told_items last last_among)
 
   beside_sound : (x : Found) → IsConflictBeside frames world.rows t last x → IsSound world.rows t o x
   beside_sound x c = by_order (less_or (c.other.node) last.place.node c.elsewhere)
@@ -387,8 +417,10 @@ module _ (world : World) (trace later : List Entry) (frames : List FrameRow) (f 
       let w = of_way x y px py order (λ shown. true≢false (sym (and_b _ _ bodies (and_b _ _ apart (and_b _ _ shown
       (ap₂ (λ (p q : List Item). some_conflict world.rows (accesses p) (accesses q)) (sym (ends.stay x px)) (sym (ends.stay y py)) ∙ meet))))
       ∙ ends.before.free.raceless x y (before_due x dx) (before_due y dy) order)) in
-      let mx = subst (λ z. HasItems (has_item w.one) (it z)) (sym w.one_is) (told_items w.one w.one_done) in
-      let my = subst (λ z. HasItems (has_item w.other) (it z)) (sym w.other_is) (told_items w.other w.other_done) in
+      let mx = subst (λ z. HasItems (has_item w.one) (it z)) (sym w.one_is)
+      (just_items w.one w.one_done (ap (λ (z : Place). is_body z.kind) (sym w.one_is) ∙ kinds.0)) in
+      let my = subst (λ z. HasItems (has_item w.other) (it z)) (sym w.other_is)
+      (just_items w.other w.other_done (ap (λ (z : Place). is_body z.kind) (sym w.other_is) ∙ kinds.1)) in
       let least = has_least world.rows frames Races (has_item w.one) (has_item w.other) (it x) (it y) mx my
       ((races_by_items world.rows (has_item w.one) (has_item w.other) (it x) (it y) mx my).1 meet) in (
         record { race = true; event = event_in t w.one.place; against = event_in t w.other.place; items = least.0 },
@@ -421,10 +453,10 @@ module _ (world : World) (trace later : List Entry) (frames : List FrameRow) (f 
       let w = of_way x y px py order (λ shown. true≢false (sym (and_b _ _ apart (and_b _ _ shown
       (ap₂ (λ (p q : List Item). some_conflict world.rows p q) (sym (ends.stay x px)) (sym (ends.stay y py)) ∙ meet)))
       ∙ ends.before.free.quarrelless x y (before_due x dx) (before_due y dy) order)) in
-      let mx = subst (λ z. HasItems (has_item w.one) (it z)) (sym w.one_is) (told_items w.one w.one_done) in
-      let my = subst (λ z. HasItems (has_item w.other) (it z)) (sym w.other_is) (told_items w.other w.other_done) in
-      let least = has_least world.rows frames Any (has_item w.one) (has_item w.other) (it x) (it y) mx my
-      ((meets_by_items world.rows (has_item w.one) (has_item w.other) (it x) (it y) mx my).1 meet) in (
+      let mx = subst (λ z. HasItemsBut (has_item w.one) (it z)) (sym w.one_is) (told_items w.one w.one_done) in
+      let my = subst (λ z. HasItemsBut (has_item w.other) (it z)) (sym w.other_is) (told_items w.other w.other_done) in
+      let least = has_least_besides world.rows frames Any (has_item w.one) (has_item w.other) (it x) (it y) mx my
+      ((meets_besides world.rows (has_item w.one) (has_item w.other) (it x) (it y) mx my (asked_items x) (asked_items y)).1 meet) in (
         record { race = false; event = event_in t w.one.place; against = event_in t w.other.place; items = least.0 },
         inr (record {
           one = w.one;
@@ -453,10 +485,10 @@ module _ (world : World) (trace later : List Entry) (frames : List FrameRow) (f 
       SomeClash Any world.rows (has_at_end t w) (has_item last)
   with_last w endless h = ⊎_elim
       (λ meet. more_left (done_has t.done w) (has_item last)
-      ((meets_by_items world.rows (done_has t.done w) (has_item last) (it w) (it u) (done_items w) last_items).1 meet))
+      ((meets_besides world.rows (done_has t.done w) (has_item last) (it w) (it u) (done_items w) last_items (asked_items w) (asked_items u)).1 meet))
       (λ some. ⊎_elim
       (λ own. absurd (true≢false (sym own ∙ endless)))
-      (λ ending. (AnyItem, Ending, (or_b (done_has t.done w AnyItem) _ refl, (last_items Ending).1 (ending_among (it u) ending), refl)))
+      (λ ending. (AnyItem, Ending, (or_b (done_has t.done w AnyItem) _ refl, last_ending (ending_among (it u) ending), refl)))
       (or_cases (has_ending (it w)) (has_ending (it u)) some))
       (or_cases (some_conflict world.rows (it w) (it u)) (has_ending (it w) || has_ending (it u)) h)
 
@@ -465,9 +497,9 @@ module _ (world : World) (trace later : List Entry) (frames : List FrameRow) (f 
       SomeClash Any world.rows (has_item last) (has_at_end t w)
   last_with w endless h = ⊎_elim
       (λ meet. more_right (has_item last) (done_has t.done w)
-      ((meets_by_items world.rows (has_item last) (done_has t.done w) (it u) (it w) last_items (done_items w)).1 meet))
+      ((meets_besides world.rows (has_item last) (done_has t.done w) (it u) (it w) last_items (done_items w) (asked_items u) (asked_items w)).1 meet))
       (λ some. ⊎_elim
-      (λ ending. (Ending, AnyItem, ((last_items Ending).1 (ending_among (it u) ending), or_b (done_has t.done w AnyItem) _ refl, refl)))
+      (λ ending. (Ending, AnyItem, (last_ending (ending_among (it u) ending), or_b (done_has t.done w AnyItem) _ refl, refl)))
       (λ own. absurd (true≢false (sym own ∙ endless)))
       (or_cases (has_ending (it u)) (has_ending (it w)) some))
       (or_cases (some_conflict world.rows (it u) (it w)) (has_ending (it u) || has_ending (it w)) h)
@@ -479,7 +511,7 @@ module _ (world : World) (trace later : List Entry) (frames : List FrameRow) (f 
       let met = and_r (are_apart o x y) _ h in
       let clash = with_last x (endless_at x other)
       (sym (only_ends_meet world.rows (it x) (it u)) ∙ (ap (λ z. some_conflict world.rows (with_any (it x)) (with_any (it z))) (sym is) ∙ met)) in
-      let least = has_least world.rows frames Any (has_at_end t x) (has_item last) (with_any (it x)) (it u) (at_end_items x) last_items clash in
+      let least = has_least_besides world.rows frames Any (has_at_end t x) (has_item last) (with_any (it x)) (it u) (at_end_items x) last_items clash in
       let low = node_order x y order in
       let n = ap (λ (z : Place). z.node) is in
       let m = ap (λ (z : Place). z.node) last_is in (
@@ -504,7 +536,7 @@ module _ (world : World) (trace later : List Entry) (frames : List FrameRow) (f 
       let met = and_r (are_apart o x y) _ h in
       let clash = last_with y (endless_at y other)
       (sym (only_ends_meet world.rows (it u) (it y)) ∙ (ap (λ z. some_conflict world.rows (with_any (it z)) (with_any (it y))) (sym is) ∙ met)) in
-      let least = has_least world.rows frames Any (has_item last) (has_at_end t y) (it u) (with_any (it y)) last_items (at_end_items y) clash in
+      let least = has_least_besides world.rows frames Any (has_item last) (has_at_end t y) (it u) (with_any (it y)) last_items (at_end_items y) clash in
       let told = apart_told x y apart in
       let low = node_order x y order in
       let n = ap (λ (z : Place). z.node) is in
@@ -556,16 +588,16 @@ pub describes : (world : World) (trace later : List Entry) (frames : List FrameR
     (told : IsToldAtEnd world trace later f e t) →
     Describes world.rows t (ending_at world later f e) (IsConflictAtEnd frames world.rows t told.last)
 describes world trace later frames f e t a = record {
-  sound = sound world trace later frames f e a.body t a.last a.ends a.records a.stands;
-  raced = races_told world trace later frames f e a.body t a.last a.ends a.records a.stands;
-  quarrelled = quarrels_told world trace later frames f e a.body t a.last a.ends a.records a.stands;
+  sound = sound world trace later frames f e a.body t a.last a.ends a.records a.stands a.asked;
+  raced = races_told world trace later frames f e a.body t a.last a.ends a.records a.stands a.asked;
+  quarrelled = quarrels_told world trace later frames f e a.body t a.last a.ends a.records a.stands a.asked;
 }
 
 pub end_is_found : EndIsFound
 end_is_found world trace later frames f e t r a first = (
   first_is_first frames world.rows t (ending_at world later f e) (IsConflictAtEnd frames world.rows t a.last) (describes world trace later frames f e t a) r
       first,
-  λ y is. of_frame world trace later frames f e a.body t a.last a.ends a.records a.stands y (held r y is first),
+  λ y is. of_frame world trace later frames f e a.body t a.last a.ends a.records a.stands a.asked y (held r y is first),
 )
   where
     held : (z : Option Found) (y : Found) → z ≡ Some y → IsFirstOf frames (IsConflictAtEnd frames world.rows t a.last) z →

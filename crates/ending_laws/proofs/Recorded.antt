@@ -3,17 +3,20 @@ use Rattle.std.proofs.Common.{◌≡◌, ◌⊎◌, inl, inr, ⊎_elim, ℕ, zer
 use Rattle.std.specs.Prelude.{slice_get}
 use Rattle.std.proofs.lemmas.Option.{same_Some}
 use Rattle.ub_base.specs.declared.names.Item.{Item}
-use Rattle.c_typed.specs.Order.{has}
+use Rattle.c_typed.specs.declared.tree.Place.{Place}
+use Rattle.c_typed.specs.Order.{has, is_body}
 use Rattle.c_model.specs.Moments.{items_by}
+use Rattle.finding_laws.specs.Forgotten.{HasItemsOf}
 use Rattle.finding_laws.specs.LeastPairs.{HasItems}
 use Rattle.run_evaluations.specs.Told.{Evaluation, evaluation, last_given, has as has_item}
 use Rattle.evaluation_log.specs.Touched.{touched}
 use Rattle.std.specs.Prelude.{length}
 use Rattle.telling_laws.specs.Standing.{places}
+use Rattle.telling_laws.proofs.Besides.{of_either}
 use Rattle.telling_laws.proofs.Splits.{given_last, last_split, places_push}
 use Rattle.telling_laws.proofs.Stands.{gives_standing}
 use Rattle.detector_laws.proofs.Free.{or_false}
-use Rattle.detector_laws.proofs.Recorded.{has_place, items_are, starts_recorded}
+use Rattle.detector_laws.proofs.Recorded.{HasTold, has_place, items_are, starts_recorded}
 use Rattle.ending_laws.specs.Told.{GivesEnding, TellsEnding}
 use Rattle.ending_laws.proofs.Ending.{same_ends}
 
@@ -46,9 +49,10 @@ tells_ending world trace x f e u passed ahead t items s is tells fresh r stands 
         places = begun.places;
         items = λ d a h. ⊎_elim
             (λ j. begun.items d a (ap (λ z. has z d.place) (sym r.places) ∙ has_place t.done j.0 d j.1))
-            (λ same. subst (λ (z : Evaluation). HasItems (has_item z) (items_by (x ∷ trace) (x ∷ trace) f.path f.turn z.place)) same
+            (λ same. subst (λ (z : Evaluation). HasTold z (items_by (x ∷ trace) (x ∷ trace) f.path f.turn z.place)) same
+            (of_either (is_body u.kind) (has_item (evaluation u.node u.kind items)) (items_by (x ∷ trace) (x ∷ trace) f.path f.turn u)
             (subst (HasItems (has_item (evaluation u.node u.kind items))) (sym (items_are trace x f u is (λ b. fresh)))
-            (alone (touched items 0 (length items)) x.items tells)))
+            (alone (touched items 0 (length items)) x.items tells))))
             (pushed t.done (evaluation u.node u.kind items) d a.0 a.1);
       },
       q.1,
@@ -65,8 +69,8 @@ gives_ending world later f e u passed t last body r stands has_body = (
     places = ap places is ∙ (places_push front last_now ∙ (sym (ap places split.1 ∙ places_push front last) ∙ r.places));
     items = λ d a h. ⊎_elim
         (λ j. before d j.0 j.1)
-        (λ q. subst (λ (z : Evaluation). HasItems (has_item z) (items_by later later f.path f.turn z.place)) q
-        (subst (λ z. HasItems (has_item last_now) (items_by later later f.path f.turn z)) (sym at_end.1) has_body))
+        (λ q. subst (λ (z : Evaluation). HasTold z (items_by later later f.path f.turn z.place)) q
+        (subst (λ (z : Place). HasItemsOf (is_body z.kind) (has_item last_now) (items_by later later f.path f.turn z)) (sym at_end.1) has_body))
         (pushed front last_now d a.0 (ap (λ z. slice_get z a.0) (sym is) ∙ a.1));
   },
   (gives_standing t body).1 last stands,
@@ -87,7 +91,7 @@ gives_ending world later f e u passed t last body r stands has_body = (
     at_end : (places front ≡ passed) × (last.place ≡ u)
     at_end = same_ends (places front) passed last.place u (sym (ap places split.1 ∙ places_push front last) ∙ r.places)
 
-    before : (d : Evaluation) (j : ℕ) → slice_get front j ≡ Some d → HasItems (has_item d) (items_by later later f.path f.turn d.place)
+    before : (d : Evaluation) (j : ℕ) → slice_get front j ≡ Some d → HasTold d (items_by later later f.path f.turn d.place)
     before d j h =
         r.items d (j, ap (λ z. slice_get z j) split.1 ∙ at_front front (last ∷ []) j d h)
         (ap (λ z. has z d.place) (sym at_end.0) ∙ has_place front j d h)

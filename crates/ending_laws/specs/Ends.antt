@@ -11,6 +11,7 @@ use Rattle.c_model.specs.Steps.{Begun, Local, Scene, taken_by}
 use Rattle.c_model.specs.World.{World}
 use Rattle.evaluation_log.specs.declared.found.Found.{Found}
 use Rattle.evaluation_search.specs.First.{IsFirstOf}
+use Rattle.finding_laws.specs.Forgotten.{AllAsked}
 use Rattle.run_evaluations.specs.FirstAtEnd.{IsConflictAtEnd}
 use Rattle.run_evaluations.specs.Told.{Evaluation, Opened}
 use Rattle.telling_laws.specs.FirstFound.{IsFoundIn}
@@ -36,13 +37,14 @@ pub record EndsIn (world : World) (trace later : List Entry) (f : Scene) (e : Be
   pub left : (w : Place) → has (passed ++ u ∷ []) w ≡ false → items_by later later f.path f.turn w ≡ []
 
 -- ---- what is told
--- that body was told last, and what was told is what the definitions have
+-- that body was told last, and what was told is what the definitions have; each access of the trace stands with the question whether its object lives
 pub record IsToldAtEnd (world : World) (trace later : List Entry) (f : Scene) (e : Begun) (t : Opened) : Type 0 where
   pub body : Place
   pub ends : EndsIn world trace later f e body
   pub last : Evaluation
   pub records : Records world later f e (ends.passed ++ body ∷ []) (ends.passed ++ body ∷ []) t
   pub stands : StandsBehind t last
+  pub asked : AllAsked later
 
 -- Then what `ended` gives is what c_model finds first in the full expression, and where it is none nothing is found in it; its events are of that frame.
 abbrev pub EndIsFound : Type 0

@@ -1,5 +1,5 @@
 -- The item `any` behind those of an event.
-use Rattle.std.proofs.Common.{◌≡◌, ◌⊎◌, inl, inr, ⊎_elim, Bool, true, false, ◌||◌, List, [], ◌∷◌, ◌++◌, refl, sym, ap, ◌∙◌, if◌then◌else◌, ℕ, subst}
+use Rattle.std.proofs.Common.{◌≡◌, inl, inr, ⊎_elim, Bool, true, false, ◌||◌, List, [], ◌∷◌, ◌++◌, refl, sym, ap, ◌∙◌, if◌then◌else◌, ℕ, subst}
 use Rattle.ub_base.proofs.Tests.{or_cases, or_left, or_right}
 use Rattle.ub_base.specs.declared.names.ObjName.{ObjName}
 use Rattle.ub_base.specs.declared.names.Item.{Item}
@@ -7,11 +7,11 @@ use Rattle.ub_base.specs.declared.names.Item.TheVariants.{Read, Write, Born, Die
 use Rattle.addr_map.specs.declared.map.Row.{Row}
 use Rattle.addr_map.specs.Conflict.{conflicts_with, is_access, items_conflict, some_conflict, stands_at}
 use Rattle.footprint.specs.Holds.{stands_for}
-use Rattle.c_model.specs.Findings.{accesses, has_ending}
+use Rattle.c_model.specs.Findings.{has_ending}
 use Rattle.c_model.specs.Keys.{all_by_bytes, by_bytes}
-use Rattle.finding_laws.specs.AtEnd.{AnyIsHad, OnlyEndsMeet, RacesAsBefore, with_any}
+use Rattle.finding_laws.specs.AtEnd.{AnyIsAsked, AnyIsHad, AnyIsHadBesides, OnlyEndsMeet, RacesAsBefore, with_any}
 use Rattle.finding_laws.specs.Footprints.{IsAmong}
-use Rattle.finding_laws.specs.LeastPairs.{HasItems}
+use Rattle.finding_laws.specs.Forgotten.{AreAsked, HasItemsBut, IsLost}
 use Rattle.finding_laws.proofs.Bytes.{left_of, one_of, right_of}
 
 is_ending : Item → Bool
@@ -136,3 +136,51 @@ any_is_had f is had i = (
 
     back : IsAmong (all_by_bytes (with_any is)) i → IsAmong (all_by_bytes is ++ (Any ∷ [])) i
     back h = subst (λ (zs : List Item). IsAmong zs i) (joined is) h
+
+-- ---- where accesses are forgotten
+module _ (f : Item → Bool) (is : List Item) where
+  abbrev besides : Item → Bool
+  besides i = f i || stands_for Any i
+
+  more_lost : (i : Item) → IsLost f i → IsLost besides i
+  more_lost i lost = (
+    lost.0,
+    lost.1,
+    or_left (f (Born lost.0)) (stands_for Any (Born lost.0)) lost.2,
+    or_left (f (Dies lost.0)) (stands_for Any (Dies lost.0)) lost.3,
+  )
+
+  there_besides : (i : Item) → IsAmong (all_by_bytes is ++ (Any ∷ [])) i → IsAmong (all_by_bytes (with_any is)) i
+  there_besides i h = subst (λ (zs : List Item). IsAmong zs i) (sym (joined is)) h
+
+  back_besides : (i : Item) → IsAmong (all_by_bytes (with_any is)) i → IsAmong (all_by_bytes is ++ (Any ∷ [])) i
+  back_besides i h = subst (λ (zs : List Item). IsAmong zs i) (joined is) h
+
+  had_besides : HasItemsBut f is → HasItemsBut besides (with_any is)
+  had_besides had = record {
+    only = λ i h. there_besides i (⊎_elim (λ own. left_of (all_by_bytes is) (Any ∷ []) i (had.only i own))
+        (λ any. right_of (all_by_bytes is) (Any ∷ []) i (inl (stands_any i any))) (or_cases (f i) (stands_for Any i) h));
+    all = λ i h. ⊎_elim
+        (λ own. ⊎_elim (λ held. inl (or_left (f i) (stands_for Any i) held)) (λ lost. inr (more_lost i lost)) (had.all i own))
+        (λ more. inl (or_right (f i) (stands_for Any i) (any_stands i (⊎_elim (λ e. e) (λ none. absurd none) more))))
+        (one_of (all_by_bytes is) (Any ∷ []) i (back_besides i h));
+  }
+
+  -- an access is one of the list
+  of_list : (i : Item) → (Any ≡ i → ⊥) → IsAmong (all_by_bytes (with_any is)) i → IsAmong (all_by_bytes is) i
+  of_list i other h =
+      ⊎_elim (λ own. own) (λ more. absurd (other (⊎_elim (λ e. e) (λ none. absurd none) more))) (one_of (all_by_bytes is) (Any ∷ []) i (back_besides i h))
+
+  asked_besides : AreAsked is → AreAsked (with_any is)
+  asked_besides asked = record {
+    reads = λ x a n h. there_besides (Alive x)
+        (left_of (all_by_bytes is) (Any ∷ []) (Alive x) (asked.reads x a n (of_list (Read x a n) (λ e. absurd (cc)) h)));
+    writes = λ x a n h. there_besides (Alive x)
+        (left_of (all_by_bytes is) (Any ∷ []) (Alive x) (asked.writes x a n (of_list (Write x a n) (λ e. absurd (cc)) h)));
+  }
+
+pub any_is_had_besides : AnyIsHadBesides
+any_is_had_besides f is had = had_besides f is had
+
+pub any_is_asked : AnyIsAsked
+any_is_asked is asked = asked_besides (λ i. false) is asked

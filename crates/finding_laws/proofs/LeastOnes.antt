@@ -1,25 +1,28 @@
 -- The definition's search finds the least pair in the order of rows.
 use Rattle.std.proofs.Common.{◌≡◌, ◌⊎◌, inl, inr, ⊎_elim, ℕ, ◌≤◌, ◌<◌, arith, Bool, true, false, cond, List, [], ◌∷◌, refl, sym, ap, ◌∙◌, subst, Option, Some}
-use Rattle.std.proofs.Common.{None}
+use Rattle.std.proofs.Common.{None, ◌&&◌, ◌||◌, true≢false}
 use Rattle.std.specs.Ordering.{nat_cmp, ordering_reverse, ordering_then, MatchOrdering}
-use Rattle.std.proofs.lemmas.Cmp.{ranked}
+use Rattle.std.proofs.lemmas.Cmp.{ranked, tied_itself}
 use Rattle.std.specs.declared.cmp.Ordering.{Ordering}
 use Rattle.std.specs.declared.cmp.Ordering.TheVariants.{Less, Equal, Greater}
 use Rattle.ub_base.specs.declared.names.ObjName.{ObjName}
 use Rattle.ub_base.specs.declared.names.Item.{Item}
 use Rattle.ub_base.specs.declared.names.Item.TheVariants.{Read, Write, Born, Dies, Alive, Expose, Lookup, Narrow, Input, Output, Ending, Any}
-use Rattle.addr_map.specs.Conflict.{items_conflict, stands_at, is_access}
+use Rattle.ub_base.specs.Names.{same_object}
+use Rattle.ub_base.proofs.NameLemmas.{same_object_is, same_object_refl}
+use Rattle.addr_map.specs.Conflict.{conflicts_one, items_conflict, overlap, stands_at, is_access}
 use Rattle.ub_base.specs.Frames.{Row}
-use Rattle.footprint.specs.Holds.{holds}
+use Rattle.footprint.specs.Holds.{holds, is_forgotten}
 use Rattle.footprint.specs.Least.{item_rank, item_cmp, pair_cmp, IsLeast}
 use Rattle.footprint.specs.Least as rows_order
-use Rattle.footprint.proofs.LeastLemmas.{pair_total, both, alike, not_itself}
+use Rattle.footprint.proofs.LeastLemmas.{item_total, pair_total, both, alike, not_itself}
 use Rattle.c_model.specs.World.{World}
 use Rattle.c_model.specs.Runs.{Entry}
 use Rattle.c_model.specs.Findings.{clash}
 use Rattle.c_model.specs.Keys.{lesser, least_beside, least_among, all_by_bytes, least_items}
 use Rattle.finding_laws.specs.ItemOrder.{IsKnownItem}
 use Rattle.finding_laws.specs.Footprints.{IsAmong}
+use Rattle.finding_laws.specs.Forgotten.{AccessesAlone, HasItemsBut, IsLost, LeastBesides, is_access_of}
 use Rattle.finding_laws.specs.LeastPairs.{LeastAccesses, LeastIsTold, LeastOfItems}
 use Rattle.finding_laws.proofs.Keys.{pairs_by}
 use Rattle.finding_laws.proofs.OneItem.{IsByte, pair_is}
@@ -145,6 +148,138 @@ least_of_items world trace rows is js f g pair ki kj hf hg least =
     (Among world trace rows (λ a b. ⊥) (all_by_bytes is) (all_by_bytes js)) pair
     (λ a b c. inr ((hf a).0 c.0, (hg b).0 c.1, c.2))
     (λ a b one. ⊎_elim (λ none. absurd none) (λ own. ((hf a).1 own.0, (hg b).1 own.1, own.2)) one) least)
+    (among world trace rows (all_by_bytes is) (all_by_bytes js) None (λ a b. ⊥) ki kj tt (λ a b none. none))
+
+-- ---- where accesses are forgotten
+turned : (x y : ObjName) → same_object x y ≡ true → same_object y x ≡ true
+turned x y h = subst (λ (z : ObjName). same_object z x ≡ true) (same_object_is x y h) (same_object_refl x)
+
+either_first : (p q : Bool) → (p || q) ≡ true → (p ≡ true) ⊎ (q ≡ true)
+either_first true q h = inl refl
+either_first false q h = inr h
+
+or_first : (p q : Bool) → p ≡ true → (p || q) ≡ true
+or_first p q h = ap (λ r. r || q) h
+
+or_second : (p q : Bool) → q ≡ true → (p || q) ≡ true
+or_second true q h = refl
+or_second false q h = h
+
+first_of_both : (p q : Bool) → (p && q) ≡ true → p ≡ true
+first_of_both true q h = refl
+first_of_both false q h = h
+
+-- ---- what conflicts with a forgotten item
+module _ (stands : ObjName → ℕ → Bool) where
+  same_as : (x y z : ObjName) → same_object x y ≡ true → same_object z y ≡ true → same_object x z ≡ true
+  same_as x y z p q = subst (λ (w : ObjName). same_object x w ≡ true) (sym (same_object_is z y q)) p
+
+  -- it is an access of the object; or its birth or its death, and the item asks whether it lives
+  abbrev BesideLost : ObjName → Item → Item → Type 0
+  BesideLost x i j = (is_access_of x j ≡ true) ⊎ ((Alive x ≡ i) × ((Born x ≡ j) ⊎ (Dies x ≡ j)))
+
+  beside_lost : (x : ObjName) (i j : Item) → is_forgotten x i ≡ true → items_conflict stands i j ≡ true → BesideLost x i j
+  beside_lost x (Read y a n) (Write z b m) f c = inl (same_as x y z f (first_of_both (same_object z y) _ c))
+  beside_lost x (Write y a n) (Read z b m) f c =
+      inl (same_as x y z f
+      (turned y z (first_of_both (same_object y z) _ (⊎_elim (λ l. l) (λ r. absurd (cc)) (either_first (same_object y z && overlap a n b m) false c)))))
+  beside_lost x (Write y a n) (Write z b m) f c =
+      inl (same_as x y z f
+      (⊎_elim (λ l. turned y z (first_of_both (same_object y z) _ l)) (λ r. first_of_both (same_object z y) _ r)
+      (either_first (same_object y z && overlap a n b m) (same_object z y && overlap b m a n) c)))
+  beside_lost x (Alive y) (Born z) f c = inr (ap Alive (same_object_is x y f), inl (ap Born (same_object_is x z (same_as x y z f c))))
+  beside_lost x (Alive y) (Dies z) f c = inr (ap Alive (same_object_is x y f), inr (ap Dies (same_object_is x z (same_as x y z f c))))
+  beside_lost x _ _ f c = absurd (cc)
+
+  exchanged : (i j : Item) → items_conflict stands i j ≡ true → items_conflict stands j i ≡ true
+  exchanged i j h =
+      ⊎_elim (λ l. or_second (conflicts_one stands j i) _ l) (λ r. or_first _ (conflicts_one stands i j) r)
+      (either_first (conflicts_one stands i j) (conflicts_one stands j i) h)
+
+  -- births and deaths aren't forgotten
+  birth_had : (f : Item → Bool) (is : List Item) → HasItemsBut f is → (x : ObjName) → IsAmong (all_by_bytes is) (Born x) → f (Born x) ≡ true
+  birth_had f is hf x h = ⊎_elim (λ own. own) (λ lost. absurd (let e : false ≡ true = lost.1 in cc)) (hf.all (Born x) h)
+
+  death_had : (f : Item → Bool) (is : List Item) → HasItemsBut f is → (x : ObjName) → IsAmong (all_by_bytes is) (Dies x) → f (Dies x) ≡ true
+  death_had f is hf x h = ⊎_elim (λ own. own) (λ lost. absurd (let e : false ≡ true = lost.1 in cc)) (hf.all (Dies x) h)
+
+  -- so beside a forgotten item the other one is had, and conflicts with the death of its object
+  abbrev MeetsDeath : (Item → Bool) → (Item → Bool) → Item → Item → Type 0
+  MeetsDeath f g i j = (x : ObjName) × (Alive x ≡ i) × (f (Dies x) ≡ true) × (g j ≡ true) × (items_conflict stands (Dies x) j ≡ true)
+
+  of_lost : (f g : Item → Bool) (js : List Item) → HasItemsBut g js → AccessesAlone f js → (i j : Item) → IsLost f i → IsAmong (all_by_bytes js) j →
+      items_conflict stands i j ≡ true → MeetsDeath f g i j
+  of_lost f g js hg alone i j lost hj c = ⊎_elim
+      (λ access. absurd (true≢false (sym access ∙ alone lost.0 lost.2 lost.3 j hj)))
+      (λ asks. (
+        lost.0,
+        asks.0,
+        lost.3,
+        ⊎_elim (λ e. subst (λ (k : Item). g k ≡ true) e (birth_had g js hg lost.0 (subst (IsAmong (all_by_bytes js)) (sym e) hj)))
+            (λ e. subst (λ (k : Item). g k ≡ true) e (death_had g js hg lost.0 (subst (IsAmong (all_by_bytes js)) (sym e) hj))) asks.1,
+        ⊎_elim (λ e. subst (λ (k : Item). items_conflict stands (Dies lost.0) k ≡ true) e (or_first _ _ (same_object_refl lost.0)))
+            (λ e. subst (λ (k : Item). items_conflict stands (Dies lost.0) k ≡ true) e (or_first _ _ (same_object_refl lost.0))) asks.1,
+      ))
+      (beside_lost lost.0 i j lost.1 c)
+
+-- the death of an object comes before the question whether it lives
+module _ (rows : List Row) where
+  lesser_first : (x : ObjName) (j : Item) → pair_cmp rows (Dies x, j) (Alive x, j) ≡ Less
+  lesser_first x j = refl
+
+  lesser_second : (x : ObjName) (i : Item) → pair_cmp rows (i, Dies x) (i, Alive x) ≡ Less
+  lesser_second x i = ap (λ (o : Ordering). ordering_then o (item_cmp rows (Dies x) (Alive x))) (tied_itself (item_total rows) i)
+
+module _ (rows : List Row) (stands : ObjName → ℕ → Bool) (is js : List Item) (f g : Item → Bool) (hf : HasItemsBut f is) (hg : HasItemsBut g js)
+    (af : AccessesAlone f js) (ag : AccessesAlone g is) where
+  abbrev Had : Item → Item → Type 0
+  Had i j = (f i ≡ true) × (g j ≡ true) × (items_conflict stands i j ≡ true)
+
+  abbrev All : Item → Item → Type 0
+  All i j = IsAmong (all_by_bytes is) i × IsAmong (all_by_bytes js) j × (items_conflict stands i j ≡ true)
+
+  -- of all pairs each is had, or one that is had is lesser
+  abbrev LesserHad : Item → Item → Type 0
+  LesserHad i j = (p : Item) × (q : Item) × Had p q × (pair_cmp rows (p, q) (i, j) ≡ Less)
+
+  first_lost : (i j : Item) → All i j → IsLost f i → LesserHad i j
+  first_lost i j (hi, hj, c) lost =
+      let r = of_lost stands f g js hg af i j lost hj c in
+      (Dies r.0, j, (r.2, r.3, r.4), subst (λ (k : Item). pair_cmp rows (Dies r.0, j) (k, j) ≡ Less) r.1 (lesser_first rows r.0 j))
+
+  second_lost : (i j : Item) → All i j → IsLost g j → LesserHad i j
+  second_lost i j (hi, hj, c) lost =
+      let r = of_lost stands g f is hf ag j i lost hi (exchanged stands i j c) in (
+        i,
+        Dies r.0,
+        (r.3, r.2, exchanged stands (Dies r.0) i r.4),
+        subst (λ (k : Item). pair_cmp rows (i, Dies r.0) (i, k) ≡ Less) r.1 (lesser_second rows r.0 i),
+      )
+
+  had_or_lesser : (i j : Item) → All i j → Had i j ⊎ LesserHad i j
+  had_or_lesser i j all = ⊎_elim
+      (λ fi. ⊎_elim (λ gj. inl (fi, gj, all.2)) (λ lost. inr (second_lost i j all lost)) (hg.all j all.1))
+      (λ lost. inr (first_lost i j all lost))
+      (hf.all i all.0)
+
+  least_of_all : (pair : Option (Item × Item)) → IsLeast rows Had pair → IsLeast rows All pair
+  least_of_all None none = λ i j all. ⊎_elim (λ had. none i j had) (λ more. none more.0 more.1 more.2) (had_or_lesser i j all)
+  least_of_all (Some p) least = (
+    (hf.only p.0 least.0.0, hg.only p.1 least.0.1, least.0.2),
+    λ i j all lt. ⊎_elim
+        (λ had. least.1 i j had lt)
+        (λ more. least.1 more.0 more.1 more.2 ((pair_total rows).trans (more.0, more.1) (i, j) p more.3 lt))
+        (had_or_lesser i j all),
+  )
+
+pub least_besides : LeastBesides
+least_besides world trace rows is js f g pair ki kj hf hg af ag least =
+    only_one world trace rows (Among world trace rows (λ a b. ⊥) (all_by_bytes is) (all_by_bytes js)) pair (least_items world trace is js)
+    (λ a b one. ⊎_elim (λ none. absurd none)
+    (λ own. (are_bytes is a own.0, are_bytes js b own.1, ki a own.0, kj b own.1)) one)
+    (alike rows (All rows (stands_at world.rows) is js f g hf hg af ag) (Among world trace rows (λ a b. ⊥) (all_by_bytes is) (all_by_bytes js)) pair
+    (λ a b all. inr all) (λ a b one. ⊎_elim (λ none. absurd none) (λ own. own) one)
+    (least_of_all rows (stands_at world.rows) is js f g hf hg af ag pair least))
     (among world trace rows (all_by_bytes is) (all_by_bytes js) None (λ a b. ⊥) ki kj tt (λ a b none. none))
 
 pub least_is_told : LeastIsTold

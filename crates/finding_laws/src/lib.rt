@@ -1,11 +1,11 @@
 //! Footprints, and c_model's definitions of items, their order and the least conflicting pair: one and the same.
 #![tactic(auto)]
 
-ghost use Rattle.finding_laws.specs.AtEnd.{AnyIsHad, OnlyEndsMeet, RacesAsBefore};
+ghost use Rattle.finding_laws.specs.AtEnd.{AnyIsAsked, AnyIsHad, AnyIsHadBesides, OnlyEndsMeet, RacesAsBefore};
 ghost use Rattle.finding_laws.specs.ItemOrder.{ItemsByKeys, PairsByKeys};
 ghost use Rattle.finding_laws.specs.Footprints.{EmptyIsNone, AddIsMore, UnionIsBoth};
 ghost use Rattle.finding_laws.specs.Conflicts.{ConflictsAreTold, RacesAreTold};
-ghost use Rattle.finding_laws.specs.Forgotten.{ForgottenTellNothing};
+ghost use Rattle.finding_laws.specs.Forgotten.{ForgottenTellNothing, LeastBesides};
 ghost use Rattle.finding_laws.specs.LeastPairs.{LeastAccesses, LeastIsTold, LeastOfItems};
 ghost use Rattle.finding_laws.specs.FirstPairs.{EventsByPlaces, FirstIsFound, FirstPairIsTaken, NoPairIsTaken};
 
@@ -48,16 +48,20 @@ pub fn law_first_pair()
     ensures events { EventsByPlaces }
 {}
 
-/// The least pair of items that conflict, of two evaluations that have the items of two lists, is the definition's; so are the least accesses of a race.
+/// The least pair of items that conflict, of two evaluations that have the items of two lists, is the definition's; so are the least accesses of a race. It is
+/// so too where they have forgotten accesses of objects that the other doesn't access.
 pub fn law_least_of_items()
     ensures any { LeastOfItems }
     ensures races { LeastAccesses }
+    ensures besides { LeastBesides }
 {}
 
 /// Where the run ends each event that is due has `any` besides its items. Two events then conflict where their items do, or where one of them ends the run;
 /// and they race where their items do.
 pub fn law_items_at_end()
     ensures had { AnyIsHad }
+    ensures besides { AnyIsHadBesides }
+    ensures asked { AnyIsAsked }
     ensures meet { OnlyEndsMeet }
     ensures races { RacesAsBefore }
 {}

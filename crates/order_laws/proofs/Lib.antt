@@ -3,11 +3,11 @@ mod ProgramEnds
 mod ItemsTell
 mod Lives
 mod ProgramTold
-mod Asks
-mod ActsAsk
-mod ProgramAsks
+pub mod Asks
+pub mod ActsAsk
+pub mod ProgramAsks
 mod LibraryAsk
-mod PrintAsks
+pub mod PrintAsks
 mod StoreMeet
 mod StoreHolds
 mod StoreKeeps

@@ -90,7 +90,7 @@ module _ (stands : ObjName → ℕ → Bool) where
 
 -- ---- so it is of lists
 module _ (rows : List Row) where
-  abbrev Parts : List Item → List Item → Type 0
+  abbrev pub Parts : List Item → List Item → Type 0
   Parts is js = (p : Item) × (q : Item) × IsAmong (all_by_bytes is) p × IsAmong (all_by_bytes js) q × (items_conflict (stands_at rows) p q ≡ true)
 
   beside_parts : (i : Item) (js : List Item) → conflicts_with rows i js ≡ true →
@@ -101,7 +101,7 @@ module _ (rows : List Row) where
       (λ more. let r = beside_parts i js more in (r.0, r.1, r.2, right_of (by_bytes j) (all_by_bytes js) r.1 r.3, r.4))
       (or_cases (items_conflict (stands_at rows) i j) (conflicts_with rows i js) h)
 
-  some_parts : (is js : List Item) → some_conflict rows is js ≡ true → Parts is js
+  pub some_parts : (is js : List Item) → some_conflict rows is js ≡ true → Parts is js
   some_parts [] js h = absurd (cc)
   some_parts (i ∷ is) js h =
       ⊎_elim (λ one. let r = beside_parts i js one in (r.0, r.1, left_of (by_bytes i) (all_by_bytes is) r.0 r.2, r.3, r.4))
@@ -116,7 +116,7 @@ module _ (rows : List Row) where
       (λ more. or_b (items_conflict (stands_at rows) i j) _ (parts_beside i js p q hp more h))
       (one_of (by_bytes j) (all_by_bytes js) q hq)
 
-  parts_some : (is js : List Item) (p q : Item) → IsAmong (all_by_bytes is) p → IsAmong (all_by_bytes js) q →
+  pub parts_some : (is js : List Item) (p q : Item) → IsAmong (all_by_bytes is) p → IsAmong (all_by_bytes js) q →
       items_conflict (stands_at rows) p q ≡ true → some_conflict rows is js ≡ true
   parts_some [] js p q hp hq h = absurd hp
   parts_some (i ∷ is) js p q hp hq h =
@@ -143,7 +143,7 @@ kept_by true i is p e a h =
     ⊎_elim (λ one. left_of (by_bytes i) (all_by_bytes (accesses is)) p one) (λ more. right_of (by_bytes i) (all_by_bytes (accesses is)) p more) h
 kept_by false i is p e a h = ⊎_elim (λ one. absurd (let c = access_bytes i p one in cc)) (λ more. more) h
 
-accessed : (is : List Item) (p : Item) → is_access p ≡ true → IsAmong (all_by_bytes is) p → IsAmong (all_by_bytes (accesses is)) p
+pub accessed : (is : List Item) (p : Item) → is_access p ≡ true → IsAmong (all_by_bytes is) p → IsAmong (all_by_bytes (accesses is)) p
 accessed [] p a h = h
 accessed (i ∷ is) p a h =
     kept_by (is_access i) i is p refl a
@@ -162,7 +162,7 @@ from_accesses [] p h = absurd h
 from_accesses (i ∷ is) p h = from_by (is_access i) i is p refl (from_accesses is p) h
 
 -- where objects stand makes no difference to accesses
-anywhere : (s t : ObjName → ℕ → Bool) (i j : Item) → is_access i ≡ true → is_access j ≡ true → items_conflict s i j ≡ items_conflict t i j
+pub anywhere : (s t : ObjName → ℕ → Bool) (i j : Item) → is_access i ≡ true → is_access j ≡ true → items_conflict s i j ≡ items_conflict t i j
 anywhere s t (Read x a n) (Read y b m) h k = refl
 anywhere s t (Read x a n) (Write y b m) h k = refl
 anywhere s t (Write x a n) (Read y b m) h k = refl
@@ -189,7 +189,7 @@ module _ (frames : List FrameRow) (test : Item → Item → Bool) where
   abbrev Beside : Item → List Item → Item → Item → Type 0
   Beside i js a b = (i ≡ a) × IsAmong js b × (test a b ≡ true)
 
-  abbrev Among : List Item → List Item → Item → Item → Type 0
+  abbrev pub Among : List Item → List Item → Item → Item → Type 0
   Among is js a b = IsAmong is a × IsAmong js b × (test a b ≡ true)
 
   one_alone : (i j : Item) → test i j ≡ true → IsLeast frames (One i j) (Some (i, j))
@@ -231,10 +231,10 @@ module _ (frames : List FrameRow) (test : Item → Item → Bool) where
             (both frames (Beside i js) (Among is js) first.0 rest.0 first.1 rest.1),
       )
 
-abbrev access_test : Item → Item → Bool
+abbrev pub access_test : Item → Item → Bool
 access_test i j = is_access i && (is_access j && items_conflict (λ x n. true) i j)
 
-some_least : (frames : List FrameRow) (Q : Item → Item → Type 0) (o : Option (Item × Item)) → IsLeast frames Q o → (i j : Item) → Q i j →
+pub some_least : (frames : List FrameRow) (Q : Item → Item → Type 0) (o : Option (Item × Item)) → IsLeast frames Q o → (i j : Item) → Q i j →
     (p : Item × Item) × IsLeast frames Q (Some p)
 some_least frames Q None h i j q = absurd (h i j q)
 some_least frames Q (Some p) h i j q = (p, h)

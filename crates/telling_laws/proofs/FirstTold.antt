@@ -32,6 +32,7 @@ use Rattle.evaluation_log.specs.declared.sought.Sought.TheVariants.{Any, Races}
 use Rattle.evaluation_search.specs.First.{IsFirst, sought_of}
 use Rattle.finding_laws.specs.FirstPairs.{IsDue, precedes}
 use Rattle.finding_laws.proofs.FirstPairs.{events_by_places}
+use Rattle.finding_laws.specs.Forgotten.{HasItemsBut}
 use Rattle.footprint.specs.Least.{IsLeast}
 use Rattle.footprint.proofs.LeastLemmas.{event_total}
 use Rattle.run_evaluations.specs.First.{IsConflictIn, event_in}
@@ -40,7 +41,8 @@ use Rattle.run_evaluations.specs.Told.{Evaluation, Opened, has as has_item}
 use Rattle.telling_laws.specs.FirstFound.{IsLookedAt, ByPlaces, place_in}
 use Rattle.telling_laws.specs.OnlyNew.{IsFirstAmong, NoneAmong}
 use Rattle.telling_laws.specs.Standing.{places}
-use Rattle.telling_laws.proofs.ClashLemmas.{has_least, meets_by_items, races_by_items}
+use Rattle.telling_laws.proofs.Besides.{besides, has_least_besides, just, meets_besides, races_besides}
+use Rattle.telling_laws.proofs.ClashLemmas.{races_by_items}
 use Rattle.telling_laws.proofs.New.{pair_of, not_false, neither, not_any}
 use Rattle.telling_laws.proofs.Shown.{shown_are_done}
 use Rattle.telling_laws.proofs.Splits.{beginning}
@@ -85,17 +87,30 @@ module _ (rows : List Row) (frames : List FrameRow) (t : Opened) (o : Open) (Pai
   Conflict = IsConflictIn frames rows t (ByPlaces Pairs)
 
   -- ---- what was told of two of them clashes where their items do
+  had : (e : Evaluation) → IsAmong t e → HasItemsBut (has_item e) (o.items e.place)
+  had e a = besides (is_body e.place.kind) (has_item e) (o.items e.place) (look.items e a)
+
   meets : (d e : Evaluation) → IsAmong t d → IsAmong t e →
       SomeClash Any rows (has_item d) (has_item e) ↔ (some_conflict rows (o.items d.place) (o.items e.place) ≡ true)
-  meets d e a b = meets_by_items rows (has_item d) (has_item e) (o.items d.place) (o.items e.place) (look.items d a) (look.items e b)
+  meets d e a b =
+      meets_besides rows (has_item d) (has_item e) (o.items d.place) (o.items e.place) (had d a) (had e b) (look.asked d a) (look.asked e b)
 
-  meets_at : (d e : Evaluation) → IsAmong t d → IsAmong t e →
-      SomeClash Races rows (has_item d) (has_item e) ↔ (some_conflict rows (accesses (o.items d.place)) (accesses (o.items e.place)) ≡ true)
-  meets_at d e a b = races_by_items rows (has_item d) (has_item e) (o.items d.place) (o.items e.place) (look.items d a) (look.items e b)
+  raced : (d e : Evaluation) → IsAmong t d → IsAmong t e → SomeClash Races rows (has_item d) (has_item e) →
+      some_conflict rows (accesses (o.items d.place)) (accesses (o.items e.place)) ≡ true
+  raced d e a b = races_besides rows (has_item d) (has_item e) (o.items d.place) (o.items e.place) (had d a) (had e b)
+
+  -- of two that aren't bodies
+  races_at : (d e : Evaluation) → IsAmong t d → IsAmong t e → not (is_body d.place.kind || is_body e.place.kind) ≡ true →
+      some_conflict rows (accesses (o.items d.place)) (accesses (o.items e.place)) ≡ true → SomeClash Races rows (has_item d) (has_item e)
+  races_at d e a b bodies h =
+      let n = neither (is_body d.place.kind) (is_body e.place.kind) bodies in
+      (races_by_items rows (has_item d) (has_item e) (o.items d.place) (o.items e.place)
+      (just (is_body d.place.kind) (has_item d) (o.items d.place) n.0 (look.items d a))
+      (just (is_body e.place.kind) (has_item e) (o.items e.place) n.1 (look.items e b))).1 h
 
   least_of : (sought : Sought) (d e : Evaluation) → IsAmong t d → IsAmong t e → SomeClash sought rows (has_item d) (has_item e) →
       (p : Item × Item) × IsLeast frames (Clash sought rows (has_item d) (has_item e)) (Some p)
-  least_of sought d e a b = has_least rows frames sought (has_item d) (has_item e) (o.items d.place) (o.items e.place) (look.items d a) (look.items e b)
+  least_of sought d e a b = has_least_besides rows frames sought (has_item d) (has_item e) (o.items d.place) (o.items e.place) (had d a) (had e b)
 
   -- ---- of two events that stand so evaluations were told
   pub record Both (x y : Place) : Type 0 where
@@ -149,7 +164,7 @@ module _ (rows : List Row) (frames : List FrameRow) (t : Opened) (o : Open) (Pai
       let bodies = and_l (not (is_body b.one.place.kind || is_body b.other.place.kind)) _ g in
       let rest = and_r (not (is_body b.one.place.kind || is_body b.other.place.kind)) _ g in
       let meet = and_r (o.shows b.one.place b.other.place) _ (and_r (are_apart o b.one.place b.other.place) _ rest) in
-      let least = least_of Races b.one b.other b.one_done b.other_done ((meets_at b.one b.other b.one_done b.other_done).1 meet) in (
+      let least = least_of Races b.one b.other b.one_done b.other_done (races_at b.one b.other b.one_done b.other_done bodies meet) in (
         b,
         least.0,
         record {
@@ -262,7 +277,7 @@ module _ (rows : List Row) (frames : List FrameRow) (t : Opened) (o : Open) (Pai
     first_race : f.race ≡ true → IsFirstAmong o Pairs (races rows o) u v
     first_race r =
         let least = subst (λ b. IsLeast frames (Clash (sought_of b) rows (has_item c.one) (has_item c.other)) (Some f.items)) r c.of.least in
-        let meet = (meets_at c.one c.other c.one_done c.other_done).0 (f.items.0, f.items.1, least.0) in
+        let meet = raced c.one c.other c.one_done c.other_done (f.items.0, f.items.1, least.0) in
         record {
           first = du;
           second = dv;

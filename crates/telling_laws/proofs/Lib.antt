@@ -1,3 +1,4 @@
+pub mod Besides
 pub mod Blocks
 pub mod ClashLemmas
 pub mod FirstFound

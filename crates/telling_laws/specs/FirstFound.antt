@@ -4,7 +4,7 @@ use Rattle.ub_base.specs.Frames.{Row as FrameRow}
 use Rattle.ub_base.specs.declared.names.Event.{Event}
 use Rattle.addr_map.specs.declared.map.Row.{Row}
 use Rattle.c_typed.specs.declared.tree.Place.{Place}
-use Rattle.c_typed.specs.Order.{Taken, has, place}
+use Rattle.c_typed.specs.Order.{Taken, has, is_body, place}
 use Rattle.c_model.specs.Completions.{Completed, Incomplete, Own_node, Operands_of}
 use Rattle.c_model.specs.FirstFinding.{quarrels, races}
 use Rattle.c_model.specs.Moments.{Open, has_shown}
@@ -13,7 +13,7 @@ use Rattle.evaluation_log.specs.FoundItems.{first_found}
 use Rattle.evaluation_log.specs.declared.found.Found.{Found}
 use Rattle.evaluation_search.specs.First.{IsFirstOf}
 use Rattle.finding_laws.specs.FirstPairs.{IsDue, IsFirstPair, NoPair, precedes}
-use Rattle.finding_laws.specs.LeastPairs.{HasItems}
+use Rattle.finding_laws.specs.Forgotten.{AreAsked, HasItemsOf}
 use Rattle.run_evaluations.specs.First.{AreOfNode, AreOfOperands, IsConflictIn}
 use Rattle.run_evaluations.specs.Listing.{IsBeginning}
 use Rattle.run_evaluations.specs.Scopes.{Scope}
@@ -23,14 +23,16 @@ use Rattle.telling_laws.specs.Newly.{IsTaken, completed_with}
 use Rattle.telling_laws.specs.OnlyNew.{AreAround}
 use Rattle.telling_laws.specs.Standing.{places}
 
--- c_model looks for findings in the full expression of which was told, and each evaluation has the items that its event has there
+-- c_model looks for findings in the full expression of which was told, and each evaluation has the items that its event has there, a body but for forgotten
+-- accesses of objects of which it has the birth and the death; each access stands with the question whether its object lives
 pub record IsLookedAt (t : Opened) (o : Open) : Type 0 where
   pub formed : is_formed t.scope.tree ≡ true
   pub begins : IsBeginning t
   pub tree : o.tree ≡ t.scope.tree
   pub taken : o.taken ≡ t.scope.taken
   pub shows : o.shows ≡ has_shown t.scope.tree t.scope.taken (has (places t.done))
-  pub items : (e : Evaluation) → IsAmong t e → HasItems (has_item e) (o.items e.place)
+  pub items : (e : Evaluation) → IsAmong t e → HasItemsOf (is_body e.place.kind) (has_item e) (o.items e.place)
+  pub asked : (e : Evaluation) → IsAmong t e → AreAsked (o.items e.place)
 
 abbrev pub place_in : Event → Place
 place_in e = place e.node e.kind

@@ -2,7 +2,7 @@
 #![tactic(auto)]
 
 ghost use Rattle.telling_laws.specs.FirstFound.{BothLots, FirstIsFound};
-ghost use Rattle.telling_laws.specs.Met.{HasLeast, MeetsByItems, RacesByItems};
+ghost use Rattle.telling_laws.specs.Met.{HasLeast, HasLeastBesides, MeetsBesides, MeetsByItems, RacesBesides, RacesByItems};
 ghost use Rattle.telling_laws.specs.Newly.{ShownAreDone, ShowsNewly};
 ghost use Rattle.telling_laws.specs.OnlyNew.{NothingAtFirst, OnlyNewQuarrel, OnlyNewRace};
 ghost use Rattle.telling_laws.specs.OwnEvents.{OnlyStoresConflict};
@@ -52,11 +52,15 @@ pub fn law_first_found()
     ensures own { OnlyStoresConflict }
 {}
 
-/// What was told of two evaluations that have the items of two lists clashes, or races, exactly where these do, and there is a least pair of items then.
+/// What was told of two evaluations that have the items of two lists clashes, or races, exactly where these do, and there is a least pair of items then. It
+/// clashes so too where they have forgotten accesses of objects of which they have the birth and the death.
 pub fn law_items_met()
     ensures meets { MeetsByItems }
     ensures races { RacesByItems }
     ensures least { HasLeast }
+    ensures meets_besides { MeetsBesides }
+    ensures races_besides { RacesBesides }
+    ensures least_besides { HasLeastBesides }
 {}
 
 /// The sum of two values, and `&&` of two, along their listings: what their events complete, which pairs show, and what stands together.

@@ -1,0 +1,13 @@
+pub mod Pairs
+pub mod Above
+pub mod Answers
+pub mod Asked
+pub mod Audit
+pub mod Ended
+pub mod Ends
+pub mod Events
+pub mod Held
+pub mod Passed
+pub mod Picks
+pub mod Reached
+pub mod Steps
