@@ -99,15 +99,19 @@ joined_bytes [] = refl
 joined_bytes (i ∷ is) = joins_bytes i (joined is) ∙ ap (λ js. by_bytes i ++ js) (joined_bytes is)
 
 -- .. and end where the second ends
-read_within : (x : ObjName) (a n : ℕ) (y : ObjName) (b m : ℕ) (is : List Item) (t : Bool) → (same_object x y && b == a + n) ≡ t
-    → AllWithin (Read x a n ∷ Read y b m ∷ is) → AllWithin (if t then Read x a (n + m) ∷ is else Read x a n ∷ Read y b m ∷ is)
-read_within x a n y b m is false h within = within
-read_within x a n y b m is true h within i (inl own) =
+read_whole : (x : ObjName) (a n : ℕ) (y : ObjName) (b m : ℕ) (is : List Item) → (same_object x y && b == a + n) ≡ true
+    → AllWithin (Read x a n ∷ Read y b m ∷ is) → AllWithin (Read x a (n + m) ∷ is)
+read_whole x a n y b m is h within i (inl own) =
     let at : b ≡ a + n = eq_of b (a + n) (and_right (same_object x y) _ h) in
     let second : b + m < 2 ^ 64 = within (Read y b m) (inr (inl refl)) in
     let whole : a + (n + m) < 2 ^ 64 = omega (arith, at, second) in
     subst IsWithin own whole
-read_within x a n y b m is true h within i (inr later) = within i (inr (inr later))
+read_whole x a n y b m is h within i (inr later) = within i (inr (inr later))
+
+read_within : (x : ObjName) (a n : ℕ) (y : ObjName) (b m : ℕ) (is : List Item) (t : Bool) → (same_object x y && b == a + n) ≡ t
+    → AllWithin (Read x a n ∷ Read y b m ∷ is) → AllWithin (if t then Read x a (n + m) ∷ is else Read x a n ∷ Read y b m ∷ is)
+read_within x a n y b m is false h within = within
+read_within x a n y b m is true h within = read_whole x a n y b m is h within
 
 joins_within : (i : Item) (is : List Item) → AllWithin (i ∷ is) → AllWithin (joins i is)
 joins_within (Read x a n) (Read y b m ∷ is) within = read_within x a n y b m is (same_object x y && b == a + n) refl within

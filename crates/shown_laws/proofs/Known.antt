@@ -54,6 +54,52 @@ module _ (world : World) (frames : List Started) (gives : (f : Path) → is_some
 
   found : (trace es : List Entry) (n : ℕ) → AreListed frames es → IsNumberOf world es n → Found trace es n
   found trace [] n are of = absurd of.1
+  found trace (e ∷ es) n are of = go (world.number e.path == n) refl (λ other. found trace es n are.1 (rest other of.1))
+    where
+      first : world.number e.path ≡ n → (e.path ≡ path_of frames n) × (world.number e.path ≡ n)
+      first is = (gives e.path are.0 ∙ ap (path_of frames) is, is)
+
+      rest : (world.number e.path ≡ n → ⊥) → IsPathOf (e ∷ es) of.0 → IsNumberOf world es n
+      rest other (inl is) = absurd (other (ap world.number is ∙ of.2))
+      rest other (inr later) = (of.0, later, of.2)
+
+      true_of : (b : Bool) → b ≡ false → b ≡ true → ⊥
+      true_of true h k = cc (h)
+      true_of false h k = cc (k)
+
+      go : (b : Bool) → (world.number e.path == n) ≡ b → ((world.number e.path ≡ n → ⊥) → Found trace es n)
+          → ((if b then e.path else path_in world trace es n) ≡ path_of frames n) × (world.number (if b then e.path else path_in world trace es n) ≡ n)
+      go true h later = first (eq_of (world.number e.path) n h)
+      go false h later = later (λ is. true_of (world.number e.path == n) h (of_eq (world.number e.path) n is))
+
+module _ (within : NumbersAreWithin) (names : ListNumbersFrames) (paths : PathIsNumbered) (frames : List Started) (list : IsFrameList frames) where
+  path_is : (f : Path) (n : ℕ) → number_in frames f ≡ Some n → f ≡ path_of frames n
+  path_is f n is =
+      let few = within frames f n is in
+      (names frames).distinct f (path_of frames n)
+      (ap (number_else frames f) is ∙ sym (ap (number_else frames (path_of frames n)) (paths frames n list few)))
+
+  module _ (number : Path → ℕ) (named : NumbersAre number frames) where
+    by_number : (f : Path) (o : Option ℕ) → number_in frames f ≡ o → is_some o ≡ true → f ≡ path_of frames (number f)
+    by_number f None is some = absurd (cc (some))
+    by_number f (Some n) is some = path_is f n is ∙ ap (path_of frames) (sym (named f n is))
+
+    pub listed_path : (f : Path) → is_some (number_in frames f) ≡ true → f ≡ path_of frames (number f)
+    listed_path f some = by_number f (number_in frames f) refl some
+
+-- ---- the frame of the trace that has a number
+module _ (world : World) (frames : List Started) (gives : (f : Path) → is_some (number_in frames f) ≡ true → f ≡ path_of frames (world.number f)) where
+  pub listed_in : (trace : List Entry) (f : Path) → AreListed frames trace → IsPathOf trace f → is_some (number_in frames f) ≡ true
+  listed_in [] f are of = absurd of
+  listed_in (e ∷ es) f are (inl is) = subst (λ (z : Path). is_some (number_in frames z) ≡ true) is are.0
+  listed_in (e ∷ es) f are (inr of) = listed_in es f are.1 of
+
+  -- the first one in the trace that has it
+  abbrev Found : List Entry → List Entry → ℕ → Type 0
+  Found trace es n = (path_in world trace es n ≡ path_of frames n) × (world.number (path_in world trace es n) ≡ n)
+
+  found : (trace es : List Entry) (n : ℕ) → AreListed frames es → IsNumberOf world es n → Found trace es n
+  found trace [] n are of = absurd of.1
   found trace (e ∷ es) n are of = go (world.number e.path == n) refl
     where
       first : world.number e.path ≡ n → (e.path ≡ path_of frames n) × (world.number e.path ≡ n)
